@@ -1,0 +1,106 @@
+// One frame: the check byte, taking a frame apart, and putting the reply into the lent buffer (01, Frames and registers).
+ghost use mathlib.Core.Path.{_≡_};
+ghost use mathlib.Core.List.{[], _∷_};
+ghost use Rattle.frame.specs.Check.{shifted, checked, checkOf};
+ghost use Rattle.frame.specs.Frame.{takenApart};
+ghost use Rattle.frame.specs.Reply.{putOf};
+use refusal::Refusal;
+
+// One bit of the check: the register is doubled, and what falls out at the top takes the polynomial off.
+fn shift(r: u8) -> u8
+    ensures { λ o. ⌜ o ≡ shifted r ⌝ }
+{
+    if r < 128 { 2 * r } else { (2 * (r - 128)) ^ 7 }
+}
+
+// The check over one byte more.
+fn check_next(r: u8, byte: u8) -> u8
+    ensures { λ o. ⌜ o ≡ checked r byte ⌝ }
+{
+    let high = shift(shift(shift(shift(r ^ byte))));
+    shift(shift(shift(shift(high))))
+}
+
+// The check byte over the bytes of a list, first to last.
+pub fn check_all(bytes: &[u8]) -> u8
+    ensures { λ o. ⌜ o ≡ checkOf (now (bytes .entry)) ⌝ }
+{
+    let mut r = 0;
+    let mut i = 0;
+    while i < bytes.len() {
+        r = check_next(r, bytes[i]);
+        i += 1;
+    }
+    r
+}
+
+// The check byte over the first three bytes of a frame or a reply.
+pub fn check_byte(address: u8, register: u8, value: u8) -> u8
+    ensures { λ o. ⌜ o ≡ checkOf (address ∷ register ∷ value ∷ []) ⌝ }
+{
+    check_next(check_next(check_next(0, address), register), value)
+}
+
+pub enum Taken {
+    Parts {
+        address: u8,
+        register: u8,
+        value: u8,
+    },
+    Refused(Refusal),
+}
+
+// A frame taken apart, where the lent buffer has room for so many bytes.
+pub fn take_apart(frame: &[u8], room: usize) -> Taken
+    ensures { λ o. ⌜ o ≡ takenApart (now (frame .entry)) room ⌝ }
+{
+    if frame.len() != 4 {
+        return Taken::Refused(Refusal::FrameLength);
+    }
+    if room < 4 {
+        return Taken::Refused(Refusal::ReplyRoom);
+    }
+    let address = frame[0];
+    let register = frame[1];
+    let value = frame[2];
+    if frame[3] != check_byte(address, register, value) {
+        return Taken::Refused(Refusal::CheckByte);
+    }
+    Taken::Parts {
+        address: address,
+        register: register,
+        value: value,
+    }
+}
+
+pub enum Reply {
+    Replied {
+        address: u8,
+        register: u8,
+        value: u8,
+    },
+    Refused(Refusal),
+}
+
+// The reply in the first four bytes of the buffer; a refusal, or a buffer without room, leaves all of it.
+pub fn put(buffer: &mut [u8], reply: Reply) -> Reply
+    ensures { λ o. ⌜ (o ≡ reply) × (now (buffer .exit) ≡ putOf (now (buffer .entry)) reply) ⌝ }
+{
+    if buffer.len() < 4 {
+        return reply;
+    }
+    match reply {
+        Reply::Replied {
+            address,
+            register,
+            value,
+        } => {
+            buffer[0] = address;
+            buffer[1] = register;
+            buffer[2] = value;
+            buffer[3] = check_byte(address, register, value);
+            reply
+        }
+        Reply::Refused(_) => reply,
+    }
+}

@@ -1,0 +1,43 @@
+-- The whole-stack reading of a row of boards, southernmost first (01, Whole-stack reading).
+-- Assumes nothing.
+use Prim.Native.Nat.{ℕ, _+_}
+use mathlib.Core.Bool.{Bool, true, false, cond, _&&_, _||_}
+use mathlib.Core.List.{List, [], _∷_}
+use lib.Dec.{eqb}
+use Rattle.marks.specs.Marks.{marks, lowest}
+use Rattle.reading.specs.declared.Summary.{Summary}
+use Rattle.reading.specs.declared.Place.{Place}
+use Rattle.reading.specs.declared.Whole.{Whole}
+
+-- a board's fault line is up if it has a latch or the line from the next board north is up
+unfoldable pub lineUp : List Summary → Bool
+lineUp [] = false
+lineUp (board ∷ north) = board .latched || lineUp north
+
+-- on exactly if on at every board
+unfoldable pub every : (Summary → Bool) → List Summary → Bool
+every on [] = true
+every on (board ∷ north) = on board && every on north
+
+abbrev pub chgOn : Summary → Bool
+chgOn board = board .chg
+
+abbrev pub dsgOn : Summary → Bool
+dsgOn board = board .dsg
+
+-- the lowest flagged cell of a board, or 0
+abbrev pub lowestFlagged : Summary → ℕ
+lowestFlagged board = lowest 1 (marks (board .count) (board .flags))
+
+abbrev pub place : ℕ → ℕ → Place
+place board cell = record { board = board; cell = cell }
+
+-- the southernmost board with a flagged cell and the lowest such cell on it, or 0 and 0; the row's first board is board k
+unfoldable pub firstFlagged : ℕ → List Summary → Place
+firstFlagged k [] = place 0 0
+firstFlagged k (board ∷ north) = cond (eqb (lowestFlagged board) 0) (firstFlagged (k + 1) north) (place k (lowestFlagged board))
+
+-- board 1's line, pack CHG, pack DSG, and the flagged cell
+unfoldable pub readOf : List Summary → Whole
+readOf boards =
+    record { line = lineUp boards; chg = every chgOn boards; dsg = every dsgOn boards; flagged = firstFlagged 1 boards }
