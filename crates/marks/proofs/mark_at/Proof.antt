@@ -1,22 +1,18 @@
+use mathlib.Core.Path.{sym}
 use borrow.Author.Needs.{needs}
+use Rattle.marks.proofs.Laws.{marked-above}
 use Rattle.marks.proofs.mark_at.Statement.{statement}
 use Rattle.marks.proofs.mark_at.Tie as tie
-use Rattle.marks.proofs.mark_at.Reads as reads
-use Rattle.marks.proofs.mark_at.Lts as lts
 
--- src/lib.rt:10:9
 returns : tie.Need-returns
-returns c = ?
+returns c = sym (marked-above 16 (c .before .args .set) (c .before .args .at) (search needs) (search needs))
 
--- src/lib.rt:12:13
 cast-result : tie.Need-cast-result
 cast-result c = search needs
 
--- src/lib.rt:12:6
 shr-result : tie.Need-shr-result
 shr-result c = search needs
 
--- src/lib.rt:6:1
 returns-2 : tie.Need-returns-2
 returns-2 c = search needs
 

@@ -1,0 +1,40 @@
+-- The laws of lists by places: one place more at the front, none, how long they are, and the entry at a place.
+-- Assumes nothing.
+use Prim.Native.Nat.{ℕ, zero, suc, _+_, _-_, _<_, _≤_}
+use native.Mathlib.Nat.{not-suc-le-zero, le-of-suc-le-suc}
+use native.Mathlib.Omega.{arith}
+use mathlib.Core.Path.{_≡_, refl, ap, sym, _∙_}
+use mathlib.Core.List.{List, [], _∷_, _++_}
+use lib.ListN.{length, getD, take, set}
+use Rattle.cells.specs.Each.{each}
+
+module _ {A : Type 0} (f : ℕ → A) where
+  pub each-length : (i n : ℕ) → length (each i n f) ≡ n
+  unfolding each
+  each-length i zero = refl
+  each-length i (suc n) = ap suc (each-length (suc i) n)
+
+  pub each-at : (i n k : ℕ) (d : A) → k < n → getD (each i n f) k d ≡ f (i + k)
+  unfolding each
+  each-at i zero k d p = absurd (not-suc-le-zero p)
+  each-at i (suc n) zero d p = ap f (omega arith)
+  each-at i (suc n) (suc k) d p = each-at (suc i) n k d (le-of-suc-le-suc p) ∙ ap f (omega arith)
+
+  -- the places from i up to n, and none
+  pub each-down : (i n : ℕ) → 0 < i → i ≤ n → each (i - 1) (n - (i - 1)) f ≡ f (i - 1) ∷ each i (n - i) f
+  unfolding each
+  each-down zero n p q = absurd (not-suc-le-zero p)
+  each-down (suc j) n p q =
+      let back : suc j - 1 ≡ j = omega arith in
+      let more : n - j ≡ suc (n - suc j) = omega arith in
+      rw (back, more)
+
+  pub each-none : (n : ℕ) → each n (n - n) f ≡ []
+  unfolding each
+  each-none n = let none : n - n ≡ 0 = omega arith in rw none
+
+-- a store at the last place of a front part
+pub set-front : {A : Type 0} (xs ys : List A) (i : ℕ) (v : A) → i < length xs → set (take (suc i) xs ++ ys) i v ≡ take i xs ++ (v ∷ ys)
+set-front [] ys i v p = absurd (not-suc-le-zero p)
+set-front (x ∷ xs) ys zero v p = refl
+set-front {A} (x ∷ xs) ys (suc i) v p = ap (λ (l : List A). x ∷ l) (set-front xs ys i v (le-of-suc-le-suc p))

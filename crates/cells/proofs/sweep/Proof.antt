@@ -1,0 +1,143 @@
+use Rattle.cells.proofs.Gather.{done}
+use Prim.Native.Nat.{_≤_}
+use native.Mathlib.Omega.{arith}
+use mathlib.Core.Path.{_≡_, refl, sym, ap, _∙_}
+use borrow.Author.Needs.{needs}
+use lib.ListN.{length}
+use Rattle.cells.specs.Cells.{sweepOf, cellCount}
+use Rattle.cells.proofs.Gather.{Gathered, nothing, turn, few-flags, few-bled}
+use Rattle.cells.proofs.sweep.Statement.{statement}
+use Rattle.cells.proofs.sweep.Tie as tie
+
+abbrev Inv-loop : tie.InvT-loop
+Inv-loop s elapsed flags mv cells next₀ flagged₀ bled₀ ov-stood₀ ov-lets-go₀ uv-stood₀ uv-lets-go₀ i₀ next flagged bled ov-stood ov-lets-go uv-stood uv-lets-go i = (i ≤ cellCount mv) × (length cells ≡ 10) × Gathered s elapsed cells flags mv (cellCount mv) i next flagged bled ov-stood ov-lets-go uv-stood uv-lets-go
+
+abbrev μ-loop : tie.MeasureT-loop
+μ-loop s elapsed flags mv cells next₀ flagged₀ bled₀ ov-stood₀ ov-lets-go₀ uv-stood₀ uv-lets-go₀ i₀ next flagged bled ov-stood ov-lets-go uv-stood uv-lets-go i = i
+
+cell-count-requires : tie.Need-cell-count-requires Inv-loop μ-loop
+cell-count-requires c κs = search needs
+
+loop-holds : tie.Need-loop-holds Inv-loop μ-loop
+loop-holds c =
+    let a = c .before .before .args in
+    let long : length (a .t3) ≡ 10 = search needs in
+    (search needs, long, rw (c .cell-count .ensures) (nothing (a .s) (a .elapsed) (a .t3) (a .flags) (a .mv .now) (cellCount (a .mv .now)) (omega arith)))
+
+sub-i : tie.Need-sub-i Inv-loop μ-loop
+sub-i c = search needs
+
+mul-v : tie.Need-mul-v Inv-loop μ-loop
+mul-v c = search needs
+
+shared-slice-read-v : tie.Need-shared-slice-read-v Inv-loop μ-loop
+shared-slice-read-v c = search needs
+
+mul-cell-next : tie.Need-mul-cell-next Inv-loop μ-loop
+mul-cell-next c = search needs
+
+array-copy-out-cell-next : tie.Need-array-copy-out-cell-next Inv-loop μ-loop
+array-copy-out-cell-next c = search needs
+
+cell-next-requires : tie.Need-cell-next-requires Inv-loop μ-loop
+cell-next-requires c κs = search needs
+
+mul-next : tie.Need-mul-next Inv-loop μ-loop
+mul-next c = search needs
+
+array-set-from-next : tie.Need-array-set-from-next Inv-loop μ-loop
+array-set-from-next c = search needs
+
+ov-delay-requires : tie.Need-ov-delay-requires Inv-loop μ-loop
+ov-delay-requires c κs = search needs
+
+has-stood-requires : tie.Need-has-stood-requires Inv-loop μ-loop
+has-stood-requires c κs = search needs
+
+uv-delay-requires : tie.Need-uv-delay-requires Inv-loop μ-loop
+uv-delay-requires c κs = search needs
+
+has-stood-requires-2 : tie.Need-has-stood-requires-2 Inv-loop μ-loop
+has-stood-requires-2 c κs = search needs
+
+mark-at-requires : tie.Need-mark-at-requires Inv-loop μ-loop
+mark-at-requires c κs = search needs
+
+flag-next-requires : tie.Need-flag-next-requires Inv-loop μ-loop
+flag-next-requires c κs = search needs
+
+mark-next-requires : tie.Need-mark-next-requires Inv-loop μ-loop
+mark-next-requires c κs =
+    let h = c .before .before .before .before .before .before .before .before .before .before in
+    few-flags _ _ _ _ _ _ (h .loop .inv .2) (omega arith)
+
+bleed-next-requires : tie.Need-bleed-next-requires Inv-loop μ-loop
+bleed-next-requires c κs =
+    let h = c .before .before .before .before .before .before .before .before .before .before .before in
+    few-bled _ _ _ _ _ _ (h .loop .inv .2) (omega arith)
+
+ov-release-requires : tie.Need-ov-release-requires Inv-loop μ-loop
+ov-release-requires c κs = search needs
+
+uv-release-requires : tie.Need-uv-release-requires Inv-loop μ-loop
+uv-release-requires c κs = search needs
+
+loop-less : tie.Need-loop-less Inv-loop μ-loop
+loop-less c = search needs
+
+loop-again : tie.Need-loop-again Inv-loop μ-loop
+loop-again c =
+    let c1 = c .before in
+    let c2 = c1 .before in
+    let c3 = c2 .before in
+    let c4 = c3 .before in
+    let c5 = c4 .before in
+    let c6 = c5 .before in
+    let c7 = c6 .before in
+    let c8 = c7 .before in
+    let c9 = c8 .before in
+    let c10 = c9 .before in
+    let h = c10 .before .before .before .before in
+    let a = h .before .before .before .args in
+    let within = h .loop .inv .0 in
+    let long = h .loop .inv .1 in
+    let going = c10 .before .before .before .loop-test .taken in
+    let high = rw (c9 .ov-delay .ensures) at (c8 .has-stood .ensures) in
+    let low = rw (c7 .uv-delay .ensures) at (c6 .has-stood2 .ensures) in
+    let flag = rw (c5 .mark-at .ensures) at (c4 .flag-next .ensures) in
+    (search needs, long, rw (c .uv-release .ensures, c1 .ov-release .ensures, c2 .bleed-next .ensures, c3 .mark-next .ensures) (turn (a .s) (a .elapsed) (a .t3) (a .flags) (a .mv .now) (cellCount (a .mv .now)) _ _ _ _ (h .loop .inv .2) (c10 .cell-next .ensures) high low flag (omega arith) (omega arith) (omega arith)))
+
+returns : tie.Need-returns Inv-loop μ-loop
+returns c =
+    let a = c .before .before .before .before .args in
+    done (a .s) (a .elapsed) (a .t3) (a .flags) (a .mv .now) (c .before .loop .inv .2) (omega arith)
+
+pub sweep-spec : {M : Type 1} → statement M
+sweep-spec =
+    tie.close
+    (tie.spec
+    Inv-loop
+    μ-loop
+    cell-count-requires
+    loop-holds
+    sub-i
+    mul-v
+    shared-slice-read-v
+    mul-cell-next
+    array-copy-out-cell-next
+    cell-next-requires
+    mul-next
+    array-set-from-next
+    ov-delay-requires
+    has-stood-requires
+    uv-delay-requires
+    has-stood-requires-2
+    mark-at-requires
+    flag-next-requires
+    mark-next-requires
+    bleed-next-requires
+    ov-release-requires
+    uv-release-requires
+    loop-less
+    loop-again
+    returns)

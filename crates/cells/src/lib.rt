@@ -1,0 +1,121 @@
+// The cells of one board: their runs and flags, what they say of OV and UV, and bleeding
+// (01, When a fault latches and lets go; Bleeding).
+ghost use mathlib.Core.Path.{_≡_};
+ghost use Prim.Native.Nat.{min, _<_};
+ghost use Rattle.cells.specs.Cells.{cellNext, flagNext, sweepOf, noCells, readable};
+ghost use Rattle.cells.specs.Bleed.{bleedNext, markNext};
+use settings::Settings;
+
+// What a board keeps of one cell: the runs of its OV and UV conditions.
+pub struct Cell {
+    pub ov: u32,
+    pub uv: u32,
+}
+
+// What one pass over the cells gives. The flagged and the bled cells are numbers.
+pub struct Swept {
+    pub cells: [Cell; 10],
+    pub flags: u16,
+    pub bled: u16,
+    pub ov_stood: bool,
+    pub ov_lets_go: bool,
+    pub uv_stood: bool,
+    pub uv_lets_go: bool,
+}
+
+fn cell_next(s: Settings, elapsed: u32, c: Cell, mv: u32) -> Cell
+    ensures { λ r. ⌜ r ≡ cellNext s elapsed c mv ⌝ }
+{
+    Cell {
+        ov: runs::advance(c.ov, s.ov_level() < mv, elapsed),
+        uv: runs::advance(c.uv, mv < s.uv_level(), elapsed),
+    }
+}
+
+fn flag_next(s: Settings, stood: bool, flagged: bool, mv: u32) -> bool
+    ensures { λ r. ⌜ r ≡ flagNext s stood flagged mv ⌝ }
+{
+    stood | (flagged & !(mv < s.ov_release()))
+}
+
+// A number of cells with one more cell below them.
+fn mark_next(marked: bool, above: u16) -> u16
+    requires { ⌜ above < 1024 ⌝ }
+    ensures { λ r. ⌜ r ≡ markNext marked above ⌝ }
+{
+    if marked { 2 * above + 1 } else { 2 * above }
+}
+
+// The bled cells with one more cell below them: the next higher cell is the lowest of those above.
+fn bleed_next(flagged: bool, above: u16) -> u16
+    requires { ⌜ above < 1024 ⌝ }
+    ensures { λ r. ⌜ r ≡ bleedNext flagged above ⌝ }
+{
+    mark_next(flagged & (above % 2 == 0), above)
+}
+
+// A board has ten cells at most.
+fn cell_count(readings: usize) -> usize
+    ensures { λ r. ⌜ r ≡ min readings 10 ⌝ }
+{
+    if readings < 10 { readings } else { 10 }
+}
+
+// One pass over the cells, from the highest down.
+pub fn sweep(s: Settings, elapsed: u32, cells: [Cell; 10], flags: u16, mv: &[u32]) -> Swept
+    ensures { λ r. ⌜ r ≡ sweepOf s elapsed cells flags (now (mv .entry)) ⌝ }
+{
+    let mut next = cells;
+    let mut flagged = 0;
+    let mut bled = 0;
+    let mut ov_stood = false;
+    let mut ov_lets_go = true;
+    let mut uv_stood = false;
+    let mut uv_lets_go = true;
+    let mut i = cell_count(mv.len());
+    while 0 < i {
+        i -= 1;
+        let v = mv[i];
+        let cell = cell_next(s, elapsed, cells[i], v);
+        next[i] = cell;
+        let high = runs::has_stood(s.ov_delay(), cell.ov);
+        let low = runs::has_stood(s.uv_delay(), cell.uv);
+        let flag = flag_next(s, high, marks::mark_at(flags, i), v);
+        flagged = mark_next(flag, flagged);
+        bled = bleed_next(flag, bled);
+        ov_stood = high | ov_stood;
+        ov_lets_go = (v < s.ov_release()) & ov_lets_go;
+        uv_stood = low | uv_stood;
+        uv_lets_go = (s.uv_release() < v) & uv_lets_go;
+    }
+    Swept {
+        cells: next,
+        flags: flagged,
+        bled: bled,
+        ov_stood: ov_stood,
+        ov_lets_go: ov_lets_go,
+        uv_stood: uv_stood,
+        uv_lets_go: uv_lets_go,
+    }
+}
+
+// No cell reads above the most that a sample may hold.
+pub fn all_readable(mv: &[u32]) -> bool
+    ensures { λ r. ⌜ r ≡ readable (now (mv .entry)) ⌝ }
+{
+    let mut good = true;
+    let mut i = 0;
+    while i < mv.len() {
+        good = good & (mv[i] <= 5000);
+        i += 1;
+    }
+    good
+}
+
+// Every run at its start.
+pub fn fresh_cells() -> [Cell; 10]
+    ensures { λ r. ⌜ r ≡ noCells ⌝ }
+{
+    let cell = Cell { ov: 0, uv: 0 };
+    [cell; 10]
+}

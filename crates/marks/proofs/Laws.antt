@@ -1,0 +1,80 @@
+-- The laws of a set of cells: its list and its number say the same, cell by cell, and a turn of a loop over either.
+-- Assumes nothing.
+use Prim.Native.Nat.{ℕ, zero, suc, _+_, _-_, _*_, _/_, _%_, _^_, _<_, _≤_}
+use native.Mathlib.Nat.{two-pow-succ, two-mul, div-one, div-eq-of-lt, div-div-eq-div-mul, lt-of-lt-of-le, not-suc-le-zero, le-of-suc-le-suc}
+use native.Mathlib.Numerals.{add-one}
+use native.Mathlib.Omega.{arith}
+use mathlib.Core.Path.{_≡_, refl, ap, sym, _∙_}
+use mathlib.Core.Bool.{Bool, true, false, cond}
+use mathlib.Core.List.{List, [], _∷_}
+use borrow.Author.Tests.{eq-eqb, ne-eqb}
+use lib.Dec.{eqb, lit<}
+use lib.ListN.{length, getD, drop}
+use lib.Seq.{drop-cons, drop-length}
+use lib.Pow.{pow-mono}
+use Rattle.marks.specs.Marks.{bit, number, marked, marks, lowest}
+
+-- a number of w places has no cell from place w up
+pub marked-above : (w set at : ℕ) → set < 2 ^ w → w ≤ at → marked set at ≡ false
+marked-above w set at h p = rw (div-eq-of-lt (lt-of-lt-of-le h (pow-mono p)))
+
+pub marks-length : (n set : ℕ) → length (marks n set) ≡ n
+unfolding marks
+marks-length zero set = refl
+marks-length (suc n) set = ap suc (marks-length n (set / 2))
+
+-- the cell at a place of the list is the cell at that place of the number
+pub marks-at : (n set i : ℕ) → i < n → getD (marks n set) i false ≡ marked set i
+unfolding marks
+marks-at zero set i p = absurd (not-suc-le-zero p)
+marks-at (suc n) set zero p = rw (div-one set)
+marks-at (suc n) set (suc i) p =
+    rw (marks-at n (set / 2) i (le-of-suc-le-suc p), div-div-eq-div-mul set 2 (2 ^ i), two-pow-succ i, two-mul)
+
+-- the first cell of a number, and the others
+low-bit : (b : Bool) (k : ℕ) → eqb ((bit b + 2 * k) % 2) 1 ≡ b
+low-bit true k = eq-eqb ((1 + 2 * k) % 2) 1 (omega arith)
+low-bit false k = ne-eqb ((0 + 2 * k) % 2) 1 (λ e. omega arith)
+
+high-bits : (b : Bool) (k : ℕ) → (bit b + 2 * k) / 2 ≡ k
+high-bits true k = omega arith
+high-bits false k = omega arith
+
+-- a list is the list of its number
+pub marks-number : (bs : List Bool) → marks (length bs) (number bs) ≡ bs
+unfolding marks number
+marks-number [] = refl
+marks-number (b ∷ bs) = rw (low-bit b (number bs), high-bits b (number bs), marks-number bs)
+
+bit-le : (b : Bool) → bit b ≤ 1
+bit-le true = omega arith
+bit-le false = omega arith
+
+pub number-below : (bs : List Bool) → number bs < 2 ^ length bs
+unfolding number
+number-below [] = lit< tt
+number-below (b ∷ bs) =
+    let below : number bs < 2 ^ length bs = number-below bs in
+    rw (two-pow-succ (length bs)) (omega (arith, bit-le b))
+
+-- a cell of the number is the cell of the list
+pub number-at : (bs : List Bool) (i : ℕ) → i < length bs → marked (number bs) i ≡ getD bs i false
+number-at bs i p = sym (marks-at (length bs) (number bs) i p) ∙ ap (λ (l : List Bool). getD l i false) (marks-number bs)
+
+-- the number from the highest cell down: one cell more, and none
+pub number-turn : (bs : List Bool) (i : ℕ) → i < length bs → number (drop i bs) ≡ bit (getD bs i false) + 2 * number (drop (suc i) bs)
+unfolding number
+number-turn bs i p = rw (drop-cons bs i false p)
+
+pub number-none : (bs : List Bool) → number (drop (length bs) bs) ≡ 0
+unfolding number
+number-none bs = rw (drop-length bs)
+
+-- the search from the lowest cell up: one cell on, and past the last
+pub lowest-turn : (k : ℕ) (bs : List Bool) (i : ℕ) → i < length bs → lowest k (drop i bs) ≡ cond (getD bs i false) k (lowest (k + 1) (drop (i + 1) bs))
+unfolding lowest
+lowest-turn k bs i p = rw (drop-cons bs i false p, add-one i)
+
+pub lowest-none : (k : ℕ) (bs : List Bool) → lowest k (drop (length bs) bs) ≡ 0
+unfolding lowest
+lowest-none k bs = rw (drop-length bs)

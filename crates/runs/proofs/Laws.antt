@@ -1,0 +1,39 @@
+-- What a board keeps of a run is enough: it follows the paper's run sample by sample, and no delay can tell the two apart.
+-- Assumes nothing.
+use Prim.Native.Nat.{ℕ, _+_, _≤_, _<_, min}
+use native.Mathlib.Omega.{arith}
+use mathlib.Core.Path.{_≡_, refl, sym, _∙_}
+use mathlib.Core.Bool.{Bool, true, false, cond}
+use mathlib.Core.List.{List, [], _∷_, dropLast}
+use mathlib.Core.Option.{Option, some, none}
+use lib.Dec.{ltb, leb}
+use borrow.Author.Tests.{lt-ltb, le-ltb, le-leb, lt-leb, leb-true, leb-false, ne-eqb}
+use Rattle.runs.specs.Run.{stretch, total, lasting, run, past}
+use Rattle.runs.specs.Kept.{runCap, kept, runNext, stood}
+
+-- a delay below the cap has been stood by the kept run exactly if the paper's run is at or past it
+pub kept-stood : (delay : ℕ) (r : Option ℕ) → delay < runCap → stood delay (kept r) ≡ past delay r
+unfolding stood
+kept-stood delay none h = le-ltb delay 0 (omega arith)
+kept-stood delay (some t) h = by (leb delay t) refl
+  where
+    by : (b : Bool) → leb delay t ≡ b → ltb delay (min runCap (t + 1)) ≡ leb delay t
+    by true e = let at : delay ≤ t = leb-true delay t e in lt-ltb delay (min runCap (t + 1)) (omega arith) ∙ sym e
+    by false e = let at : t < delay = leb-false delay t e in le-ltb delay (min runCap (t + 1)) (omega arith) ∙ sym e
+
+module _ {X : Type 0} (elapsed : X → ℕ) (holds : X → Bool) where
+  grows : (x : X) (held : List X) → runNext (kept (lasting elapsed held)) true (elapsed x) ≡ kept (lasting elapsed (x ∷ held))
+  unfolding runNext
+  grows x [] = refl
+  grows x (y ∷ held) =
+      let t = total elapsed (dropLast (y ∷ held)) in
+      rw (ne-eqb (min runCap (t + 1)) 0 (λ e. omega arith)) (omega arith)
+
+  -- the kept run follows the paper's run, sample by sample
+  pub kept-run : (x : X) (older : List X) → runNext (kept (run elapsed holds older)) (holds x) (elapsed x) ≡ kept (run elapsed holds (x ∷ older))
+  unfolding runNext
+  kept-run x older = by (holds x)
+    where
+      by : (b : Bool) → runNext (kept (run elapsed holds older)) b (elapsed x) ≡ kept (lasting elapsed (cond b (x ∷ stretch holds older) []))
+      by true = grows x (stretch holds older)
+      by false = refl

@@ -1,0 +1,3 @@
+pub mod Levels
+pub mod Bytes
+pub mod Faults
