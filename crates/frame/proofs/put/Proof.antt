@@ -1,53 +1,53 @@
+-- `frame::put` meets its contract: four stores at the front of the buffer, or none.
+-- Assumes nothing.
+use mathlib.Core.Path.{refl, sym}
+use native.Mathlib.Omega.{arith}
+use borrow.Author.Tests.{lt-ltb, le-ltb}
+use lib.ListN.{length-set}
+use lib.Seq.{sets-eq}
+use Rattle.frame.specs.Reply.{replyBytes, putOf}
 use borrow.Author.Needs.{needs}
 use Rattle.frame.proofs.put.Statement.{statement}
 use Rattle.frame.proofs.put.Tie as tie
-use Rattle.frame.proofs.put.Reads as reads
-use Rattle.frame.proofs.put.Lts as lts
-use Rattle.frame.proofs.check_byte.Reads as check-byte-reads
 
--- src/lib.rt:90:9
 returns : tie.Need-returns
-returns c = ?
+unfolding putOf
+returns c = (refl, rw (lt-ltb _ _ (c .if1 .taken)))
 
--- src/lib.rt:94:13
 enum-known-reply : tie.Need-enum-known-reply
 enum-known-reply c = search needs
 
--- src/lib.rt:98:13
 slice-write-buffer : tie.Need-slice-write-buffer
 slice-write-buffer c = search needs
 
--- src/lib.rt:99:13
 slice-write-buffer-2 : tie.Need-slice-write-buffer-2
-slice-write-buffer-2 c = ?
+slice-write-buffer-2 c = simp length-set (omega arith)
 
--- src/lib.rt:100:13
 slice-write-buffer-3 : tie.Need-slice-write-buffer-3
-slice-write-buffer-3 c = ?
+slice-write-buffer-3 c = simp length-set (omega arith)
 
--- src/lib.rt:101:25
 check-byte-requires : tie.Need-check-byte-requires
 check-byte-requires c κs = search needs
 
--- src/lib.rt:101:13
 slice-write-buffer-4 : tie.Need-slice-write-buffer-4
 slice-write-buffer-4 c = search needs
 
--- src/lib.rt:104:30
 enum-told : tie.Need-enum-told
 enum-told c = search needs
 
--- src/lib.rt:86:1
 same-length : tie.Need-same-length
 same-length c = search needs
 
--- src/lib.rt:86:1
 returns-2 : tie.Need-returns-2
-returns-2 c = ?
+unfolding putOf
+returns-2 c =
+    let known = c .before .before .reply .given .1 in
+    let start = c .before .before .before .before in
+    (sym known, rw (known, c .check-byte .ensures, le-ltb _ _ (start .if1 .left)) (sets-eq (replyBytes _ _ _) (start .before .before .args .buffer .now) 0 (start .if1 .left)))
 
--- src/lib.rt:86:1
 returns-3 : tie.Need-returns-3
-returns-3 c = ?
+unfolding putOf
+returns-3 c = (refl, rw (c .enum-told .given .1, le-ltb _ _ (c .before .before .if1 .left)))
 
 pub put-spec : {M : Type 1} → statement M
 put-spec =

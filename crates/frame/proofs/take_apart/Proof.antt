@@ -1,45 +1,45 @@
+-- `frame::take_apart` meets its contract: each way out answers by the tests passed, in the order of the table.
+-- Assumes nothing.
+use borrow.Author.Tests.{lt-ltb, le-ltb, eq-eqb, ne-eqb}
+use Rattle.frame.specs.Frame.{takenApart}
 use borrow.Author.Needs.{needs}
 use Rattle.frame.proofs.take_apart.Statement.{statement}
 use Rattle.frame.proofs.take_apart.Tie as tie
-use Rattle.frame.proofs.take_apart.Reads as reads
-use Rattle.frame.proofs.take_apart.Lts as lts
-use Rattle.frame.proofs.check_byte.Reads as check-byte-reads
 
--- src/lib.rt:58:9
 returns : tie.Need-returns
-returns c = ?
+unfolding takenApart
+returns c = rw (ne-eqb _ _ (c .if1 .taken))
 
--- src/lib.rt:61:9
 returns-2 : tie.Need-returns-2
-returns-2 c = ?
+unfolding takenApart
+returns-2 c = rw (eq-eqb _ _ (c .before .if1 .left), lt-ltb _ _ (c .if2 .taken))
 
--- src/lib.rt:63:19
 shared-slice-read-address : tie.Need-shared-slice-read-address
 shared-slice-read-address c = search needs
 
--- src/lib.rt:64:20
 shared-slice-read-register : tie.Need-shared-slice-read-register
 shared-slice-read-register c = search needs
 
--- src/lib.rt:65:17
 shared-slice-read-value : tie.Need-shared-slice-read-value
 shared-slice-read-value c = search needs
 
--- src/lib.rt:66:8
 shared-slice-read-if3 : tie.Need-shared-slice-read-if3
 shared-slice-read-if3 c = search needs
 
--- src/lib.rt:66:20
 check-byte-requires : tie.Need-check-byte-requires
 check-byte-requires c κs = search needs
 
--- src/lib.rt:67:9
 returns-3 : tie.Need-returns-3
-returns-3 c = ?
+unfolding takenApart
+returns-3 c =
+    let h = c .before .before .before .before .before .before in
+    rw (eq-eqb _ _ (h .before .if1 .left), le-ltb _ _ (h .if2 .left), ← (c .before .check-byte .ensures), ne-eqb _ _ (c .if3 .taken))
 
--- src/lib.rt:54:1
 returns-4 : tie.Need-returns-4
-returns-4 c = ?
+unfolding takenApart
+returns-4 c =
+    let h = c .before .before .before .before .before .before in
+    rw (eq-eqb _ _ (h .before .if1 .left), le-ltb _ _ (h .if2 .left), ← (c .before .check-byte .ensures), eq-eqb _ _ (c .if3 .left))
 
 pub take-apart-spec : {M : Type 1} → statement M
 take-apart-spec =

@@ -1,0 +1,37 @@
+-- The latches as the low five bits of register 0.
+-- Assumes nothing.
+use Prim.Native.Nat.{ℕ, _+_, _*_, _<_}
+use native.Mathlib.Omega.{arith}
+use mathlib.Core.Path.{_≡_, refl}
+use mathlib.Core.Bool.{Bool, true, false}
+use mathlib.Core.List.{List, [], _∷_}
+use Rattle.marks.specs.Marks.{bit, number}
+use Rattle.marks.proofs.Laws.{number-below, number-at}
+use Rattle.board.specs.declared.Latches.{Latches}
+use Rattle.board.specs.Latches.{chgOn, dsgOn, register0, latchesByte, latchesOf}
+
+pub byte-below : (t : Latches) → latchesByte t < 32
+unfolding latchesByte
+byte-below t = number-below (t .scd ∷ t .ocd ∷ t .ov ∷ t .uv ∷ t .ot ∷ [])
+
+pub byte-sum : (t : Latches) → latchesByte t ≡ bit (t .scd) + 2 * bit (t .ocd) + 4 * bit (t .ov) + 8 * bit (t .uv) + 16 * bit (t .ot)
+unfolding latchesByte number
+byte-sum t = omega arith
+
+-- register 0 has the latches, and the switches above them
+pub register0-sum : (t : Latches) → register0 t ≡ latchesByte t + 64 * bit (dsgOn t) + 128 * bit (chgOn t)
+unfolding register0 latchesByte number
+register0-sum t = omega arith
+
+-- what was kept is what is taken out again
+pub latches-kept : (t : Latches) → latchesOf (latchesByte t) ≡ t
+unfolding latchesByte
+latches-kept t =
+    let l : List Bool = t .scd ∷ t .ocd ∷ t .ov ∷ t .uv ∷ t .ot ∷ [] in
+    λ i. record {
+      scd = number-at l 0 (omega arith) i;
+      ocd = number-at l 1 (omega arith) i;
+      ov = number-at l 2 (omega arith) i;
+      uv = number-at l 3 (omega arith) i;
+      ot = number-at l 4 (omega arith) i;
+    }

@@ -1,0 +1,3 @@
+pub mod Shunt
+pub mod Latches
+pub mod Sample

@@ -1,0 +1,135 @@
+-- A sample of one board (01, The stack and its readings; Refusal numbers 1, 3, 4, 5; When a fault latches and lets go).
+-- Assumes nothing.
+use Prim.Native.Nat.{ℕ}
+use mathlib.Core.Bool.{Bool, cond, not, _&&_, _||_}
+use mathlib.Core.List.{List, [], _∷_}
+use lib.Dec.{ltb, eqb}
+use lib.ListN.{length}
+use Rattle.refusal.specs.Refusals.{numberOf, numbered}
+use Rattle.refusal.specs.Said.{Said, refuses, accepts, value, Bar, bar, first, judged, kept}
+use Rattle.settings.specs.declared.Settings.{Settings}
+use Rattle.settings.specs.Levels.{factory, ocdLevel, scdLevel}
+use Rattle.settings.specs.Faults.{Fault, SCD, OCD, OV, UV, OT, delay}
+use Rattle.runs.specs.Kept.{runNext, stood}
+use Rattle.cells.specs.declared.Swept.{Swept}
+use Rattle.cells.specs.Cells.{sweepOf, noCells, readable}
+use Rattle.board.specs.declared.Board.{Board}
+use Rattle.board.specs.declared.Currents.{Currents}
+use Rattle.board.specs.declared.Latches.{Latches}
+use Rattle.board.specs.declared.Readings.{Readings}
+use Rattle.board.specs.declared.Answer.{Answer}
+use Rattle.board.specs.declared.Answer.the-variants.{Sampled, Refused}
+use Rattle.board.specs.declared.Stepped.{Stepped}
+use Rattle.board.specs.Shunt.{shuntAbove, shuntOutside}
+use Rattle.board.specs.Latches.{latch, latches, latchNext, latchesOf, latchesByte, register0}
+
+-- a board starts from the factory settings, with no latch, no flagged cell, no cycle spent, staged equal to working
+unfoldable pub fresh : ℕ → Board
+fresh n =
+    record {
+      count = n;
+      latches = 0;
+      cycles = 0;
+      flags = 0;
+      working = factory;
+      staged = factory;
+      currents = record { ocd = 0; scd = 0 };
+      cells = noCells;
+    }
+
+-- OCD and SCD: the shunt above the level
+unfoldable pub currentsNext : Settings → Currents → Readings → Currents
+currentsNext s runs x =
+    record {
+      ocd = runNext (runs .ocd) (shuntAbove (ocdLevel s) (x .shunt)) (x .elapsed);
+      scd = runNext (runs .scd) (shuntAbove (scdLevel s) (x .shunt)) (x .elapsed);
+    }
+
+-- overtemperature: the thermistor below 975 mV
+abbrev pub hot : Readings → Bool
+hot x = ltb (x .thermistor) 975
+
+-- 1 attached, 0 not
+abbrev pub attached : Readings → Bool
+attached x = eqb (x .load) 1
+
+module _ (s : Settings) (swept : Swept) (runs : Currents) (x : Readings) where
+  -- the condition has stood its delay, for some one cell with OV and UV; overtemperature has no delay
+  abbrev pub stands : Fault → Bool
+  stands SCD = stood (delay SCD s) (runs .scd)
+  stands OCD = stood (delay OCD s) (runs .ocd)
+  stands OV = swept .«ov_stood»
+  stands UV = swept .«uv_stood»
+  stands OT = hot x
+
+  -- the table's last column
+  abbrev pub letsGo : Fault → Bool
+  letsGo SCD = not (attached x) && not (shuntAbove (scdLevel s) (x .shunt))
+  letsGo OCD = not (attached x) && not (shuntAbove (ocdLevel s) (x .shunt))
+  letsGo OV = swept .«ov_lets_go»
+  letsGo UV = swept .«uv_lets_go»
+  letsGo OT = not (hot x)
+
+  unfoldable pub latchesNext : Latches → Latches
+  latchesNext old = latches (λ f. latchNext (latch f old) (stands f) (letsGo f))
+
+-- the pass over the cells at a sample, the runs of the currents and the latches after it
+abbrev pub sweptAt : Board → Readings → List ℕ → Swept
+sweptAt b x mv = sweepOf (b .working) (x .elapsed) (b .cells) (b .flags) mv
+
+abbrev pub latchesAfter : Board → Readings → List ℕ → Latches
+latchesAfter b x mv =
+    latchesNext (b .working) (sweptAt b x mv) (currentsNext (b .working) (b .currents) x) x (latchesOf (b .latches))
+
+-- the board after an accepted sample: settings and cycles stay
+unfoldable pub boardNext : Board → Readings → List ℕ → Board
+boardNext b x mv =
+    record {
+      count = b .count;
+      latches = latchesByte (latchesAfter b x mv);
+      cycles = b .cycles;
+      flags = sweptAt b x mv .flags;
+      working = b .working;
+      staged = b .staged;
+      currents = currentsNext (b .working) (b .currents) x;
+      cells = sweptAt b x mv .cells;
+    }
+
+-- an accepted sample answers with register 0's value and the bled cells
+abbrev pub sampleValues : Board → Readings → List ℕ → List ℕ
+sampleValues b x mv = register0 (latchesAfter b x mv) ∷ sweptAt b x mv .bled ∷ []
+
+-- the paper's number and values of each case
+abbrev pub answerSaid : Answer → Said
+answerSaid (Sampled status bled) = accepts (status ∷ bled ∷ [])
+answerSaid (Refused why) = refuses (numberOf why)
+
+-- the case that says them
+abbrev pub answerSaying : Said → Answer
+answerSaying s = cond (eqb (s .number) 0) (Sampled (value 0 s) (value 1 s)) (Refused (numbered (s .number)))
+
+unfoldable pub acceptedOf : Board → Readings → List ℕ → Stepped
+acceptedOf b x mv = record { board = boardNext b x mv; answer = answerSaying (accepts (sampleValues b x mv)) }
+
+abbrev pub outside : ℕ → ℕ → ℕ → Bool
+outside low high n = ltb n low || ltb high n
+
+abbrev pub outOfRange : Readings → List ℕ → Bool
+outOfRange x mv = not (readable mv) || ltb 5000 (x .thermistor) || shuntOutside (x .shunt) || ltb 1 (x .load)
+
+-- refusals 1, 3, 4, 5 in order; 2 is for a stack
+abbrev pub sampleBars : Board → Readings → List ℕ → List Bar
+sampleBars b x mv =
+    bar 1 (outside 5 10 (b .count))
+    ∷ bar 3 (not (eqb (length mv) (b .count)))
+    ∷ bar 4 (outside 1 100000 (x .elapsed))
+    ∷ bar 5 (outOfRange x mv)
+    ∷ []
+
+-- a sample's answer, and the board after it: at a refusal the board that was handed in
+unfoldable pub sampleOf : Board → Readings → List ℕ → Stepped
+sampleOf b x mv =
+    record {
+      board = kept (sampleBars b x mv) b (boardNext b x mv);
+      answer = answerSaying (judged (sampleBars b x mv) (sampleValues b x mv));
+    }

@@ -1,0 +1,229 @@
+// One board by value: its record, and a sample of it (01, The stack and its readings; When a fault latches and lets go).
+ghost use mathlib.Core.Path.{_≡_};
+ghost use Prim.Native.Nat.{_≤_};
+ghost use Rattle.marks.specs.Marks.{bit};
+ghost use Rattle.board.specs.Shunt.{shuntAbove, shuntOutside};
+ghost use Rattle.board.specs.Latches.{latchNext, latchesOf, latchesByte, chgOn, dsgOn, register0};
+ghost use Rattle.board.specs.Sample.{fresh, currentsNext, latchesNext, acceptedOf, outOfRange, sampleOf};
+use cells::Cell;
+use cells::Swept;
+use refusal::Refusal;
+use settings::Settings;
+
+// The runs of the two current conditions.
+pub struct Currents {
+    pub ocd: u32,
+    pub scd: u32,
+}
+
+// A board's record. The latches are the low five bits of register 0, and the flagged cells a number.
+pub struct Board {
+    pub count: u8,
+    pub latches: u8,
+    pub cycles: u8,
+    pub flags: u16,
+    pub working: Settings,
+    pub staged: Settings,
+    pub currents: Currents,
+    pub cells: [Cell; 10],
+}
+
+// What a sample reads beside the cells.
+pub struct Readings {
+    pub elapsed: u32,
+    pub load: u32,
+    pub thermistor: u32,
+    pub shunt: i32,
+}
+
+pub enum Answer {
+    Sampled { status: u8, bled: u16 },
+    Refused(Refusal),
+}
+
+pub struct Stepped {
+    pub board: Board,
+    pub answer: Answer,
+}
+
+// Which faults are latched.
+pub struct Latches {
+    pub scd: bool,
+    pub ocd: bool,
+    pub ov: bool,
+    pub uv: bool,
+    pub ot: bool,
+}
+
+// A board as it starts.
+pub fn fresh_board(count: u8) -> Board
+    ensures { λ r. ⌜ r ≡ fresh count ⌝ }
+{
+    let cells = cells::fresh_cells();
+    let currents = Currents { ocd: 0, scd: 0 };
+    let working = Settings::FACTORY;
+    let staged = Settings::FACTORY;
+    Board {
+        count: count,
+        latches: 0,
+        cycles: 0,
+        flags: 0,
+        working: working,
+        staged: staged,
+        currents: currents,
+        cells: cells,
+    }
+}
+
+// The shunt reads above a level; no charge current does.
+fn shunt_above(shunt: i32, level: u32) -> bool
+    ensures { λ r. ⌜ r ≡ shuntAbove level shunt ⌝ }
+{
+    if shunt < 0 {
+        return false;
+    }
+    level < shunt as u32
+}
+
+fn shunt_outside(shunt: i32) -> bool
+    ensures { λ r. ⌜ r ≡ shuntOutside shunt ⌝ }
+{
+    (shunt < -500000) | (500000 < shunt)
+}
+
+pub fn latches_of(byte: u8) -> Latches
+    ensures { λ r. ⌜ r ≡ latchesOf byte ⌝ }
+{
+    Latches {
+        scd: byte / 1 % 2 == 1,
+        ocd: byte / 2 % 2 == 1,
+        ov: byte / 4 % 2 == 1,
+        uv: byte / 8 % 2 == 1,
+        ot: byte / 16 % 2 == 1,
+    }
+}
+
+pub fn chg_of(t: Latches) -> bool
+    ensures { λ r. ⌜ r ≡ chgOn t ⌝ }
+{
+    !(t.ov | t.ocd | t.scd | t.ot)
+}
+
+pub fn dsg_of(t: Latches) -> bool
+    ensures { λ r. ⌜ r ≡ dsgOn t ⌝ }
+{
+    !(t.uv | t.ocd | t.scd | t.ot)
+}
+
+fn bit_of(b: bool) -> u8
+    ensures { λ r. ⌜ (r ≡ bit b) × (r ≤ 1) ⌝ }
+{
+    if b { 1 } else { 0 }
+}
+
+// The five latches as the low bits of register 0.
+fn byte_of(t: Latches) -> u8
+    ensures { λ r. ⌜ r ≡ latchesByte t ⌝ }
+{
+    bit_of(t.scd) + 2 * bit_of(t.ocd) + 4 * bit_of(t.ov) + 8 * bit_of(t.uv) + 16 * bit_of(t.ot)
+}
+
+// Register 0: the latches, then DSG and CHG.
+pub fn status_of(t: Latches) -> u8
+    ensures { λ r. ⌜ r ≡ register0 t ⌝ }
+{
+    byte_of(t) + 64 * bit_of(dsg_of(t)) + 128 * bit_of(chg_of(t))
+}
+
+fn latch_next(latched: bool, stands: bool, lets_go: bool) -> bool
+    ensures { λ r. ⌜ r ≡ latchNext latched stands «lets_go» ⌝ }
+{
+    if latched { !lets_go } else { stands }
+}
+
+fn currents_next(s: Settings, runs: Currents, x: Readings) -> Currents
+    ensures { λ r. ⌜ r ≡ currentsNext s runs x ⌝ }
+{
+    Currents {
+        ocd: runs::advance(runs.ocd, shunt_above(x.shunt, s.ocd_level()), x.elapsed),
+        scd: runs::advance(runs.scd, shunt_above(x.shunt, s.scd_level()), x.elapsed),
+    }
+}
+
+fn latches_next(s: Settings, swept: Swept, runs: Currents, x: Readings, old: Latches) -> Latches
+    ensures { λ r. ⌜ r ≡ latchesNext s swept runs x old ⌝ }
+{
+    let scd_stood = runs::has_stood(s.scd_delay(), runs.scd);
+    let ocd_stood = runs::has_stood(s.ocd_delay(), runs.ocd);
+    let over_scd = shunt_above(x.shunt, s.scd_level());
+    let over_ocd = shunt_above(x.shunt, s.ocd_level());
+    let attached = x.load == 1;
+    let hot = x.thermistor < 975;
+    Latches {
+        scd: latch_next(old.scd, scd_stood, !attached & !over_scd),
+        ocd: latch_next(old.ocd, ocd_stood, !attached & !over_ocd),
+        ov: latch_next(old.ov, swept.ov_stood, swept.ov_lets_go),
+        uv: latch_next(old.uv, swept.uv_stood, swept.uv_lets_go),
+        ot: latch_next(old.ot, hot, !hot),
+    }
+}
+
+// An accepted sample.
+fn accept(b: Board, x: Readings, mv: &[u32]) -> Stepped
+    ensures { λ r. ⌜ r ≡ acceptedOf b x (now (mv .entry)) ⌝ }
+{
+    let old = b.cells;
+    let swept = cells::sweep(b.working, x.elapsed, old, b.flags, mv);
+    let currents = currents_next(b.working, b.currents, x);
+    let latches = latches_next(b.working, swept, currents, x, latches_of(b.latches));
+    let cells = swept.cells;
+    let mut next = b;
+    next.latches = byte_of(latches);
+    next.flags = swept.flags;
+    next.currents = currents;
+    next.cells = cells;
+    Stepped {
+        board: next,
+        answer: Answer::Sampled {
+            status: status_of(latches),
+            bled: swept.bled,
+        },
+    }
+}
+
+fn refuse(b: Board, why: Refusal) -> Stepped
+    ensures { λ r. ⌜ r ≡ record { board = b; answer = Answer.Refused why } ⌝ }
+{
+    Stepped {
+        board: b,
+        answer: Answer::Refused(why),
+    }
+}
+
+fn out_of_range(x: Readings, mv: &[u32]) -> bool
+    ensures { λ r. ⌜ r ≡ outOfRange x (now (mv .entry)) ⌝ }
+{
+    let readable = cells::all_readable(mv);
+    let outside = shunt_outside(x.shunt);
+    !readable | (5000 < x.thermistor) | outside | (1 < x.load)
+}
+
+// A sample of one board.
+pub fn sample(b: Board, x: Readings, mv: &[u32]) -> Stepped
+    ensures { λ r. ⌜ r ≡ sampleOf b x (now (mv .entry)) ⌝ }
+{
+    let count = b.count;
+    if (count < 5) | (10 < count) {
+        return refuse(b, Refusal::BadRow);
+    }
+    if mv.len() != count as usize {
+        return refuse(b, Refusal::CellList);
+    }
+    if (x.elapsed < 1) | (100000 < x.elapsed) {
+        return refuse(b, Refusal::Elapsed);
+    }
+    if out_of_range(x, mv) {
+        return refuse(b, Refusal::OutOfRange);
+    }
+    accept(b, x, mv)
+}

@@ -1,0 +1,36 @@
+-- A refusal is the one of its number, and none has number 0.
+-- Assumes nothing.
+use native.Mathlib.Omega.{arith}
+use mathlib.Core.Path.{_≡_, refl, ap}
+use mathlib.Core.Bool.{Bool, true, false, cond}
+use lib.Dec.{eqb}
+use borrow.Author.Tests.{eqb-true}
+use Rattle.refusal.specs.declared.Refusal.{Refusal}
+use Rattle.refusal.specs.declared.Refusal.the-variants.{BadRow, NoBoard, CellList, Elapsed, OutOfRange, FrameLength, ReplyRoom, CheckByte, NoRegister, BadValue, NoCycle, Malformed}
+use Rattle.refusal.specs.Refusals.{numberOf, numbered}
+
+pub numbered-number : (r : Refusal) → numbered (numberOf r) ≡ r
+numbered-number BadRow = refl
+numbered-number NoBoard = refl
+numbered-number CellList = refl
+numbered-number Elapsed = refl
+numbered-number OutOfRange = refl
+numbered-number FrameLength = refl
+numbered-number ReplyRoom = refl
+numbered-number CheckByte = refl
+numbered-number NoRegister = refl
+numbered-number BadValue = refl
+numbered-number NoCycle = refl
+numbered-number Malformed = refl
+
+-- number 0 would be that of BadRow, which is 1
+pub number-not-zero : (r : Refusal) → eqb (numberOf r) 0 ≡ false
+number-not-zero r = by (eqb (numberOf r) 0) refl
+  where
+    by : (t : Bool) → eqb (numberOf r) 0 ≡ t → t ≡ false
+    by false e = refl
+    by true e = let none = eqb-true (numberOf r) 0 e in let one = ap numberOf (rw none at (numbered-number r)) in absurd (omega arith)
+
+-- an answer that goes by the number of a refusal is the one that holds it
+pub said-refused : {A : Type 0} (r : Refusal) (accepted : A) (refused : Refusal → A) → cond (eqb (numberOf r) 0) accepted (refused (numbered (numberOf r))) ≡ refused r
+said-refused r accepted refused = rw (number-not-zero r, numbered-number r)
