@@ -31,9 +31,9 @@ pub struct Board {
 // What a sample reads beside the cells.
 pub struct Readings {
     pub elapsed: u32,
-    pub load: u32,
-    pub thermistor: u32,
     pub shunt: i32,
+    pub thermistor: u32,
+    pub load: u32,
 }
 
 pub enum Answer {

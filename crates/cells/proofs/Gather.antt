@@ -55,7 +55,7 @@ module _ (s : Settings) (elapsed : ℕ) (cells : List Cell) (flags : ℕ) (mv : 
       → high ≡ stood (ovDelay s) (cell .ov) → low ≡ stood (uvDelay s) (cell .uv)
       → flag ≡ flagNext s high (marked flags (i - 1)) (readingAt mv (i - 1)) → 0 < i → i ≤ n → n ≤ length cells
       → Gathered (i - 1) (set next (i - 1) cell) (markNext flag flagged) (bleedNext flag bleeds) (high || ovStood)
-        (ltb (readingAt mv (i - 1)) (ovRelease s) && ovLets) (low || uvStood) (ltb (uvRelease s) (readingAt mv (i - 1)) && uvLets)
+      (ltb (readingAt mv (i - 1)) (ovRelease s) && ovLets) (low || uvStood) (ltb (uvRelease s) (readingAt mv (i - 1)) && uvLets)
   turn {i = zero} cell high low flag g ec eh el ef p q h = absurd (not-suc-le-zero p)
   turn {i = suc j} cell high low flag g ec eh el ef p q h =
       let N = nextAt s elapsed cells flags mv in

@@ -1,7 +1,7 @@
 -- The laws of a set of cells: its list and its number say the same, cell by cell, and a turn of a loop over either.
 -- Assumes nothing.
 use Prim.Native.Nat.{ℕ, zero, suc, _+_, _-_, _*_, _/_, _%_, _^_, _<_, _≤_}
-use native.Mathlib.Nat.{two-pow-succ, two-mul, div-one, div-eq-of-lt, div-div-eq-div-mul, lt-of-lt-of-le, not-suc-le-zero, le-of-suc-le-suc}
+use native.Mathlib.Nat.{two-pow-succ, two-mul, zero-add, div-one, div-eq-of-lt, div-div-eq-div-mul, lt-of-lt-of-le, not-suc-le-zero, le-of-suc-le-suc}
 use native.Mathlib.Numerals.{add-one}
 use native.Mathlib.Omega.{arith}
 use mathlib.Core.Path.{_≡_, refl, ap, sym, _∙_}
@@ -9,8 +9,8 @@ use mathlib.Core.Bool.{Bool, true, false, cond}
 use mathlib.Core.List.{List, [], _∷_}
 use borrow.Author.Tests.{eq-eqb, ne-eqb}
 use lib.Dec.{eqb, lit<}
-use lib.ListN.{length, getD, drop}
-use lib.Seq.{drop-cons, drop-length}
+use lib.ListN.{length, getD, drop, drop-of-length-le}
+use lib.Seq.{drop-cons}
 use lib.Pow.{pow-mono}
 use Rattle.marks.specs.Marks.{bit, number, marked, marks, lowest}
 
@@ -61,20 +61,39 @@ number-below (b ∷ bs) =
 pub number-at : (bs : List Bool) (i : ℕ) → i < length bs → marked (number bs) i ≡ getD bs i false
 number-at bs i p = sym (marks-at (length bs) (number bs) i p) ∙ ap (λ (l : List Bool). getD l i false) (marks-number bs)
 
--- the number from the highest cell down: one cell more, and none
+-- the number from the highest cell down: one cell more
 pub number-turn : (bs : List Bool) (i : ℕ) → i < length bs → number (drop i bs) ≡ bit (getD bs i false) + 2 * number (drop (suc i) bs)
 unfolding number
 number-turn bs i p = rw (drop-cons bs i false p)
 
-pub number-none : (bs : List Bool) → number (drop (length bs) bs) ≡ 0
-unfolding number
-number-none bs = rw (drop-length bs)
+-- the same, for a loop that takes 1 from i first
+pub number-down : (bs : List Bool) (i out r : ℕ) → out ≡ number (drop i bs) → r ≡ bit (getD bs (i - 1) false) + 2 * out → 0 < i → i ≤ length bs → r ≡ number (drop (i - 1) bs)
+number-down bs zero out r o e p q = absurd (not-suc-le-zero p)
+number-down bs (suc i) out r o e p q =
+    let back : suc i - 1 ≡ i = omega arith in
+    rw (back, number-turn bs i q, ← o) (rw back at e)
 
--- the search from the lowest cell up: one cell on, and past the last
+-- past the highest cell
+pub number-none : (bs : List Bool) (i : ℕ) → length bs ≤ i → number (drop i bs) ≡ 0
+unfolding number
+number-none bs i p = rw (drop-of-length-le bs p)
+
+-- the search from the lowest cell up: one cell on, and past the highest
 pub lowest-turn : (k : ℕ) (bs : List Bool) (i : ℕ) → i < length bs → lowest k (drop i bs) ≡ cond (getD bs i false) k (lowest (k + 1) (drop (i + 1) bs))
 unfolding lowest
 lowest-turn k bs i p = rw (drop-cons bs i false p, add-one i)
 
-pub lowest-none : (k : ℕ) (bs : List Bool) → lowest k (drop (length bs) bs) ≡ 0
+pub lowest-none : (k : ℕ) (bs : List Bool) (i : ℕ) → length bs ≤ i → lowest k (drop i bs) ≡ 0
 unfolding lowest
-lowest-none k bs = rw (drop-length bs)
+lowest-none k bs i p = rw (drop-of-length-le bs p)
+
+double-zero : (n : ℕ) → eqb (2 * n) 0 ≡ eqb n 0
+double-zero zero = refl
+double-zero (suc n) = ne-eqb (2 * suc n) 0 (λ e. omega arith) ∙ sym (ne-eqb (suc n) 0 (λ e. omega arith))
+
+-- there is no lowest cell exactly if the number is 0
+pub lowest-zero : (k : ℕ) (bs : List Bool) → eqb (lowest (k + 1) bs) 0 ≡ eqb (number bs) 0
+unfolding lowest number
+lowest-zero k [] = refl
+lowest-zero k (true ∷ bs) = ne-eqb (k + 1) 0 (λ e. omega arith) ∙ sym (ne-eqb (1 + 2 * number bs) 0 (λ e. omega arith))
+lowest-zero k (false ∷ bs) = rw (lowest-zero (k + 1) bs, zero-add, double-zero (number bs))

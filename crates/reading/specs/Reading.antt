@@ -4,9 +4,10 @@ use Prim.Native.Nat.{ℕ, _+_}
 use mathlib.Core.Bool.{Bool, true, false, cond, _&&_, _||_}
 use mathlib.Core.List.{List, [], _∷_}
 use lib.Dec.{eqb}
-use Rattle.marks.specs.Marks.{marks, lowest}
+use Rattle.marks.specs.Marks.{bit, marks, lowest}
 use Rattle.reading.specs.declared.Summary.{Summary}
 use Rattle.reading.specs.declared.Place.{Place}
+use Rattle.reading.specs.declared.Pack.{Pack}
 use Rattle.reading.specs.declared.Whole.{Whole}
 
 -- a board's fault line is up if it has a latch or the line from the next board north is up
@@ -25,6 +26,10 @@ chgOn board = board .chg
 abbrev pub dsgOn : Summary → Bool
 dsgOn board = board .dsg
 
+-- pack CHG and pack DSG
+unfoldable pub packOf : List Summary → Pack
+packOf boards = record { chg = every chgOn boards; dsg = every dsgOn boards }
+
 -- the lowest flagged cell of a board, or 0
 abbrev pub lowestFlagged : Summary → ℕ
 lowestFlagged board = lowest 1 (marks (board .count) (board .flags))
@@ -41,3 +46,7 @@ firstFlagged k (board ∷ north) = cond (eqb (lowestFlagged board) 0) (firstFlag
 unfoldable pub readOf : List Summary → Whole
 readOf boards =
     record { line = lineUp boards; chg = every chgOn boards; dsg = every dsgOn boards; flagged = firstFlagged 1 boards }
+
+-- the answer's values in the paper's order: line, pack CHG, pack DSG, board, cell
+abbrev pub wholeSaid : Whole → List ℕ
+wholeSaid w = bit (w .line) ∷ bit (w .chg) ∷ bit (w .dsg) ∷ w .flagged .board ∷ w .flagged .cell ∷ []

@@ -1,7 +1,8 @@
 // The whole-stack reading, over a summary of each board by value (01, Whole-stack reading).
 ghost use mathlib.Core.Path.{_≡_};
+ghost use Prim.Native.Nat.{min};
 ghost use lib.ListN.{take, drop};
-ghost use Rattle.reading.specs.Reading.{lineUp, every, chgOn, dsgOn, firstFlagged, readOf};
+ghost use Rattle.reading.specs.Reading.{lineUp, packOf, firstFlagged, readOf};
 
 // What the reading takes from one board; the flagged cells as a number.
 pub struct Summary {
@@ -25,7 +26,7 @@ pub struct Whole {
     pub flagged: Place,
 }
 
-// The fault line of the board at this place, where so many boards are left from it northward.
+// The fault line of the board at this place, counted from 0, with so many boards left from it northward.
 fn line_up(boards: [Summary; 16], at: usize, left: usize) -> bool
     ensures { λ r. ⌜ r ≡ lineUp (take left (drop at boards)) ⌝ }
 {
@@ -42,10 +43,74 @@ fn line_up(boards: [Summary; 16], at: usize, left: usize) -> bool
     line_up(boards, at + 1, left - 1)
 }
 
-// The southernmost board with a flagged cell, and the lowest such cell on it.
+// How many of the first n boards there are in the row.
+fn rows_of(n: usize) -> usize
+    ensures { λ r. ⌜ r ≡ min n 16 ⌝ }
+{
+    if n < 16 { n } else { 16 }
+}
+
+struct Pack {
+    chg: bool,
+    dsg: bool,
+}
+
+// Pack CHG and pack DSG: on exactly if on at every board.
+fn pack_on(boards: [Summary; 16], n: usize) -> Pack
+    ensures { λ r. ⌜ r ≡ packOf (take n boards) ⌝ }
+{
+    let rows = rows_of(n);
+    let mut chg = true;
+    let mut dsg = true;
+    let mut at = 0;
+    while at < rows {
+        let b = boards[at];
+        chg = chg & b.chg;
+        dsg = dsg & b.dsg;
+        at += 1;
+    }
+    Pack { chg: chg, dsg: dsg }
+}
+
+// The southernmost board with a flagged cell, and the lowest such cell on it: the first one found ends both loops.
 fn first_flagged(boards: [Summary; 16], n: usize) -> Place
     ensures { λ r. ⌜ r ≡ firstFlagged 1 (take n boards) ⌝ }
+{
+    let rows = rows_of(n);
+    let mut board = 0;
+    let mut cell = 0;
+    let mut i = 0;
+    'boards: while i < rows {
+        let b = boards[i];
+        // below the count, so a cell's number fits its byte
+        let mut j = 0;
+        while j < b.count {
+            if marks::mark_at(b.flags, j as usize) {
+                board = i as u8 + 1;
+                cell = j + 1;
+                break 'boards;
+            }
+            j += 1;
+        }
+        i += 1;
+    }
+    Place {
+        board: board,
+        cell: cell,
+    }
+}
 
-// Pack CHG or pack DSG ...
+// The reading of the first n boards: board 1's line, pack CHG, pack DSG and the flagged cell.
 pub fn read_all(boards: [Summary; 16], n: usize) -> Whole
     ensures { λ r. ⌜ r ≡ readOf (take n boards) ⌝ }
+{
+    let line = line_up(boards, 0, n);
+    let pack = pack_on(boards, n);
+    let flagged = first_flagged(boards, n);
+    Whole {
+        line: line,
+        chg: pack.chg,
+        dsg: pack.dsg,
+        flagged: flagged,
+    }
+}

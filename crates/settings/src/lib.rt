@@ -1,10 +1,11 @@
 // The five settings bytes of a board, and what they mean (01, Frames and registers, registers 6 to 10).
-// Cells are in mV, the shunt in µV, delays in µs.
+// Cell levels are in mV, shunt levels in µV, delays in µs.
 ghost use mathlib.Core.Path.{_≡_};
+ghost use mathlib.Core.Bool.{cond};
 ghost use Rattle.settings.specs.Levels.{ovLevel, ovHysteresis, ovRelease, ovDelay, uvLevel, uvHysteresis, uvRelease, ocdDelay, ocdLevel, uvDelay, scdLevel, scdDelay};
 ghost use Rattle.settings.specs.Bytes.{byteOf, withByte, same, allowed};
 
-// A byte by its register's number.
+// Each byte under its register's number.
 pub struct Settings {
     pub r6: u8,
     pub r7: u8,
@@ -13,6 +14,7 @@ pub struct Settings {
     pub r10: u8,
 }
 
+// What a code stands for where no formula gives it.
 const OV_HYSTERESIS: [u32; 4] = [100, 200, 300, 0];
 
 const UV_HYSTERESIS: [u32; 4] = [200, 400, 800, 1200];
@@ -35,6 +37,13 @@ const UV_DELAYS: [u32; 16] = [
     7000000,
     8000000,
 ];
+
+// A byte after a write, which is to its register or to another.
+fn written(here: bool, value: u8, old: u8) -> u8
+    ensures { λ r. ⌜ r ≡ cond here value old ⌝ }
+{
+    if here { value } else { old }
+}
 
 impl Settings {
     pub const FACTORY: Settings = Settings {
@@ -144,16 +153,13 @@ impl Settings {
     pub fn with_byte(self, register: u8, value: u8) -> Settings
         ensures { λ r. ⌜ r ≡ withByte self register value ⌝ }
     {
-        let mut next = self;
-        match register {
-            6 => next.r6 = value,
-            7 => next.r7 = value,
-            8 => next.r8 = value,
-            9 => next.r9 = value,
-            10 => next.r10 = value,
-            _ => {}
+        Settings {
+            r6: written(register == 6, value, self.r6),
+            r7: written(register == 7, value, self.r7),
+            r8: written(register == 8, value, self.r8),
+            r9: written(register == 9, value, self.r9),
+            r10: written(register == 10, value, self.r10),
         }
-        next
     }
 
     // Equal by bytes: two codes that mean the same still differ.

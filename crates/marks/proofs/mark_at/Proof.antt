@@ -1,3 +1,5 @@
+-- `mark_at`: a u16 has 16 places, and none from there up.
+-- Assumes nothing.
 use mathlib.Core.Path.{sym}
 use borrow.Author.Needs.{needs}
 use Rattle.marks.proofs.Laws.{marked-above}

@@ -1,3 +1,5 @@
+-- `Settings::byte` meets its contract: each arm by its register, the last by being none of the five.
+-- Assumes nothing.
 use borrow.Author.Tests.{ne-eqb}
 use Rattle.settings.proofs.Settings.byte.Statement.{statement}
 use Rattle.settings.proofs.Settings.byte.Tie as tie

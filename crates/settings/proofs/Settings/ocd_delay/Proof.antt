@@ -1,3 +1,5 @@
+-- `Settings::ocd_delay` meets its contract: the two rules, below code 16 and from there on.
+-- Assumes nothing.
 use borrow.Author.Tests.{lt-ltb, le-ltb}
 use borrow.Author.Needs.{needs}
 use Rattle.settings.proofs.Settings.ocd_delay.Statement.{statement}

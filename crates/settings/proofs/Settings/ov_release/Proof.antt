@@ -1,3 +1,5 @@
+-- `Settings::ov_release` meets its contract: the hysteresis is below the level, so nothing is taken below zero.
+-- Assumes nothing.
 use native.Mathlib.Omega.{arith}
 use Rattle.settings.proofs.Laws.{ov-hysteresis-within}
 use borrow.Author.Needs.{needs}

@@ -1,3 +1,5 @@
+-- `Settings::uv_release` meets its contract: the sum fits, since the hysteresis is within its table.
+-- Assumes nothing.
 use native.Mathlib.Omega.{arith}
 use Rattle.settings.proofs.Laws.{uv-hysteresis-within}
 use borrow.Author.Needs.{needs}

@@ -1,0 +1,44 @@
+use Rattle.board.specs.Sample.{acceptedOf, boardNext}
+use borrow.Author.Needs.{needs}
+use Rattle.board.proofs.accept.Statement.{statement}
+use Rattle.board.proofs.accept.Tie as tie
+
+sweep-requires : tie.Need-sweep-requires
+sweep-requires c κs = search needs
+
+currents-next-requires : tie.Need-currents-next-requires
+currents-next-requires c κs = search needs
+
+latches-of-requires : tie.Need-latches-of-requires
+latches-of-requires c κs = search needs
+
+latches-next-requires : tie.Need-latches-next-requires
+latches-next-requires c κs = search needs
+
+byte-of-requires : tie.Need-byte-of-requires
+byte-of-requires c κs = search needs
+
+status-of-requires : tie.Need-status-of-requires
+status-of-requires c κs = search needs
+
+returns : tie.Need-returns
+unfolding acceptedOf boardNext
+returns c =
+    let c1 = c .before in
+    let c3 = c1 .before .before in
+    let c4 = c3 .before in
+    let c5 = c4 .before in
+    let c6 = c5 .before in
+    rw (c .status-of .ensures, c1 .byte-of .ensures, c3 .latches-next .ensures, c4 .latches-of .ensures, c5 .currents-next .ensures, c6 .sweep .ensures)
+
+pub accept-spec : {M : Type 1} → statement M
+accept-spec =
+    tie.close
+    (tie.spec
+    sweep-requires
+    currents-next-requires
+    latches-of-requires
+    latches-next-requires
+    byte-of-requires
+    status-of-requires
+    returns)

@@ -1,0 +1,83 @@
+use mir.Facts.{toZ-ofZ}
+use mir.Syntax.{w32}
+use Rattle.board.specs.Sample.{latchesNext}
+use borrow.Author.Needs.{needs}
+use Rattle.board.proofs.latches_next.Statement.{statement}
+use Rattle.board.proofs.latches_next.Tie as tie
+
+scd-delay-requires : tie.Need-scd-delay-requires
+scd-delay-requires c κs = search needs
+
+has-stood-requires : tie.Need-has-stood-requires
+has-stood-requires c κs = search needs
+
+ocd-delay-requires : tie.Need-ocd-delay-requires
+ocd-delay-requires c κs = search needs
+
+has-stood-requires-2 : tie.Need-has-stood-requires-2
+has-stood-requires-2 c κs = search needs
+
+scd-level-requires : tie.Need-scd-level-requires
+scd-level-requires c κs = search needs
+
+shunt-above-requires : tie.Need-shunt-above-requires
+shunt-above-requires c κs = search needs
+
+ocd-level-requires : tie.Need-ocd-level-requires
+ocd-level-requires c κs = search needs
+
+shunt-above-requires-2 : tie.Need-shunt-above-requires-2
+shunt-above-requires-2 c κs = search needs
+
+latch-next-requires : tie.Need-latch-next-requires
+latch-next-requires c κs = search needs
+
+latch-next-requires-2 : tie.Need-latch-next-requires-2
+latch-next-requires-2 c κs = search needs
+
+latch-next-requires-3 : tie.Need-latch-next-requires-3
+latch-next-requires-3 c κs = search needs
+
+latch-next-requires-4 : tie.Need-latch-next-requires-4
+latch-next-requires-4 c κs = search needs
+
+latch-next-requires-5 : tie.Need-latch-next-requires-5
+latch-next-requires-5 c κs = search needs
+
+returns : tie.Need-returns
+unfolding latchesNext
+returns c =
+    let c1 = c .before in
+    let c2 = c1 .before in
+    let c3 = c2 .before in
+    let c4 = c3 .before in
+    let c7 = c4 .before .before .before in
+    let c8 = c7 .before in
+    let c9 = c8 .before in
+    let c10 = c9 .before in
+    let c12 = c10 .before .before in
+    let c13 = c12 .before in
+    let c14 = c13 .before in
+    let c15 = c14 .before in
+    let c16 = c15 .before in
+    let back = toZ-ofZ {w = w32} {z = c16 .before .args .x .shunt} (record { sfits = c8 .struct-told2 .given .1 .0 .1 }) in
+    rw (c .latch-next5 .ensures, c1 .latch-next4 .ensures, c2 .latch-next3 .ensures, c3 .latch-next2 .ensures, c4 .latch-next .ensures, c7 .shunt-above2 .ensures, c9 .ocd-level .ensures, c10 .shunt-above .ensures, c12 .scd-level .ensures, c13 .has-stood2 .ensures, c14 .ocd-delay .ensures, c15 .has-stood .ensures, c16 .scd-delay .ensures, back)
+
+pub latches-next-spec : {M : Type 1} → statement M
+latches-next-spec =
+    tie.close
+    (tie.spec
+    scd-delay-requires
+    has-stood-requires
+    ocd-delay-requires
+    has-stood-requires-2
+    scd-level-requires
+    shunt-above-requires
+    ocd-level-requires
+    shunt-above-requires-2
+    latch-next-requires
+    latch-next-requires-2
+    latch-next-requires-3
+    latch-next-requires-4
+    latch-next-requires-5
+    returns)

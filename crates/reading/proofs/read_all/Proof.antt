@@ -1,0 +1,23 @@
+-- `read_all`: each part of the reading by its own function.
+-- Assumes nothing.
+use borrow.Author.Needs.{needs}
+use Rattle.reading.specs.Reading.{packOf, readOf}
+use Rattle.reading.proofs.read_all.Statement.{statement}
+use Rattle.reading.proofs.read_all.Tie as tie
+
+line-up-requires : tie.Need-line-up-requires
+line-up-requires c κs = search needs
+
+pack-on-requires : tie.Need-pack-on-requires
+pack-on-requires c κs = search needs
+
+first-flagged-requires : tie.Need-first-flagged-requires
+first-flagged-requires c κs = search needs
+
+returns : tie.Need-returns
+unfolding readOf packOf
+returns c = rw (c .first-flagged .ensures, c .before .pack-on .ensures, c .before .before .line-up .ensures)
+
+pub read-all-spec : {M : Type 1} → statement M
+read-all-spec =
+    tie.close (tie.spec line-up-requires pack-on-requires first-flagged-requires returns)
