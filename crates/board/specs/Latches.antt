@@ -23,6 +23,10 @@ latches on = record { scd = on SCD; ocd = on OCD; ov = on OV; uv = on UV; ot = o
 abbrev pub latchNext : Bool → Bool → Bool → Bool
 latchNext latched stands letsGo = cond latched (not letsGo) stands
 
+-- a board has a latch
+abbrev pub anyLatch : Latches → Bool
+anyLatch t = t .scd || t .ocd || t .ov || t .uv || t .ot
+
 -- CHG is on exactly when OV, OCD, SCD and overtemperature are all unlatched
 abbrev pub chgOn : Latches → Bool
 chgOn t = not (t .ov || t .ocd || t .scd || t .ot)

@@ -1,3 +1,4 @@
 pub mod Shunt
 pub mod Latches
 pub mod Sample
+pub mod Marked

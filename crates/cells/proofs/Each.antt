@@ -20,6 +20,9 @@ module _ {A : Type 0} (f : ℕ → A) where
   each-at i (suc n) zero d p = ap f (omega arith)
   each-at i (suc n) (suc k) d p = each-at (suc i) n k d (le-of-suc-le-suc p) ∙ ap f (omega arith)
 
+  pub each-place : (n k : ℕ) (d : A) → k < n → getD (each 0 n f) k d ≡ f k
+  each-place n k d p = each-at 0 n k d p ∙ ap f (omega arith)
+
   -- the places from i up to n, and none
   pub each-down : (i n : ℕ) → 0 < i → i ≤ n → each (i - 1) (n - (i - 1)) f ≡ f (i - 1) ∷ each i (n - i) f
   unfolding each

@@ -5,10 +5,24 @@ use mathlib.Core.Bool.{Bool, true, false, cond, _&&_, _||_}
 use mathlib.Core.List.{List, [], _∷_}
 use lib.Dec.{eqb}
 use Rattle.marks.specs.Marks.{bit, marks, lowest}
+use Rattle.board.specs.declared.Board.{Board}
+use Rattle.board.specs.Latches.{latchesOf, anyLatch}
+use Rattle.board.specs.Latches as boards
 use Rattle.reading.specs.declared.Summary.{Summary}
 use Rattle.reading.specs.declared.Place.{Place}
 use Rattle.reading.specs.declared.Pack.{Pack}
 use Rattle.reading.specs.declared.Whole.{Whole}
+
+-- what the reading takes from a board's record
+unfoldable pub summaryOf : Board → Summary
+summaryOf b =
+    record {
+      latched = anyLatch (latchesOf (b .latches));
+      chg = boards.chgOn (latchesOf (b .latches));
+      dsg = boards.dsgOn (latchesOf (b .latches));
+      count = b .count;
+      flags = b .flags;
+    }
 
 -- a board's fault line is up if it has a latch or the line from the next board north is up
 unfoldable pub lineUp : List Summary → Bool

@@ -2,7 +2,8 @@
 ghost use mathlib.Core.Path.{_≡_};
 ghost use Prim.Native.Nat.{min};
 ghost use lib.ListN.{take, drop};
-ghost use Rattle.reading.specs.Reading.{lineUp, packOf, firstFlagged, readOf};
+ghost use Rattle.reading.specs.Reading.{summaryOf, lineUp, packOf, firstFlagged, readOf};
+use board::Board;
 
 // What the reading takes from one board; the flagged cells as a number.
 pub struct Summary {
@@ -11,6 +12,20 @@ pub struct Summary {
     pub dsg: bool,
     pub count: u8,
     pub flags: u16,
+}
+
+// The summary of a board's record.
+pub fn summary_of(b: Board) -> Summary
+    ensures { λ r. ⌜ r ≡ summaryOf b ⌝ }
+{
+    let t = board::latches_of(b.latches);
+    Summary {
+        latched: t.scd | t.ocd | t.ov | t.uv | t.ot,
+        chg: board::chg_of(t),
+        dsg: board::dsg_of(t),
+        count: b.count,
+        flags: b.flags,
+    }
 }
 
 // A board and a cell on it, each counted from 1; or 0 and 0.

@@ -8,6 +8,9 @@ use mathlib.Core.List.{List, [], _∷_, dropLast}
 use mathlib.Core.Option.{Option, some, none}
 use lib.Dec.{ltb, leb}
 use borrow.Author.Tests.{lt-ltb, le-ltb, le-leb, lt-leb, leb-true, leb-false, ne-eqb}
+use Rattle.settings.specs.declared.Settings.{Settings}
+use Rattle.settings.specs.Faults.{Fault, delay}
+use Rattle.settings.proofs.Laws.{delay-within}
 use Rattle.runs.specs.Run.{stretch, total, lasting, run, past}
 use Rattle.runs.specs.Kept.{runCap, kept, runNext, stood}
 
@@ -20,6 +23,14 @@ kept-stood delay (some t) h = by (leb delay t) refl
     by : (b : Bool) → leb delay t ≡ b → ltb delay (min runCap (t + 1)) ≡ leb delay t
     by true e = let at : delay ≤ t = leb-true delay t e in lt-ltb delay (min runCap (t + 1)) (omega arith) ∙ sym e
     by false e = let at : t < delay = leb-false delay t e in le-ltb delay (min runCap (t + 1)) (omega arith) ∙ sym e
+
+-- and so of every fault's delay, whatever the settings
+pub stood-delay : (f : Fault) (s : Settings) (r : Option ℕ) → stood (delay f s) (kept r) ≡ past (delay f s) r
+stood-delay f s r = kept-stood (delay f s) r (omega (arith, delay-within f s))
+
+-- no fault's delay reaches the cap, with room for a run that is longer than any of them
+pub cap-beyond : (f : Fault) (s : Settings) → delay f s + 1 < runCap
+cap-beyond f s = omega (arith, delay-within f s)
 
 module _ {X : Type 0} (elapsed : X → ℕ) (holds : X → Bool) where
   grows : (x : X) (held : List X) → runNext (kept (lasting elapsed held)) true (elapsed x) ≡ kept (lasting elapsed (x ∷ held))

@@ -1,0 +1,36 @@
+-- A sample, said once over the fault; and what its answer says.
+-- Assumes nothing.
+use Prim.Native.Nat.{ℕ}
+use mathlib.Core.Path.{_≡_, refl, ap, sym, _∙_}
+use mathlib.Core.Bool.{Bool, true, false}
+use mathlib.Core.List.{List}
+use Rattle.refusal.proofs.Laws.{said-refused}
+use Rattle.settings.specs.Faults.{Fault, SCD, OCD, OV, UV, OT}
+use Rattle.board.specs.declared.Board.{Board}
+use Rattle.board.specs.declared.Readings.{Readings}
+use Rattle.board.specs.declared.Answer.{Answer}
+use Rattle.board.specs.declared.Answer.the-variants.{Sampled, Refused}
+use Rattle.board.specs.Latches.{latch, latches, latchNext, latchesOf, latchesByte}
+use Rattle.board.specs.Sample.{answerSaid, answerSaying, sweptAt, latchesAfter, latchesNext, boardNext, currentsNext, stands, letsGo}
+use Rattle.board.proofs.Packed.{latches-kept}
+
+-- an answer is determined by the number and the values that it says
+pub answer-said : (a : Answer) → answerSaying (answerSaid a) ≡ a
+answer-said (Sampled status bled) = refl
+answer-said (Refused why) = said-refused why (Sampled 0 0) Refused
+
+-- five latches by one rule: each is what the rule says of its fault
+latch-of : (f : Fault) (on : Fault → Bool) → latch f (latches on) ≡ on f
+latch-of SCD on = refl
+latch-of OCD on = refl
+latch-of OV on = refl
+latch-of UV on = refl
+latch-of OT on = refl
+
+-- at an accepted sample an unlatched fault latches exactly if its condition has stood its delay, and a latched one unlatches exactly if it lets go
+pub latch-after : (f : Fault) (b : Board) (x : Readings) (mv : List ℕ)
+    → latch f (latchesOf (boardNext b x mv .latches))
+    ≡ latchNext (latch f (latchesOf (b .latches))) (stands (b .working) (sweptAt b x mv) (currentsNext (b .working) (b .currents) x) x f)
+    (letsGo (b .working) (sweptAt b x mv) (currentsNext (b .working) (b .currents) x) x f)
+unfolding boardNext latchesNext
+latch-after f b x mv = rw (latches-kept (latchesAfter b x mv), latch-of f)
