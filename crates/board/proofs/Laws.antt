@@ -10,9 +10,9 @@ use Rattle.board.specs.declared.Board.{Board}
 use Rattle.board.specs.declared.Readings.{Readings}
 use Rattle.board.specs.declared.Answer.{Answer}
 use Rattle.board.specs.declared.Answer.the-variants.{Sampled, Refused}
-use Rattle.board.specs.Latches.{latch, latches, latchNext, latchesOf, latchesByte}
+use Rattle.latches.specs.Latches.{latch, latches, latchNext, latchesOf, latchesByte}
 use Rattle.board.specs.Sample.{answerSaid, answerSaying, sweptAt, latchesAfter, latchesNext, boardNext, currentsNext, stands, letsGo}
-use Rattle.board.proofs.Packed.{latches-kept}
+use Rattle.latches.proofs.Packed.{latches-kept}
 
 -- an answer is determined by the number and the values that it says
 pub answer-said : (a : Answer) → answerSaying (answerSaid a) ≡ a

@@ -1,4 +1,3 @@
 pub mod Shunt
-pub mod Latches
 pub mod Sample
 pub mod Marked

@@ -17,7 +17,7 @@ use Rattle.cells.specs.Bleed.{bled}
 use Rattle.cells.specs.Cells.{cellNext, sweepOf, readable}
 use Rattle.board.specs.declared.Board.{Board}
 use Rattle.board.specs.Shunt.{shuntAbove}
-use Rattle.board.specs.Latches.{latch, latchesOf, latchesByte, register0}
+use Rattle.latches.specs.Latches.{latch, latchesOf, latchesByte, register0}
 use Rattle.board.specs.Sample.{fresh, sampleOf, boardNext, currentsNext, latchesNext}
 
 -- a case: its number, what the definitions give, and what the paper says

@@ -15,13 +15,13 @@ use Rattle.cells.specs.declared.Swept.{Swept}
 use Rattle.cells.specs.Cells.{sweepOf, noCells, readable}
 use Rattle.board.specs.declared.Board.{Board}
 use Rattle.board.specs.declared.Currents.{Currents}
-use Rattle.board.specs.declared.Latches.{Latches}
+use Rattle.latches.specs.declared.Latches.{Latches}
 use Rattle.board.specs.declared.Readings.{Readings}
 use Rattle.board.specs.declared.Answer.{Answer}
 use Rattle.board.specs.declared.Answer.the-variants.{Sampled, Refused}
 use Rattle.board.specs.declared.Stepped.{Stepped}
 use Rattle.board.specs.Shunt.{shuntAbove, shuntOutside}
-use Rattle.board.specs.Latches.{latch, latches, latchNext, latchesOf, latchesByte, register0}
+use Rattle.latches.specs.Latches.{latch, latches, latchNext, latchesOf, latchesByte, register0}
 
 -- a board starts from the factory settings, with no latch, no flagged cell, no cycle spent, staged equal to working
 unfoldable pub fresh : ℕ → Board

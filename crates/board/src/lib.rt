@@ -1,12 +1,10 @@
 // One board by value: its record, and a sample of it (01, The stack and its readings; When a fault latches and lets go).
 ghost use mathlib.Core.Path.{_≡_};
-ghost use Prim.Native.Nat.{_≤_};
-ghost use Rattle.marks.specs.Marks.{bit};
 ghost use Rattle.board.specs.Shunt.{shuntAbove, shuntOutside};
-ghost use Rattle.board.specs.Latches.{latchNext, latchesOf, latchesByte, chgOn, dsgOn, register0};
 ghost use Rattle.board.specs.Sample.{fresh, currentsNext, latchesNext, acceptedOf, outOfRange, sampleOf};
 use cells::Cell;
 use cells::Swept;
+use latches::Latches;
 use refusal::Refusal;
 use settings::Settings;
 
@@ -46,15 +44,6 @@ pub struct Stepped {
     pub answer: Answer,
 }
 
-// Which faults are latched.
-pub struct Latches {
-    pub scd: bool,
-    pub ocd: bool,
-    pub ov: bool,
-    pub uv: bool,
-    pub ot: bool,
-}
-
 // A board as it starts.
 pub fn fresh_board(count: u8) -> Board
     ensures { λ r. ⌜ r ≡ fresh count ⌝ }
@@ -91,56 +80,6 @@ fn shunt_outside(shunt: i32) -> bool
     (shunt < -500000) | (500000 < shunt)
 }
 
-pub fn latches_of(byte: u8) -> Latches
-    ensures { λ r. ⌜ r ≡ latchesOf byte ⌝ }
-{
-    Latches {
-        scd: byte / 1 % 2 == 1,
-        ocd: byte / 2 % 2 == 1,
-        ov: byte / 4 % 2 == 1,
-        uv: byte / 8 % 2 == 1,
-        ot: byte / 16 % 2 == 1,
-    }
-}
-
-pub fn chg_of(t: Latches) -> bool
-    ensures { λ r. ⌜ r ≡ chgOn t ⌝ }
-{
-    !(t.ov | t.ocd | t.scd | t.ot)
-}
-
-pub fn dsg_of(t: Latches) -> bool
-    ensures { λ r. ⌜ r ≡ dsgOn t ⌝ }
-{
-    !(t.uv | t.ocd | t.scd | t.ot)
-}
-
-fn bit_of(b: bool) -> u8
-    ensures { λ r. ⌜ (r ≡ bit b) × (r ≤ 1) ⌝ }
-{
-    if b { 1 } else { 0 }
-}
-
-// The five latches as the low bits of register 0.
-fn byte_of(t: Latches) -> u8
-    ensures { λ r. ⌜ r ≡ latchesByte t ⌝ }
-{
-    bit_of(t.scd) + 2 * bit_of(t.ocd) + 4 * bit_of(t.ov) + 8 * bit_of(t.uv) + 16 * bit_of(t.ot)
-}
-
-// Register 0: the latches, then DSG and CHG.
-pub fn status_of(t: Latches) -> u8
-    ensures { λ r. ⌜ r ≡ register0 t ⌝ }
-{
-    byte_of(t) + 64 * bit_of(dsg_of(t)) + 128 * bit_of(chg_of(t))
-}
-
-fn latch_next(latched: bool, stands: bool, lets_go: bool) -> bool
-    ensures { λ r. ⌜ r ≡ latchNext latched stands «lets_go» ⌝ }
-{
-    if latched { !lets_go } else { stands }
-}
-
 fn currents_next(s: Settings, runs: Currents, x: Readings) -> Currents
     ensures { λ r. ⌜ r ≡ currentsNext s runs x ⌝ }
 {
@@ -160,11 +99,11 @@ fn latches_next(s: Settings, swept: Swept, runs: Currents, x: Readings, old: Lat
     let attached = x.load == 1;
     let hot = x.thermistor < 975;
     Latches {
-        scd: latch_next(old.scd, scd_stood, !attached & !over_scd),
-        ocd: latch_next(old.ocd, ocd_stood, !attached & !over_ocd),
-        ov: latch_next(old.ov, swept.ov_stood, swept.ov_lets_go),
-        uv: latch_next(old.uv, swept.uv_stood, swept.uv_lets_go),
-        ot: latch_next(old.ot, hot, !hot),
+        scd: latches::latch_next(old.scd, scd_stood, !attached & !over_scd),
+        ocd: latches::latch_next(old.ocd, ocd_stood, !attached & !over_ocd),
+        ov: latches::latch_next(old.ov, swept.ov_stood, swept.ov_lets_go),
+        uv: latches::latch_next(old.uv, swept.uv_stood, swept.uv_lets_go),
+        ot: latches::latch_next(old.ot, hot, !hot),
     }
 }
 
@@ -175,17 +114,23 @@ fn accept(b: Board, x: Readings, mv: &[u32]) -> Stepped
     let old = b.cells;
     let swept = cells::sweep(b.working, x.elapsed, old, b.flags, mv);
     let currents = currents_next(b.working, b.currents, x);
-    let latches = latches_next(b.working, swept, currents, x, latches_of(b.latches));
+    let latches = latches_next(
+        b.working,
+        swept,
+        currents,
+        x,
+        latches::latches_of(b.latches),
+    );
     let cells = swept.cells;
     let mut next = b;
-    next.latches = byte_of(latches);
+    next.latches = latches::byte_of(latches);
     next.flags = swept.flags;
     next.currents = currents;
     next.cells = cells;
     Stepped {
         board: next,
         answer: Answer::Sampled {
-            status: status_of(latches),
+            status: latches::status_of(latches),
             bled: swept.bled,
         },
     }

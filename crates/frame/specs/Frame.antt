@@ -5,6 +5,8 @@ use mathlib.Core.Bool.{Bool, cond, not}
 use mathlib.Core.List.{List, [], _∷_}
 use lib.Dec.{ltb, eqb}
 use lib.ListN.{length, getD}
+use Rattle.refusal.specs.declared.Refusal.{Refusal}
+use Rattle.refusal.specs.declared.Refusal.the-variants.{Malformed}
 use Rattle.refusal.specs.Refusals.{numberOf, numbered}
 use Rattle.refusal.specs.Said.{Said, refuses, accepts, value, Bar, bar, first, judged}
 use Rattle.frame.specs.declared.Taken.{Taken}
@@ -41,3 +43,8 @@ partsSaying s = cond (eqb (s .number) 0) (Parts (value 0 s) (value 1 s) (value 2
 
 unfoldable pub takenApart : List ℕ → ℕ → Taken
 takenApart frame room = partsSaying (judged (frameBars frame room) (byte frame 0 ∷ byte frame 1 ∷ byte frame 2 ∷ []))
+
+-- why a frame was refused; one that was taken apart has no refusal, and Malformed, which no frame is given, stands for that
+abbrev pub whyOf : Taken → Refusal
+whyOf (Parts address register v) = Malformed
+whyOf (Refused why) = why

@@ -2,7 +2,7 @@
 ghost use mathlib.Core.Path.{_≡_};
 ghost use mathlib.Core.List.{[], _∷_};
 ghost use Rattle.frame.specs.Check.{shifted, checked, checkOf};
-ghost use Rattle.frame.specs.Frame.{takenApart};
+ghost use Rattle.frame.specs.Frame.{takenApart, whyOf};
 ghost use Rattle.frame.specs.Reply.{putOf};
 use refusal::Refusal;
 
@@ -70,6 +70,16 @@ pub fn take_apart(frame: &[u8], room: usize) -> Taken
         address: address,
         register: register,
         value: value,
+    }
+}
+
+// Why a frame was refused; for one that was taken apart, the refusal that no frame is given.
+pub fn why(taken: Taken) -> Refusal
+    ensures { λ o. ⌜ o ≡ whyOf taken ⌝ }
+{
+    match taken {
+        Taken::Parts { .. } => Refusal::Malformed,
+        Taken::Refused(why) => why,
     }
 }
 

@@ -6,8 +6,8 @@ use mathlib.Core.List.{List, [], _∷_}
 use lib.Dec.{eqb}
 use Rattle.marks.specs.Marks.{bit, marks, lowest}
 use Rattle.board.specs.declared.Board.{Board}
-use Rattle.board.specs.Latches.{latchesOf, anyLatch}
-use Rattle.board.specs.Latches as boards
+use Rattle.latches.specs.Latches.{latchesOf, anyLatch}
+use Rattle.latches.specs.Latches as boards
 use Rattle.reading.specs.declared.Summary.{Summary}
 use Rattle.reading.specs.declared.Place.{Place}
 use Rattle.reading.specs.declared.Pack.{Pack}

@@ -18,11 +18,11 @@ pub struct Summary {
 pub fn summary_of(b: Board) -> Summary
     ensures { λ r. ⌜ r ≡ summaryOf b ⌝ }
 {
-    let t = board::latches_of(b.latches);
+    let t = latches::latches_of(b.latches);
     Summary {
         latched: t.scd | t.ocd | t.ov | t.uv | t.ot,
-        chg: board::chg_of(t),
-        dsg: board::dsg_of(t),
+        chg: latches::chg_of(t),
+        dsg: latches::dsg_of(t),
         count: b.count,
         flags: b.flags,
     }

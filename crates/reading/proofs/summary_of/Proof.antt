@@ -14,7 +14,7 @@ dsg-of-requires c κs = search needs
 
 returns : tie.Need-returns
 unfolding summaryOf
-returns c = rw (c .dsg-of .ensures, c .before .chg-of .ensures, c .before .before .latches-of .ensures)
+returns c = rw (c .dsg-of .ensures, c .before .chg-of .ensures, c .before .before .before .before .before .before .latches-of .ensures)
 
 pub summary-of-spec : {M : Type 1} → statement M
 summary-of-spec = tie.close (tie.spec latches-of-requires chg-of-requires dsg-of-requires returns)

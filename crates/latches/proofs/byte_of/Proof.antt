@@ -1,7 +1,7 @@
-use Rattle.board.proofs.Packed.{byte-sum}
+use Rattle.latches.proofs.Packed.{byte-sum}
 use borrow.Author.Needs.{needs}
-use Rattle.board.proofs.byte_of.Statement.{statement}
-use Rattle.board.proofs.byte_of.Tie as tie
+use Rattle.latches.proofs.byte_of.Statement.{statement}
+use Rattle.latches.proofs.byte_of.Tie as tie
 
 bit-of-requires : tie.Need-bit-of-requires
 bit-of-requires c κs = search needs

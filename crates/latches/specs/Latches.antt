@@ -5,7 +5,7 @@ use mathlib.Core.Bool.{Bool, true, false, cond, not, _||_}
 use mathlib.Core.List.{List, [], _∷_}
 use Rattle.settings.specs.Faults.{Fault, SCD, OCD, OV, UV, OT}
 use Rattle.marks.specs.Marks.{number, marked}
-use Rattle.board.specs.declared.Latches.{Latches}
+use Rattle.latches.specs.declared.Latches.{Latches}
 
 -- one latch
 abbrev pub latch : Fault → Latches → Bool

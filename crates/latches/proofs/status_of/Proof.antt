@@ -1,8 +1,8 @@
 use native.Mathlib.Omega.{arith}
-use Rattle.board.proofs.Packed.{byte-below, register0-sum}
+use Rattle.latches.proofs.Packed.{byte-below, register0-sum}
 use borrow.Author.Needs.{needs}
-use Rattle.board.proofs.status_of.Statement.{statement}
-use Rattle.board.proofs.status_of.Tie as tie
+use Rattle.latches.proofs.status_of.Statement.{statement}
+use Rattle.latches.proofs.status_of.Tie as tie
 
 byte-of-requires : tie.Need-byte-of-requires
 byte-of-requires c κs = search needs

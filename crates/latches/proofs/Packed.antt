@@ -7,8 +7,8 @@ use mathlib.Core.Bool.{Bool, true, false}
 use mathlib.Core.List.{List, [], _∷_}
 use Rattle.marks.specs.Marks.{bit, number}
 use Rattle.marks.proofs.Laws.{number-below, number-at}
-use Rattle.board.specs.declared.Latches.{Latches}
-use Rattle.board.specs.Latches.{chgOn, dsgOn, register0, latchesByte, latchesOf}
+use Rattle.latches.specs.declared.Latches.{Latches}
+use Rattle.latches.specs.Latches.{chgOn, dsgOn, register0, latchesByte, latchesOf}
 
 pub byte-below : (t : Latches) → latchesByte t < 32
 unfolding latchesByte

@@ -1,0 +1,64 @@
+// The latches of the five faults, the switches, and register 0 (01, Frames and registers; When a fault latches and lets go).
+ghost use mathlib.Core.Path.{_≡_};
+ghost use Prim.Native.Nat.{_≤_};
+ghost use Rattle.marks.specs.Marks.{bit};
+ghost use Rattle.latches.specs.Latches.{latchNext, latchesOf, latchesByte, anyLatch, chgOn, dsgOn, register0};
+
+// Which faults are latched.
+pub struct Latches {
+    pub scd: bool,
+    pub ocd: bool,
+    pub ov: bool,
+    pub uv: bool,
+    pub ot: bool,
+}
+
+pub fn latches_of(byte: u8) -> Latches
+    ensures { λ r. ⌜ r ≡ latchesOf byte ⌝ }
+{
+    Latches {
+        scd: byte / 1 % 2 == 1,
+        ocd: byte / 2 % 2 == 1,
+        ov: byte / 4 % 2 == 1,
+        uv: byte / 8 % 2 == 1,
+        ot: byte / 16 % 2 == 1,
+    }
+}
+
+pub fn chg_of(t: Latches) -> bool
+    ensures { λ r. ⌜ r ≡ chgOn t ⌝ }
+{
+    !(t.ov | t.ocd | t.scd | t.ot)
+}
+
+pub fn dsg_of(t: Latches) -> bool
+    ensures { λ r. ⌜ r ≡ dsgOn t ⌝ }
+{
+    !(t.uv | t.ocd | t.scd | t.ot)
+}
+
+fn bit_of(b: bool) -> u8
+    ensures { λ r. ⌜ (r ≡ bit b) × (r ≤ 1) ⌝ }
+{
+    if b { 1 } else { 0 }
+}
+
+// The five latches as the low bits of register 0.
+pub fn byte_of(t: Latches) -> u8
+    ensures { λ r. ⌜ r ≡ latchesByte t ⌝ }
+{
+    bit_of(t.scd) + 2 * bit_of(t.ocd) + 4 * bit_of(t.ov) + 8 * bit_of(t.uv) + 16 * bit_of(t.ot)
+}
+
+// Register 0: the latches, then DSG and CHG.
+pub fn status_of(t: Latches) -> u8
+    ensures { λ r. ⌜ r ≡ register0 t ⌝ }
+{
+    byte_of(t) + 64 * bit_of(dsg_of(t)) + 128 * bit_of(chg_of(t))
+}
+
+pub fn latch_next(latched: bool, stands: bool, lets_go: bool) -> bool
+    ensures { λ r. ⌜ r ≡ latchNext latched stands «lets_go» ⌝ }
+{
+    if latched { !lets_go } else { stands }
+}
