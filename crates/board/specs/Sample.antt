@@ -117,14 +117,21 @@ outside low high n = ltb n low || ltb high n
 abbrev pub outOfRange : Readings → List ℕ → Bool
 outOfRange x mv = not (readable mv) || ltb 5000 (x .thermistor) || shuntOutside (x .shunt) || ltb 1 (x .load)
 
--- refusals 1, 3, 4, 5 in order; 2 is for a stack
-abbrev pub sampleBars : Board → Readings → List ℕ → List Bar
-sampleBars b x mv =
-    bar 1 (outside 5 10 (b .count))
-    ∷ bar 3 (not (eqb (length mv) (b .count)))
+-- a board without 5 to 10 cells
+abbrev pub badBoard : Board → Bool
+badBoard b = outside 5 10 (b .count)
+
+-- refusals 3, 4, 5 in order
+abbrev pub readingBars : Board → Readings → List ℕ → List Bar
+readingBars b x mv =
+    bar 3 (not (eqb (length mv) (b .count)))
     ∷ bar 4 (outside 1 100000 (x .elapsed))
     ∷ bar 5 (outOfRange x mv)
     ∷ []
+
+-- of one record: 1 before them
+abbrev pub sampleBars : Board → Readings → List ℕ → List Bar
+sampleBars b x mv = bar 1 (badBoard b) ∷ readingBars b x mv
 
 -- a sample's answer, and the board after it: at a refusal the board that was handed in
 unfoldable pub sampleOf : Board → Readings → List ℕ → Stepped

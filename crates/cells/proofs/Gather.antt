@@ -15,7 +15,7 @@ use Rattle.runs.specs.Kept.{stood}
 use Rattle.marks.specs.Marks.{number, marked}
 use Rattle.marks.proofs.Laws.{number-below}
 use Rattle.cells.specs.declared.Cell.{Cell}
-use Rattle.cells.specs.Each.{each, some, every}
+use Rattle.cells.specs.Each.{each, some, all}
 use Rattle.cells.specs.Bleed.{bled, markNext, bleedNext}
 use Rattle.cells.specs.Cells.{flagNext, readingAt, cellCount, nextAt, ovStoodAt, uvStoodAt, flaggedAt, sweepOf}
 use Rattle.cells.proofs.Each.{each-length, each-down, each-none, set-front}
@@ -31,9 +31,9 @@ module _ (s : Settings) (elapsed : ℕ) (cells : List Cell) (flags : ℕ) (mv : 
     pub in-flags : flagged ≡ number (each i (n - i) (flaggedAt s elapsed cells flags mv))
     pub in-bled : bleeds ≡ number (bled (each i (n - i) (flaggedAt s elapsed cells flags mv)))
     pub in-ov : ovStood ≡ some (each i (n - i) (ovStoodAt s elapsed cells flags mv))
-    pub in-ov-lets : ovLets ≡ every (each i (n - i) (λ k. ltb (readingAt mv k) (ovRelease s)))
+    pub in-ov-lets : ovLets ≡ all (each i (n - i) (λ k. ltb (readingAt mv k) (ovRelease s)))
     pub in-uv : uvStood ≡ some (each i (n - i) (uvStoodAt s elapsed cells flags mv))
-    pub in-uv-lets : uvLets ≡ every (each i (n - i) (λ k. ltb (uvRelease s) (readingAt mv k)))
+    pub in-uv-lets : uvLets ≡ all (each i (n - i) (λ k. ltb (uvRelease s) (readingAt mv k)))
 
   -- nothing yet
   pub nothing : n ≤ length cells → Gathered n cells 0 0 false true false true

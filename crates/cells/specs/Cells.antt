@@ -1,17 +1,18 @@
 -- The cells of one board at a sample (01, When a fault latches and lets go; Bleeding).
 -- Assumes nothing.
 use Prim.Native.Nat.{ℕ, min}
-use mathlib.Core.Bool.{Bool, true, not, _&&_, _||_}
+use mathlib.Core.Bool.{Bool, not, _&&_, _||_}
 use mathlib.Core.List.{List, [], _∷_, _++_}
 use lib.Dec.{ltb, leb}
 use lib.ListN.{length, getD, drop, replicate}
+use Rattle.lists.specs.Every.{every}
 use Rattle.settings.specs.declared.Settings.{Settings}
 use Rattle.settings.specs.Levels.{ovLevel, ovRelease, ovDelay, uvLevel, uvRelease, uvDelay}
 use Rattle.runs.specs.Kept.{runNext, stood}
 use Rattle.marks.specs.Marks.{number, marked}
 use Rattle.cells.specs.declared.Cell.{Cell}
 use Rattle.cells.specs.declared.Swept.{Swept}
-use Rattle.cells.specs.Each.{each, some, every}
+use Rattle.cells.specs.Each.{each, some, all}
 use Rattle.cells.specs.Bleed.{bled}
 
 -- OV is a cell above its level, UV a cell below its level; a cell keeps a run of each
@@ -61,9 +62,9 @@ module _ (s : Settings) (elapsed : ℕ) (cells : List Cell) (flags : ℕ) (mv : 
         flags = number (each 0 (cellCount mv) flaggedAt);
         bled = number (bled (each 0 (cellCount mv) flaggedAt));
         «ov_stood» = some (each 0 (cellCount mv) ovStoodAt);
-        «ov_lets_go» = every (each 0 (cellCount mv) (λ k. ltb (readingAt mv k) (ovRelease s)));
+        «ov_lets_go» = all (each 0 (cellCount mv) (λ k. ltb (readingAt mv k) (ovRelease s)));
         «uv_stood» = some (each 0 (cellCount mv) uvStoodAt);
-        «uv_lets_go» = every (each 0 (cellCount mv) (λ k. ltb (uvRelease s) (readingAt mv k)));
+        «uv_lets_go» = all (each 0 (cellCount mv) (λ k. ltb (uvRelease s) (readingAt mv k)));
       }
 
 -- no run and no flag: a board at its start; and a cycle that is spent starts every run over
@@ -71,6 +72,5 @@ abbrev pub noCells : List Cell
 noCells = replicate 10 (record { ov = 0; uv = 0 })
 
 -- no cell reads above 5,000 mV
-unfoldable pub readable : List ℕ → Bool
-readable [] = true
-readable (v ∷ mv) = leb v 5000 && readable mv
+abbrev pub readable : List ℕ → Bool
+readable mv = every (λ v. leb v 5000) mv

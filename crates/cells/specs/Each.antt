@@ -13,6 +13,6 @@ abbrev pub some : List Bool → Bool
 some [] = false
 some (b ∷ bs) = b || some bs
 
-abbrev pub every : List Bool → Bool
-every [] = true
-every (b ∷ bs) = b && every bs
+abbrev pub all : List Bool → Bool
+all [] = true
+all (b ∷ bs) = b && all bs

@@ -1,6 +1,7 @@
+use lib.Dec.{leb}
 use native.Mathlib.Omega.{arith}
 use mathlib.Core.Path.{refl}
-use Rattle.cells.proofs.Readings.{readable-turn, readable-all}
+use Rattle.lists.proofs.Every.{every-turn, every-done}
 use Prim.Native.Nat.{_≤_, _-_}
 use mathlib.Core.Path.{_≡_, sym, _∙_}
 use mathlib.Core.Bool.{_&&_}
@@ -34,12 +35,12 @@ loop-less c = search needs
 loop-again : tie.Need-loop-again Inv-loop μ-loop
 loop-again c =
     let h = c .before .before in
-    (search needs, readable-turn (h .before .args .mv .now) (h .loop .i) (h .loop .good) (h .loop .inv .1) (omega arith))
+    (search needs, every-turn (λ v. leb v 5000) (h .before .args .mv .now) (h .loop .i) 0 (h .loop .good) (h .loop .inv .1) (omega arith))
 
 returns : tie.Need-returns Inv-loop μ-loop
 returns c =
     let h = c .before in
-    readable-all (h .before .args .mv .now) (h .loop .i) (h .loop .good) (h .loop .inv .1) (omega arith)
+    every-done (λ v. leb v 5000) (h .before .args .mv .now) (h .loop .i) (h .loop .good) (h .loop .inv .1) (omega arith)
 
 pub all-readable-spec : {M : Type 1} → statement M
 all-readable-spec =

@@ -1,0 +1,5 @@
+pub mod Row
+pub mod Open
+pub mod Sample
+pub mod Frame
+pub mod Read

@@ -1,0 +1,334 @@
+// The public library: a stack as one row of board records, lent to each routine (01, The stack and its readings).
+// Every routine over lent records is one of the shapes of crate walks, and calls proved work on plain values.
+ghost use mathlib.Core.Path.{_≡_};
+ghost use mathlib.Core.Bool.{true};
+ghost use Prim.Native.Nat.{_≤_};
+ghost use lib.ListN.{length};
+ghost use Rattle.board.specs.Sample.{sampleOf, badBoard};
+ghost use Rattle.registers.specs.Registers.{obeyedOf};
+ghost use Rattle.stack.specs.Row.{badCount, goodRow, placeOf};
+ghost use Rattle.stack.specs.Open.{goodCounts, freshRow, noStack, openOf};
+ghost use Rattle.stack.specs.Sample.{sampleAnswerAt, sampleRowAt, sampleAnswer, sampleRow, noSample, noRowSample};
+ghost use Rattle.stack.specs.Frame.{takenPlace, obeyAnswerAt, obeyRowAt, obeyAnswer, obeyRow, frameAnswer, frameRow, frameBuffer, noReply, noRowReply};
+ghost use Rattle.stack.specs.Read.{blank, noted, scanOf, lookOf, viewOf, readingOf, noRowView};
+use board::Answer;
+use board::Board;
+use board::Readings;
+use frame::Reply;
+use frame::Taken;
+use reading::Summary;
+use reading::Whole;
+use refusal::Refusal;
+
+pub enum Opening {
+    Opened,
+    Refused(Refusal),
+}
+
+// A stack by value: its boards, of which the first so many are its own.
+pub struct Stack {
+    pub boards: [Board; 16],
+    pub count: usize,
+}
+
+pub struct Start {
+    pub stack: Stack,
+    pub answer: Opening,
+}
+
+pub enum View {
+    Read(Whole),
+    Refused(Refusal),
+}
+
+// The summaries of a row's boards.
+pub struct Scan {
+    pub boards: [Summary; 16],
+    pub count: usize,
+}
+
+// ---- which row is good, and where a board is
+
+fn bad_count(boards: usize) -> bool
+    ensures { λ r. ⌜ r ≡ badCount boards ⌝ }
+{
+    (boards < 1) | (16 < boards)
+}
+
+fn bad_board(b: Board) -> bool
+    ensures { λ r. ⌜ r ≡ badBoard b ⌝ }
+{
+    (b.count < 5) | (10 < b.count)
+}
+
+fn good_row(row: &[Board]) -> bool
+    ensures { λ r. ⌜ r ≡ goodRow (now (row .entry)) ⌝ }
+{
+    if bad_count(row.len()) {
+        return false;
+    }
+    let mut i = 0;
+    while i < row.len() {
+        if bad_board(row[i]) {
+            return false;
+        }
+        i += 1;
+    }
+    true
+}
+
+// A row has 16 boards at most, so board 0 is sent past its end.
+fn place_of(board: u32) -> usize
+    ensures { λ r. ⌜ r ≡ placeOf board ⌝ }
+{
+    if board == 0 { 16 } else { (board - 1) as usize }
+}
+
+// ---- the opening
+
+fn good_counts(counts: &[u32]) -> bool
+    ensures { λ r. ⌜ r ≡ goodCounts (now (counts .entry)) ⌝ }
+{
+    let mut good = true;
+    let mut i = 0;
+    while i < counts.len() {
+        good = good & (5 <= counts[i]) & (counts[i] <= 10);
+        i += 1;
+    }
+    good
+}
+
+// The boards of a row that was found good, and records of no board up to 16.
+fn fresh_row(counts: &[u32]) -> [Board; 16]
+    requires { ⌜ (goodCounts (now counts) ≡ true) × (length (now counts) ≤ 16) ⌝ }
+    ensures { λ r. ⌜ r ≡ freshRow (now (counts .entry)) ⌝ }
+{
+    let none = board::fresh_board(0);
+    let mut boards = [none; 16];
+    let mut i = 0;
+    while i < counts.len() {
+        boards[i] = board::fresh_board(counts[i] as u8);
+        i += 1;
+    }
+    boards
+}
+
+fn no_stack() -> Stack
+    ensures { λ r. ⌜ r ≡ noStack ⌝ }
+{
+    let none = board::fresh_board(0);
+    let boards = [none; 16];
+    Stack {
+        boards: boards,
+        count: 0,
+    }
+}
+
+// The cell count of each board, southernmost first, gives the stack.
+pub fn open_stack(counts: &[u32]) -> Start
+    ensures { λ r. ⌜ r ≡ openOf (now (counts .entry)) ⌝ }
+{
+    let n = counts.len();
+    if bad_count(n) {
+        return Start {
+            stack: no_stack(),
+            answer: Opening::Refused(Refusal::BadRow),
+        };
+    }
+    if good_counts(counts) {
+        let boards = fresh_row(counts);
+        let stack = Stack {
+            boards: boards,
+            count: n,
+        };
+        return Start {
+            stack: stack,
+            answer: Opening::Opened,
+        };
+    }
+    Start {
+        stack: no_stack(),
+        answer: Opening::Refused(Refusal::BadRow),
+    }
+}
+
+// ---- a sample
+
+pub fn sample_board(b: &mut Board, x: Readings, mv: &[u32]) -> Answer
+    ensures { λ r. ⌜ (r ≡ sampleOf (now (b .entry)) x (now (mv .entry)) .answer) × (now (b .exit) ≡ sampleOf (now (b .entry)) x (now (mv .entry)) .board) ⌝ }
+{
+    let s = board::sample(*b, x, mv);
+    *b = s.board;
+    s.answer
+}
+
+fn no_sample() -> Answer
+    ensures { λ r. ⌜ r ≡ noSample ⌝ }
+{
+    Answer::Refused(Refusal::NoBoard)
+}
+
+fn no_row_sample() -> Answer
+    ensures { λ r. ⌜ r ≡ noRowSample ⌝ }
+{
+    Answer::Refused(Refusal::BadRow)
+}
+
+fn sample_at(row: &mut [Board], board: u32, x: Readings, mv: &[u32]) -> Answer
+    ensures { λ r. ⌜ (r ≡ sampleAnswerAt (now (row .entry)) board x (now (mv .entry))) × (now (row .exit) ≡ sampleRowAt (now (row .entry)) board x (now (mv .entry))) ⌝ }
+{
+    let at = place_of(board);
+    if at < row.len() {
+        return sample_board(&mut row[at], x, mv);
+    }
+    no_sample()
+}
+
+// A sample of one board of the row.
+pub fn sample_stack(row: &mut [Board], board: u32, x: Readings, mv: &[u32]) -> Answer
+    ensures { λ r. ⌜ (r ≡ sampleAnswer (now (row .entry)) board x (now (mv .entry))) × (now (row .exit) ≡ sampleRow (now (row .entry)) board x (now (mv .entry))) ⌝ }
+{
+    if good_row(row) {
+        return sample_at(row, board, x, mv);
+    }
+    no_row_sample()
+}
+
+// ---- a frame
+
+fn obey_board(b: &mut Board, taken: Taken) -> Reply
+    ensures { λ r. ⌜ (r ≡ obeyedOf (now (b .entry)) taken .answer) × (now (b .exit) ≡ obeyedOf (now (b .entry)) taken .board) ⌝ }
+{
+    let s = registers::obey(*b, taken);
+    *b = s.board;
+    s.answer
+}
+
+// Where a frame's board is. A frame that was not taken apart changes no board, and is sent to the first.
+fn taken_place(taken: Taken) -> usize
+    ensures { λ r. ⌜ r ≡ takenPlace taken ⌝ }
+{
+    let Taken::Parts {
+        address,
+        register: _,
+        value: _,
+    } = taken
+    else {
+        return 0;
+    };
+    place_of((address / 2) as u32)
+}
+
+fn no_reply() -> Reply
+    ensures { λ r. ⌜ r ≡ noReply ⌝ }
+{
+    Reply::Refused(Refusal::NoBoard)
+}
+
+fn no_row_reply() -> Reply
+    ensures { λ r. ⌜ r ≡ noRowReply ⌝ }
+{
+    Reply::Refused(Refusal::BadRow)
+}
+
+fn obey_at(row: &mut [Board], taken: Taken) -> Reply
+    ensures { λ r. ⌜ (r ≡ obeyAnswerAt (now (row .entry)) taken) × (now (row .exit) ≡ obeyRowAt (now (row .entry)) taken) ⌝ }
+{
+    let at = taken_place(taken);
+    if at < row.len() {
+        return obey_board(&mut row[at], taken);
+    }
+    no_reply()
+}
+
+fn obey_row(row: &mut [Board], taken: Taken) -> Reply
+    ensures { λ r. ⌜ (r ≡ obeyAnswer (now (row .entry)) taken) × (now (row .exit) ≡ obeyRow (now (row .entry)) taken) ⌝ }
+{
+    if good_row(row) {
+        return obey_at(row, taken);
+    }
+    no_row_reply()
+}
+
+// A frame from the host, with its lent reply buffer.
+pub fn frame_stack(row: &mut [Board], bytes: &[u8], reply: &mut [u8]) -> Reply
+    ensures { λ r. ⌜ (r ≡ frameAnswer (now (row .entry)) (now (bytes .entry)) (now (reply .entry))) × ((now (row .exit) ≡ frameRow (now (row .entry)) (now (bytes .entry)) (now (reply .entry))) × (now (reply .exit) ≡ frameBuffer (now (row .entry)) (now (bytes .entry)) (now (reply .entry)))) ⌝ }
+{
+    let taken = frame::take_apart(bytes, reply.len());
+    let answer = obey_row(row, taken);
+    frame::put(reply, answer)
+}
+
+// ---- the whole-stack reading
+
+fn blank_scan() -> Scan
+    ensures { λ r. ⌜ r ≡ blank ⌝ }
+{
+    let none = Summary {
+        latched: false,
+        chg: false,
+        dsg: false,
+        count: 0,
+        flags: 0,
+    };
+    let boards = [none; 16];
+    Scan {
+        boards: boards,
+        count: 0,
+    }
+}
+
+// The summaries with that of one more board; a row has 16 at most.
+fn note(scan: Scan, at: usize, b: Board) -> Scan
+    ensures { λ r. ⌜ r ≡ noted scan at b ⌝ }
+{
+    if 16 <= at {
+        return scan;
+    }
+    let mut next = scan;
+    next.boards[at] = reading::summary_of(b);
+    next.count = at + 1;
+    next
+}
+
+fn scan_row(row: &[Board]) -> Scan
+    ensures { λ r. ⌜ r ≡ scanOf (now (row .entry)) ⌝ }
+{
+    let mut scan = blank_scan();
+    let mut i = 0;
+    while i < row.len() {
+        scan = note(scan, i, row[i]);
+        i += 1;
+    }
+    scan
+}
+
+fn view_of(scan: Scan) -> View
+    ensures { λ r. ⌜ r ≡ viewOf scan ⌝ }
+{
+    let boards = scan.boards;
+    View::Read(reading::read_all(boards, scan.count))
+}
+
+fn look(row: &[Board]) -> View
+    ensures { λ r. ⌜ r ≡ lookOf (now (row .entry)) ⌝ }
+{
+    let scan = scan_row(row);
+    view_of(scan)
+}
+
+fn no_row_view() -> View
+    ensures { λ r. ⌜ r ≡ noRowView ⌝ }
+{
+    View::Refused(Refusal::BadRow)
+}
+
+// The whole-stack reading.
+pub fn read_stack(row: &[Board]) -> View
+    ensures { λ r. ⌜ r ≡ readingOf (now (row .entry)) ⌝ }
+{
+    if good_row(row) {
+        return look(row);
+    }
+    no_row_view()
+}
