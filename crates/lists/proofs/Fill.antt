@@ -5,8 +5,9 @@ use native.Mathlib.Nat.{not-suc-le-zero, le-of-suc-le-suc}
 use native.Mathlib.Numerals.{add-one}
 use native.Mathlib.Omega.{arith}
 use mathlib.Core.Path.{_≡_, refl, ap, sym, _∙_}
-use mathlib.Core.List.{List, [], _∷_, _++_}
-use lib.ListN.{length, getD, take, set, replicate}
+use mathlib.Core.List.{List, [], _∷_, _++_, map}
+use lib.ListN.{length, getD, take, set, replicate, length-map, List·getD-map}
+use lib.Seq.{take-all}
 
 module _ {A : Type 0} (d : A) where
   abbrev pub filled : ℕ → List A → ℕ → List A
@@ -30,3 +31,12 @@ module _ {A : Type 0} (d : A) where
 
   pub fill-none : (n : ℕ) (xs : List A) → replicate n d ≡ filled n xs 0
   fill-none n xs = let all : n - 0 ≡ n = omega arith in rw all
+
+  -- every entry is there
+  pub fill-all : (n : ℕ) (xs : List A) (i : ℕ) → i ≡ length xs → filled n xs i ≡ xs ++ replicate (n - length xs) d
+  fill-all n xs i e = rw (e, take-all (length xs) xs (omega arith))
+
+-- the same of a list that a function makes of another
+pub fill-map : {A B : Type 0} (f : B → A) (e : B) (n : ℕ) (ys : List B) (i : ℕ) (out : List A) (v : A) → out ≡ filled (f e) n (map f ys) i → v ≡ f (getD ys i e)
+    → i < length ys → i < n → set out i v ≡ filled (f e) n (map f ys) (i + 1)
+fill-map f e n ys i out v o r p q = fill-turn (f e) n (map f ys) i out v o (r ∙ sym (List·getD-map f ys i e)) (rw (length-map ys f) p) q

@@ -1,14 +1,15 @@
 -- The opening (01, The stack and its readings; Refusal number 1).
 -- Assumes nothing.
 use Prim.Native.Nat.{ℕ, _-_}
-use mathlib.Core.Bool.{Bool, true, cond, not, _&&_, _||_}
+use mathlib.Core.Bool.{Bool, cond, not, _||_}
 use mathlib.Core.List.{List, [], _∷_, _++_, map}
-use lib.Dec.{leb, eqb}
+use lib.Dec.{eqb}
 use lib.ListN.{length, replicate}
 use Rattle.refusal.specs.Refusals.{numberOf, numbered}
 use Rattle.refusal.specs.Said.{Said, refuses, accepts, Bar, bar, judged, kept}
+use Rattle.lists.specs.Every.{every}
 use Rattle.board.specs.declared.Board.{Board}
-use Rattle.board.specs.Sample.{fresh}
+use Rattle.board.specs.Sample.{fresh, outside}
 use Rattle.stack.specs.declared.Opening.{Opening}
 use Rattle.stack.specs.declared.Opening.the-variants.{Opened, Refused}
 use Rattle.stack.specs.declared.Stack.{Stack}
@@ -16,9 +17,8 @@ use Rattle.stack.specs.declared.Start.{Start}
 use Rattle.stack.specs.Row.{badCount}
 
 -- each board has 5 to 10 cells
-unfoldable pub goodCounts : List ℕ → Bool
-goodCounts [] = true
-goodCounts (n ∷ counts) = leb 5 n && leb n 10 && goodCounts counts
+abbrev pub goodCounts : List ℕ → Bool
+goodCounts counts = every (λ n. not (outside 5 10 n)) counts
 
 abbrev pub openBars : List ℕ → List Bar
 openBars counts = bar 1 (badCount (length counts) || not (goodCounts counts)) ∷ []

@@ -1,24 +1,21 @@
 -- The row of board records: which row is good, and the board of a number (01, The stack and its readings; Refusal numbers 1, 2).
 -- Assumes nothing.
 use Prim.Native.Nat.{ℕ, _-_}
-use mathlib.Core.Bool.{Bool, true, cond, not, _&&_}
-use mathlib.Core.List.{List, [], _∷_}
+use mathlib.Core.Bool.{Bool, cond, not, _&&_}
+use mathlib.Core.List.{List}
 use lib.Dec.{eqb}
 use lib.ListN.{length, getD}
+use Rattle.lists.specs.Every.{every}
 use Rattle.board.specs.declared.Board.{Board}
 use Rattle.board.specs.Sample.{fresh, outside, badBoard}
 
--- 1 to 16 boards
+-- a number of boards that no row has
 abbrev pub badCount : ℕ → Bool
 badCount n = outside 1 16 n
 
--- each with 5 to 10 cells
-unfoldable pub allGood : List Board → Bool
-allGood [] = true
-allGood (b ∷ row) = not (badBoard b) && allGood row
-
+-- 1 to 16 boards, each with 5 to 10 cells
 unfoldable pub goodRow : List Board → Bool
-goodRow row = not (badCount (length row)) && allGood row
+goodRow row = not (badCount (length row)) && every (λ b. not (badBoard b)) row
 
 -- boards are numbered from 1, the southernmost, upward: no board of that number
 abbrev pub noBoard : List Board → ℕ → Bool

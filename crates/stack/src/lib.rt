@@ -92,7 +92,8 @@ fn good_counts(counts: &[u32]) -> bool
     let mut good = true;
     let mut i = 0;
     while i < counts.len() {
-        good = good & (5 <= counts[i]) & (counts[i] <= 10);
+        let n = counts[i];
+        good = good & !((n < 5) | (10 < n));
         i += 1;
     }
     good

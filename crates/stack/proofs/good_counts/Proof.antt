@@ -1,49 +1,45 @@
+use Prim.Native.Nat.{_≤_, _-_}
+use native.Mathlib.Omega.{arith}
+use mathlib.Core.Path.{_≡_, refl}
+use mathlib.Core.Bool.{_&&_, not}
+use lib.ListN.{length, drop}
+use borrow.Author.Needs.{needs}
+use Rattle.board.specs.Sample.{outside}
+use Rattle.lists.proofs.Every.{every-turn, every-done}
+use Rattle.stack.specs.Open.{goodCounts}
 use Rattle.stack.proofs.good_counts.Statement.{statement}
 use Rattle.stack.proofs.good_counts.Tie as tie
-use Rattle.stack.proofs.good_counts.Reads as reads
-use Rattle.stack.proofs.good_counts.Lts as lts
 
 abbrev Inv-loop : tie.InvT-loop
-Inv-loop counts good₀ i₀ good i = ?
+Inv-loop counts good₀ i₀ good i = (i ≤ length counts) × (goodCounts counts ≡ (good && goodCounts (drop i counts)))
 
 abbrev μ-loop : tie.MeasureT-loop
-μ-loop counts good₀ i₀ good i = ?
+μ-loop counts good₀ i₀ good i = length counts - i
 
--- src/lib.rt:92:5
 loop-holds : tie.Need-loop-holds Inv-loop μ-loop
-loop-holds c = ?
+loop-holds c = (search needs, refl)
 
--- src/lib.rt:93:29
-mul-good : tie.Need-mul-good Inv-loop μ-loop
-mul-good c = ?
+mul-n : tie.Need-mul-n Inv-loop μ-loop
+mul-n c = search needs
 
--- src/lib.rt:93:29
-shared-slice-read-good : tie.Need-shared-slice-read-good Inv-loop μ-loop
-shared-slice-read-good c = ?
+shared-slice-read-n : tie.Need-shared-slice-read-n Inv-loop μ-loop
+shared-slice-read-n c = search needs
 
--- src/lib.rt:93:43
-mul-good-2 : tie.Need-mul-good-2 Inv-loop μ-loop
-mul-good-2 c = ?
-
--- src/lib.rt:93:43
-shared-slice-read-good-2 : tie.Need-shared-slice-read-good-2 Inv-loop μ-loop
-shared-slice-read-good-2 c = ?
-
--- src/lib.rt:94:9
 add-i : tie.Need-add-i Inv-loop μ-loop
-add-i c = ?
+add-i c = search needs
 
--- src/lib.rt:92:5
 loop-less : tie.Need-loop-less Inv-loop μ-loop
-loop-less c = ?
+loop-less c = search needs
 
--- src/lib.rt:92:5
 loop-again : tie.Need-loop-again Inv-loop μ-loop
-loop-again c = ?
+loop-again c =
+    let h = c .before .before in
+    (search needs, every-turn (λ n. not (outside 5 10 n)) (h .before .args .counts .now) (h .loop .i) 0 (h .loop .good) (h .loop .inv .1) (omega arith))
 
--- src/lib.rt:87:1
 returns : tie.Need-returns Inv-loop μ-loop
-returns c = ?
+returns c =
+    let h = c .before in
+    every-done (λ n. not (outside 5 10 n)) (h .before .args .counts .now) (h .loop .i) (h .loop .good) (h .loop .inv .1) (omega arith)
 
 pub good-counts-spec : {M : Type 1} → statement M
 good-counts-spec =
@@ -52,10 +48,8 @@ good-counts-spec =
     Inv-loop
     μ-loop
     loop-holds
-    mul-good
-    shared-slice-read-good
-    mul-good-2
-    shared-slice-read-good-2
+    mul-n
+    shared-slice-read-n
     add-i
     loop-less
     loop-again

@@ -1,17 +1,14 @@
+use Rattle.stack.specs.Open.{freshRow}
 use borrow.Author.Needs.{needs}
 use Rattle.stack.proofs.no_stack.Statement.{statement}
 use Rattle.stack.proofs.no_stack.Tie as tie
-use Rattle.stack.proofs.no_stack.Reads as reads
-use Rattle.stack.proofs.no_stack.Lts as lts
-use Rattle.board.proofs.fresh_board.Reads as fresh-board-reads
 
--- src/lib.rt:117:9
 fresh-board-requires : tie.Need-fresh-board-requires
 fresh-board-requires c κs = search needs
 
--- src/lib.rt:114:1
 returns : tie.Need-returns
-returns c = ?
+unfolding freshRow
+returns c = rw (c .fresh-board .ensures)
 
 pub no-stack-spec : {M : Type 1} → statement M
 no-stack-spec = tie.close (tie.spec fresh-board-requires returns)

@@ -1,0 +1,16 @@
+pub mod Plain
+pub mod Walk
+pub mod Told
+pub mod Callee
+pub mod Through
+pub mod Beside
+pub mod GuardedShared
+pub mod After
+pub mod Fold
+pub mod Every
+pub mod Lent
+pub mod LendAt
+pub mod LendAtPlain
+pub mod Guarded
+pub mod GuardedPlain
+pub mod Framed
