@@ -18,7 +18,7 @@ place-of-requires : tie.Need-place-of-requires
 place-of-requires c κs = search needs
 
 returns-2 : tie.Need-returns-2
-returns-2 c = rw (c .place-of .ensures)
+returns-2 c = rw (c .place-of .ensures, c .before .before .taken .given .1)
 
 pub taken-place-spec : {M : Type 1} → statement M
 taken-place-spec =
