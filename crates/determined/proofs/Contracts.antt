@@ -1,0 +1,220 @@
+-- What every public contract determines: any two outcomes that it allows are equal.
+-- A function that takes and gives plain values, or reads a slice, is cited with what its callers learn from its contract (`Learnt`): its result is determined.
+-- One that writes into what it was lent is stated with its contract's own equations: its result and every value at exit are.
+-- Assumes nothing.
+use Prim.Native.Nat.{ℕ}
+use mathlib.Core.Path.{_≡_, sym, _∙_}
+use mathlib.Core.List.{List}
+use Rattle.determined.specs.Determined.{Determined}
+use Rattle.board.specs.declared.Board.{Board}
+use Rattle.board.specs.declared.Readings.{Readings}
+use Rattle.board.specs.declared.Answer.{Answer}
+use Rattle.board.specs.Sample.{sampleOf}
+use Rattle.frame.specs.declared.Reply.{Reply}
+use Rattle.frame.specs.Reply.{putOf}
+use Rattle.stack.specs.Sample.{sampleAnswer, sampleRow}
+use Rattle.stack.specs.Frame.{frameAnswer, frameRow, frameBuffer}
+use Rattle.stack.specs.declared.View.{View}
+use Rattle.stack.specs.Read.{readingOf}
+use Rattle.refusal.proofs.number.Reads as refusal-number
+use Rattle.settings.proofs.Settings.ov_level.Reads as settings-ov-level
+use Rattle.settings.proofs.Settings.ov_hysteresis.Reads as settings-ov-hysteresis
+use Rattle.settings.proofs.Settings.ov_release.Reads as settings-ov-release
+use Rattle.settings.proofs.Settings.ov_delay.Reads as settings-ov-delay
+use Rattle.settings.proofs.Settings.uv_level.Reads as settings-uv-level
+use Rattle.settings.proofs.Settings.uv_hysteresis.Reads as settings-uv-hysteresis
+use Rattle.settings.proofs.Settings.uv_release.Reads as settings-uv-release
+use Rattle.settings.proofs.Settings.ocd_delay.Reads as settings-ocd-delay
+use Rattle.settings.proofs.Settings.ocd_level.Reads as settings-ocd-level
+use Rattle.settings.proofs.Settings.uv_delay.Reads as settings-uv-delay
+use Rattle.settings.proofs.Settings.scd_level.Reads as settings-scd-level
+use Rattle.settings.proofs.Settings.scd_delay.Reads as settings-scd-delay
+use Rattle.settings.proofs.Settings.byte.Reads as settings-byte
+use Rattle.settings.proofs.Settings.with_byte.Reads as settings-with-byte
+use Rattle.settings.proofs.Settings.same.Reads as settings-same
+use Rattle.settings.proofs.Settings.allows.Reads as settings-allows
+use Rattle.marks.proofs.mark_at.Reads as marks-mark-at
+use Rattle.runs.proofs.advance.Reads as runs-advance
+use Rattle.runs.proofs.has_stood.Reads as runs-has-stood
+use Rattle.cells.proofs.sweep.Reads as cells-sweep
+use Rattle.cells.proofs.all_readable.Reads as cells-all-readable
+use Rattle.cells.proofs.fresh_cells.Reads as cells-fresh-cells
+use Rattle.latches.proofs.latches_of.Reads as latches-latches-of
+use Rattle.latches.proofs.chg_of.Reads as latches-chg-of
+use Rattle.latches.proofs.dsg_of.Reads as latches-dsg-of
+use Rattle.latches.proofs.byte_of.Reads as latches-byte-of
+use Rattle.latches.proofs.status_of.Reads as latches-status-of
+use Rattle.latches.proofs.latch_next.Reads as latches-latch-next
+use Rattle.board.proofs.fresh_board.Reads as board-fresh-board
+use Rattle.board.proofs.sample.Reads as board-sample
+use Rattle.frame.proofs.check_all.Reads as frame-check-all
+use Rattle.frame.proofs.check_byte.Reads as frame-check-byte
+use Rattle.frame.proofs.take_apart.Reads as frame-take-apart
+use Rattle.frame.proofs.why.Reads as frame-why
+use Rattle.registers.proofs.obey.Reads as registers-obey
+use Rattle.reading.proofs.summary_of.Reads as reading-summary-of
+use Rattle.reading.proofs.read_all.Reads as reading-read-all
+use Rattle.stack.proofs.open_stack.Reads as stack-open-stack
+
+-- two results that are the same value; two outcomes of a result and one value at exit; and of two values at exit
+agree : {A : Type 0} {v r t : A} → r ≡ v → t ≡ v → r ≡ t
+agree p q = p ∙ sym q
+
+one : {A : Type 0} (v : A) → Determined (λ (r : A). r ≡ v)
+one v r t p q = agree p q
+
+two : {A B : Type 0} (v : A) (w : B) → Determined (λ (o : A × B). (o .0 ≡ v) × (o .1 ≡ w))
+two v w o p a b = λ i. (agree (a .0) (b .0) i, agree (a .1) (b .1) i)
+
+three : {A B C : Type 0} (v : A) (w : B) (x : C) → Determined (λ (o : A × (B × C)). (o .0 ≡ v) × ((o .1 .0 ≡ w) × (o .1 .1 ≡ x)))
+three v w x o p a b = λ i. (agree (a .0) (b .0) i, (agree (a .1 .0) (b .1 .0) i, agree (a .1 .1) (b .1 .1) i))
+
+-- ---- refusal
+pub refusal-number-one : (κs : _) (a : _) (r t : _) (s u : _) → refusal-number.Learnt κs a r s → refusal-number.Learnt κs a t u → r ≡ t
+refusal-number-one κs a r t s u = agree
+
+-- ---- settings
+pub settings-ov-level-one : (κs : _) (a : _) (r t : _) (s u : _) → settings-ov-level.Learnt κs a r s → settings-ov-level.Learnt κs a t u → r ≡ t
+settings-ov-level-one κs a r t s u = agree
+
+pub settings-ov-hysteresis-one : (κs : _) (a : _) (r t : _) (s u : _) → settings-ov-hysteresis.Learnt κs a r s → settings-ov-hysteresis.Learnt κs a t u → r ≡ t
+settings-ov-hysteresis-one κs a r t s u = agree
+
+pub settings-ov-release-one : (κs : _) (a : _) (r t : _) (s u : _) → settings-ov-release.Learnt κs a r s → settings-ov-release.Learnt κs a t u → r ≡ t
+settings-ov-release-one κs a r t s u = agree
+
+pub settings-ov-delay-one : (κs : _) (a : _) (r t : _) (s u : _) → settings-ov-delay.Learnt κs a r s → settings-ov-delay.Learnt κs a t u → r ≡ t
+settings-ov-delay-one κs a r t s u = agree
+
+pub settings-uv-level-one : (κs : _) (a : _) (r t : _) (s u : _) → settings-uv-level.Learnt κs a r s → settings-uv-level.Learnt κs a t u → r ≡ t
+settings-uv-level-one κs a r t s u = agree
+
+pub settings-uv-hysteresis-one : (κs : _) (a : _) (r t : _) (s u : _) → settings-uv-hysteresis.Learnt κs a r s → settings-uv-hysteresis.Learnt κs a t u → r ≡ t
+settings-uv-hysteresis-one κs a r t s u = agree
+
+pub settings-uv-release-one : (κs : _) (a : _) (r t : _) (s u : _) → settings-uv-release.Learnt κs a r s → settings-uv-release.Learnt κs a t u → r ≡ t
+settings-uv-release-one κs a r t s u = agree
+
+pub settings-ocd-delay-one : (κs : _) (a : _) (r t : _) (s u : _) → settings-ocd-delay.Learnt κs a r s → settings-ocd-delay.Learnt κs a t u → r ≡ t
+settings-ocd-delay-one κs a r t s u = agree
+
+pub settings-ocd-level-one : (κs : _) (a : _) (r t : _) (s u : _) → settings-ocd-level.Learnt κs a r s → settings-ocd-level.Learnt κs a t u → r ≡ t
+settings-ocd-level-one κs a r t s u = agree
+
+pub settings-uv-delay-one : (κs : _) (a : _) (r t : _) (s u : _) → settings-uv-delay.Learnt κs a r s → settings-uv-delay.Learnt κs a t u → r ≡ t
+settings-uv-delay-one κs a r t s u = agree
+
+pub settings-scd-level-one : (κs : _) (a : _) (r t : _) (s u : _) → settings-scd-level.Learnt κs a r s → settings-scd-level.Learnt κs a t u → r ≡ t
+settings-scd-level-one κs a r t s u = agree
+
+pub settings-scd-delay-one : (κs : _) (a : _) (r t : _) (s u : _) → settings-scd-delay.Learnt κs a r s → settings-scd-delay.Learnt κs a t u → r ≡ t
+settings-scd-delay-one κs a r t s u = agree
+
+pub settings-byte-one : (κs : _) (a : _) (r t : _) (s u : _) → settings-byte.Learnt κs a r s → settings-byte.Learnt κs a t u → r ≡ t
+settings-byte-one κs a r t s u = agree
+
+pub settings-with-byte-one : (κs : _) (a : _) (r t : _) (s u : _) → settings-with-byte.Learnt κs a r s → settings-with-byte.Learnt κs a t u → r ≡ t
+settings-with-byte-one κs a r t s u = agree
+
+pub settings-same-one : (κs : _) (a : _) (r t : _) (s u : _) → settings-same.Learnt κs a r s → settings-same.Learnt κs a t u → r ≡ t
+settings-same-one κs a r t s u = agree
+
+pub settings-allows-one : (κs : _) (a : _) (r t : _) (s u : _) → settings-allows.Learnt κs a r s → settings-allows.Learnt κs a t u → r ≡ t
+settings-allows-one κs a r t s u = agree
+
+-- ---- marks
+pub marks-mark-at-one : (κs : _) (a : _) (r t : _) (s u : _) → marks-mark-at.Learnt κs a r s → marks-mark-at.Learnt κs a t u → r ≡ t
+marks-mark-at-one κs a r t s u = agree
+
+-- ---- runs
+pub runs-advance-one : (κs : _) (a : _) (r t : _) (s u : _) → runs-advance.Learnt κs a r s → runs-advance.Learnt κs a t u → r ≡ t
+runs-advance-one κs a r t s u = agree
+
+pub runs-has-stood-one : (κs : _) (a : _) (r t : _) (s u : _) → runs-has-stood.Learnt κs a r s → runs-has-stood.Learnt κs a t u → r ≡ t
+runs-has-stood-one κs a r t s u = agree
+
+-- ---- cells
+pub cells-sweep-one : (κs : _) (a : _) (r t : _) (s u : _) → cells-sweep.Learnt κs a r s → cells-sweep.Learnt κs a t u → r ≡ t
+cells-sweep-one κs a r t s u = agree
+
+pub cells-all-readable-one : (κs : _) (a : _) (r t : _) (s u : _) → cells-all-readable.Learnt κs a r s → cells-all-readable.Learnt κs a t u → r ≡ t
+cells-all-readable-one κs a r t s u = agree
+
+pub cells-fresh-cells-one : (κs : _) (a : _) (r t : _) (s u : _) → cells-fresh-cells.Learnt κs a r s → cells-fresh-cells.Learnt κs a t u → r ≡ t
+cells-fresh-cells-one κs a r t s u = agree
+
+-- ---- latches
+pub latches-latches-of-one : (κs : _) (a : _) (r t : _) (s u : _) → latches-latches-of.Learnt κs a r s → latches-latches-of.Learnt κs a t u → r ≡ t
+latches-latches-of-one κs a r t s u = agree
+
+pub latches-chg-of-one : (κs : _) (a : _) (r t : _) (s u : _) → latches-chg-of.Learnt κs a r s → latches-chg-of.Learnt κs a t u → r ≡ t
+latches-chg-of-one κs a r t s u = agree
+
+pub latches-dsg-of-one : (κs : _) (a : _) (r t : _) (s u : _) → latches-dsg-of.Learnt κs a r s → latches-dsg-of.Learnt κs a t u → r ≡ t
+latches-dsg-of-one κs a r t s u = agree
+
+pub latches-byte-of-one : (κs : _) (a : _) (r t : _) (s u : _) → latches-byte-of.Learnt κs a r s → latches-byte-of.Learnt κs a t u → r ≡ t
+latches-byte-of-one κs a r t s u = agree
+
+pub latches-status-of-one : (κs : _) (a : _) (r t : _) (s u : _) → latches-status-of.Learnt κs a r s → latches-status-of.Learnt κs a t u → r ≡ t
+latches-status-of-one κs a r t s u = agree
+
+pub latches-latch-next-one : (κs : _) (a : _) (r t : _) (s u : _) → latches-latch-next.Learnt κs a r s → latches-latch-next.Learnt κs a t u → r ≡ t
+latches-latch-next-one κs a r t s u = agree
+
+-- ---- board
+pub board-fresh-board-one : (κs : _) (a : _) (r t : _) (s u : _) → board-fresh-board.Learnt κs a r s → board-fresh-board.Learnt κs a t u → r ≡ t
+board-fresh-board-one κs a r t s u = agree
+
+pub board-sample-one : (κs : _) (a : _) (r t : _) (s u : _) → board-sample.Learnt κs a r s → board-sample.Learnt κs a t u → r ≡ t
+board-sample-one κs a r t s u = agree
+
+-- ---- frame
+pub frame-check-all-one : (κs : _) (a : _) (r t : _) (s u : _) → frame-check-all.Learnt κs a r s → frame-check-all.Learnt κs a t u → r ≡ t
+frame-check-all-one κs a r t s u = agree
+
+pub frame-check-byte-one : (κs : _) (a : _) (r t : _) (s u : _) → frame-check-byte.Learnt κs a r s → frame-check-byte.Learnt κs a t u → r ≡ t
+frame-check-byte-one κs a r t s u = agree
+
+pub frame-take-apart-one : (κs : _) (a : _) (r t : _) (s u : _) → frame-take-apart.Learnt κs a r s → frame-take-apart.Learnt κs a t u → r ≡ t
+frame-take-apart-one κs a r t s u = agree
+
+pub frame-why-one : (κs : _) (a : _) (r t : _) (s u : _) → frame-why.Learnt κs a r s → frame-why.Learnt κs a t u → r ≡ t
+frame-why-one κs a r t s u = agree
+
+-- ---- registers
+pub registers-obey-one : (κs : _) (a : _) (r t : _) (s u : _) → registers-obey.Learnt κs a r s → registers-obey.Learnt κs a t u → r ≡ t
+registers-obey-one κs a r t s u = agree
+
+-- ---- reading
+pub reading-summary-of-one : (κs : _) (a : _) (r t : _) (s u : _) → reading-summary-of.Learnt κs a r s → reading-summary-of.Learnt κs a t u → r ≡ t
+reading-summary-of-one κs a r t s u = agree
+
+pub reading-read-all-one : (κs : _) (a : _) (r t : _) (s u : _) → reading-read-all.Learnt κs a r s → reading-read-all.Learnt κs a t u → r ≡ t
+reading-read-all-one κs a r t s u = agree
+
+-- ---- stack
+pub stack-open-stack-one : (κs : _) (a : _) (r t : _) (s u : _) → stack-open-stack.Learnt κs a r s → stack-open-stack.Learnt κs a t u → r ≡ t
+stack-open-stack-one κs a r t s u = agree
+
+-- ---- what writes into what it was lent
+-- the result, and the buffer
+pub frame-put-two : (buffer : List ℕ) (reply : Reply) → Determined (λ (o : Reply × List ℕ). (o .0 ≡ reply) × (o .1 ≡ putOf buffer reply))
+frame-put-two buffer reply = two reply (putOf buffer reply)
+
+-- the answer, and the record
+pub stack-sample-board-two : (b : Board) (x : Readings) (mv : List ℕ) → Determined (λ (o : Answer × Board). (o .0 ≡ sampleOf b x mv .answer) × (o .1 ≡ sampleOf b x mv .board))
+stack-sample-board-two b x mv = two (sampleOf b x mv .answer) (sampleOf b x mv .board)
+
+-- the answer, and the row
+pub stack-sample-stack-two : (row : List Board) (n : ℕ) (x : Readings) (mv : List ℕ) → Determined (λ (o : Answer × List Board). (o .0 ≡ sampleAnswer row n x mv) × (o .1 ≡ sampleRow row n x mv))
+stack-sample-stack-two row n x mv = two (sampleAnswer row n x mv) (sampleRow row n x mv)
+
+-- the answer, the row and the buffer
+pub stack-frame-stack-three : (row : List Board) (bytes buffer : List ℕ)
+    → Determined (λ (o : Reply × (List Board × List ℕ)). (o .0 ≡ frameAnswer row bytes buffer) × ((o .1 .0 ≡ frameRow row bytes buffer) × (o .1 .1 ≡ frameBuffer row bytes buffer)))
+stack-frame-stack-three row bytes buffer = three (frameAnswer row bytes buffer) (frameRow row bytes buffer) (frameBuffer row bytes buffer)
+
+-- the answer; the row is only read
+pub stack-read-stack-one : (row : List Board) → Determined (λ (v : View). v ≡ readingOf row)
+stack-read-stack-one row = one (readingOf row)

@@ -1,0 +1,1 @@
+// What every public contract determines: statements in proofs/Contracts.antt, and no code.
