@@ -14,3 +14,7 @@ pub mod LendAtPlain
 pub mod Guarded
 pub mod GuardedPlain
 pub mod Framed
+pub mod LendArray
+pub mod LendsShared
+pub mod LendsBeside
+pub mod LendsFrame

@@ -1,1 +1,42 @@
-// Theorems on thin routines over lent records: proofs/ has one for each shape. The crate has no function of its own.
+// Theorems on thin routines over lent records: one for each shape of a routine, each in proofs/NAME.antt. The crate has no function of its own.
+//
+// The prover does not cover a function with a record behind a reference. Write such a function in one of the shapes below, statement for statement, with every
+// decision in a function by value, and it is proved by a file that fills in the records Shape and Knows of its theorem and cites `meets`.
+// crates/walked has a function of each shape with that file: copy it, and proofs/Known.antt for the crate's own types.
+//
+// T is a declared struct of plain fields. X, N, K, Y, B and O are plain: a number, a bool, a declared struct or enum of such, an array of such. E and G are what a slice
+// can hold. Names of locals, fields and functions are free; statements, their order and the order of parameters are not. A function by value returns the record and the
+// answer as a struct of these two, in this order. No callee has a `requires`. In a contract `row` stands for now (row .entry) and `row'` for now (row .exit).
+//
+// Through         fn g(b: &mut T, x: X) -> O { let s = f(*b, x); *b = s.board; s.answer }
+//                 f: r ≡ F b x                  g: (r ≡ F b x .answer) × (b' ≡ F b x .board)
+// Beside          fn g(b: &mut T, x: X, cells: &[E]) -> O { let s = f(*b, x, cells); *b = s.board; s.answer }
+//                 f: r ≡ F b x cells            g: (r ≡ F b x cells .answer) × (b' ≡ F b x cells .board)
+// LendAtPlain     fn g(row: &mut [T], x: X) -> O { let at = place(x); if at < row.len() { return f(&mut row[at], x); } no() }
+//                 place: r ≡ P x                f as g of Through        no: r ≡ none        g: (r ≡ A row x) × (row' ≡ R row x)
+// LendAt          fn g(row: &mut [T], n: N, x: X, cells: &[E]) -> O { let at = place(n); if at < row.len() { return f(&mut row[at], x, cells); } no() }
+//                 place: r ≡ P n                f as g of Beside         no: r ≡ none        g: (r ≡ A row n x cells) × (row' ≡ R row n x cells)
+// GuardedPlain    fn g(row: &mut [T], x: X) -> O { if good(row) { return f(row, x); } no() }
+//                 good as g of Every            f as g of LendAtPlain    no: r ≡ none        g as f
+// Guarded         fn g(row: &mut [T], n: N, x: X, cells: &[E]) -> O { if good(row) { return f(row, n, x, cells); } no() }
+//                 good as g of Every            f as g of LendAt         no: r ≡ none        g as f
+// Every           fn g(row: &[T]) -> bool { if f0(row.len()) { return false; } let mut i = 0; while i < row.len() { if f(row[i]) { return false; } i += 1; } true }
+//                 f0: r ≡ bad-count n           f: r ≡ bad b             g: r ≡ A row
+// Fold            fn g(row: &[T]) -> B { let mut acc = init(); let mut i = 0; while i < row.len() { acc = f(acc, i, row[i]); i += 1; } acc }
+//                 init: r ≡ start               f: r ≡ F acc i b         g: r ≡ A row
+// After           fn g(row: &[T]) -> O { let a = f(row); h(a) }
+//                 f: r ≡ F row                  h: r ≡ G a               g: r ≡ A row
+// GuardedShared   fn g(row: &[T]) -> O { if good(row) { return f(row); } no() }
+//                 good as g of Every            f: r ≡ F row             no: r ≡ none        g: r ≡ A row
+// Framed          fn g(row: &mut [T], bytes: &[E], reply: &mut [G]) -> O { let d = f1(bytes, reply.len()); let y = f2(row, d); f3(reply, y) }
+//                 f1: r ≡ P bytes room          f2 as g of LendAtPlain   f3: (r ≡ A3 reply y) × (reply' ≡ C3 reply y)
+//                 g: (r ≡ A row bytes reply) × ((row' ≡ R row bytes reply) × (reply' ≡ C row bytes reply))
+// LendsBeside     fn g(boards: [T; N], n: usize, k: K, x: X, cells: &[E]) -> Q { let mut row = boards; let answer = f(&mut row[..n], k, x, cells); Q { boards: row, answer: answer } }
+//                 requires n ≤ N                f as g of LendAt         g: r ≡ A boards n k x cells
+// LendsFrame      fn g(boards: [T; N], n: usize, bytes: &[E], reply: &mut [G]) -> Q { let mut row = boards; let answer = f(&mut row[..n], bytes, reply); Q { boards: row, answer: answer } }
+//                 requires n ≤ N                f as g of Framed         g: (r ≡ A boards n bytes reply) × (reply' ≡ C boards n bytes reply)
+// LendsShared     fn g(boards: [T; N], n: usize) -> O { f(&boards[..n]) }
+//                 requires n ≤ N                f: r ≡ F row             g: r ≡ A boards n
+//
+// Under the theorems: Plain (plain types, a call by value), Told (a call with lifetimes), Callee (three callees that many shapes have), Walk (a row's arithmetic,
+// the freeing of the locals), Lent (a lent row, lent on), LendArray (a local array, lent).

@@ -1,0 +1,170 @@
+// The session of the paper, through the public library, with the records in a local array.
+ghost use mathlib.Core.Path.{_≡_};
+ghost use Prim.Native.Nat.{_≤_};
+ghost use Rattle.first_session.specs.Lent.{sampledOf, servedOf, servedReply, shownOf};
+use board::Answer;
+use board::Board;
+use board::Readings;
+use frame::Reply;
+use stack::Opening;
+use stack::Stack;
+use stack::View;
+
+const OUT: i32 = 1;
+
+struct Sampled {
+    boards: [Board; 16],
+    answer: Answer,
+}
+
+struct Served {
+    boards: [Board; 16],
+    answer: Reply,
+}
+
+// The first n records of the array are lent as the row.
+fn sample_in(boards: [Board; 16], n: usize, board: u32, x: Readings, mv: &[u32]) -> Sampled
+    requires { ⌜ n ≤ 16 ⌝ }
+    ensures { λ r. ⌜ r ≡ sampledOf boards n board x (now (mv .entry)) ⌝ }
+{
+    let mut row = boards;
+    let answer = stack::sample_stack(&mut row[..n], board, x, mv);
+    Sampled {
+        boards: row,
+        answer: answer,
+    }
+}
+
+fn frame_in(boards: [Board; 16], n: usize, bytes: &[u8], reply: &mut [u8]) -> Served
+    requires { ⌜ n ≤ 16 ⌝ }
+    ensures { λ r. ⌜ (r ≡ servedOf boards n (now (bytes .entry)) (now (reply .entry))) × (now (reply .exit) ≡ servedReply boards n (now (bytes .entry)) (now (reply .entry))) ⌝ }
+{
+    let mut row = boards;
+    let answer = stack::frame_stack(&mut row[..n], bytes, reply);
+    Served {
+        boards: row,
+        answer: answer,
+    }
+}
+
+fn read_in(boards: [Board; 16], n: usize) -> View
+    requires { ⌜ n ≤ 16 ⌝ }
+    ensures { λ r. ⌜ r ≡ shownOf boards n ⌝ }
+{
+    stack::read_stack(&boards[..n])
+}
+
+fn show(word: &[u8], n: u8) {
+    io::write_all(OUT, word);
+    io::print_decimal(OUT, n as u64);
+}
+
+fn end_line() {
+    io::write_all(OUT, b"\n");
+}
+
+fn bit(b: bool) -> u8 {
+    if b { 1 } else { 0 }
+}
+
+fn sample_next(s: Stack, board: u32, elapsed: u32, load: u32, shunt: i32) -> Stack {
+    let boards = s.boards;
+    let n = s.count;
+    if 16 < n {
+        return s;
+    }
+    let x = Readings {
+        elapsed: elapsed,
+        shunt: shunt,
+        thermistor: 2000,
+        load: load,
+    };
+    let r = sample_in(boards, n, board, x, &[4000, 4000, 4000, 4000, 4000]);
+    let answer = r.answer;
+    match answer {
+        Answer::Sampled { status, bled } => {
+            show(b"st ", status);
+            io::write_all(OUT, b" bal ");
+            io::print_decimal(OUT, bled as u64);
+        }
+        Answer::Refused(why) => show(b"no ", refusal::number(why)),
+    }
+    end_line();
+    let next = r.boards;
+    Stack {
+        boards: next,
+        count: n,
+    }
+}
+
+fn framed(s: Stack, bytes: &[u8]) -> Stack {
+    let boards = s.boards;
+    let n = s.count;
+    if 16 < n {
+        return s;
+    }
+    let mut reply = [0u8; 4];
+    let r = frame_in(boards, n, bytes, &mut reply);
+    let answer = r.answer;
+    match answer {
+        Reply::Replied {
+            address: _,
+            register: _,
+            value: _,
+        } => {
+            show(b"re ", reply[0]);
+            show(b" ", reply[1]);
+            show(b" ", reply[2]);
+            show(b" ", reply[3]);
+        }
+        Reply::Refused(why) => show(b"no ", refusal::number(why)),
+    }
+    end_line();
+    let next = r.boards;
+    Stack {
+        boards: next,
+        count: n,
+    }
+}
+
+fn read(s: Stack) {
+    let boards = s.boards;
+    let n = s.count;
+    if 16 < n {
+        return;
+    }
+    let v = read_in(boards, n);
+    match v {
+        View::Read(w) => {
+            show(b"ln ", bit(w.line));
+            show(b" chg ", bit(w.chg));
+            show(b" dsg ", bit(w.dsg));
+            show(b" at ", w.flagged.board);
+            show(b" ", w.flagged.cell);
+        }
+        View::Refused(why) => show(b"no ", refusal::number(why)),
+    }
+    end_line();
+}
+
+fn opened(answer: Opening) {
+    match answer {
+        Opening::Opened => {
+            io::write_all(OUT, b"ok");
+        }
+        Opening::Refused(why) => show(b"no ", refusal::number(why)),
+    }
+    end_line();
+}
+
+fn main() {
+    let start = stack::open_stack(&[5]);
+    let answer = start.answer;
+    opened(answer);
+    let s = start.stack;
+    let s = sample_next(s, 1, 1000, 0, 0);
+    let s = framed(s, &[2, 0, 0, 214]);
+    let s = sample_next(s, 1, 1000, 1, 60001);
+    read(s);
+    sample_next(s, 1, 20000, 0, 0);
+}
