@@ -1,7 +1,9 @@
 -- The refusals and their numbers (01, Refusal numbers).
 -- Assumes nothing.
 use Prim.Native.Nat.{ℕ, _-_}
+use mathlib.Core.Bool.{Bool}
 use mathlib.Core.List.{List, [], _∷_}
+use lib.Dec.{eqb}
 use lib.ListN.{getD}
 use Rattle.refusal.specs.declared.Refusal.{Refusal}
 use Rattle.refusal.specs.declared.Refusal.the-variants.{BadRow, NoBoard, CellList, Elapsed, OutOfRange, FrameLength, ReplyRoom, CheckByte, NoRegister, BadValue, NoCycle, Malformed}
@@ -27,3 +29,7 @@ table =
 
 abbrev pub numbered : ℕ → Refusal
 numbered n = getD table (n - 1) Malformed
+
+-- a number of the table
+abbrev pub inTable : ℕ → Bool
+inTable n = eqb (numberOf (numbered n)) n

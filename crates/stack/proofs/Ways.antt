@@ -3,13 +3,14 @@
 use Prim.Native.Nat.{ℕ, zero, suc, _+_, _-_, _<_, _≤_}
 use native.Mathlib.Omega.{arith}
 use mathlib.Core.Path.{_≡_, refl, ap, sym, _∙_}
-use mathlib.Core.Bool.{Bool, true, false, true≢false, cond, not, _&&_, _||_}
+use mathlib.Core.Bool.{Bool, true, false, cond, not}
 use mathlib.Core.List.{List, [], _∷_, _++_}
 use lib.Dec.{ltb, eqb}
 use lib.ListN.{length, set, drop}
 use lib.Seq.{set-getD}
 use borrow.Author.Tests.{lt-ltb, le-ltb, ltb-true, ltb-false, eq-eqb, ne-eqb, eqb-true, eqb-false}
 use Rattle.lists.specs.Every.{every}
+use Rattle.lists.proofs.Split.{split, both, not-yes}
 use Rattle.lists.proofs.Every.{every-at}
 use Rattle.refusal.specs.declared.Refusal.{Refusal}
 use Rattle.refusal.specs.Refusals.{numbered}
@@ -27,18 +28,6 @@ use Rattle.stack.specs.Row.{badCount, goodRow, noBoard, placeOf, boardAt
 use Rattle.stack.specs.Sample.{noRowSample, sampleAnswerAt, sampleRowAt, sampleAnswer, sampleRow}
 use Rattle.stack.specs.Frame.{framePlace, frameBoard, boardFramed, obeyAnswerAt, obeyRowAt, obeyAnswer, obeyRow, frameAnswer, frameRow, frameBuffer}
 use Rattle.stack.proofs.Counts.{within}
-
-split : {P : Type 0} (t : Bool) → (t ≡ true → P) → (t ≡ false → P) → P
-split true yes′ no′ = yes′ refl
-split false yes′ no′ = no′ refl
-
-both : (a b : Bool) → (a && b) ≡ true → (a ≡ true) × (b ≡ true)
-both true b e = (refl, e)
-both false b e = absurd (true≢false (sym e))
-
-not-yes : (b : Bool) → not b ≡ true → b ≡ false
-not-yes false e = refl
-not-yes true e = absurd (true≢false (sym e))
 
 -- a record that is new only where the act is accepted
 set-kept : (accepted : Bool) (row : List Board) (at : ℕ) (new : Board) → set row at (cond accepted new (boardAt row at)) ≡ cond accepted (set row at new) row
