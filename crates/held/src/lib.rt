@@ -1,0 +1,121 @@
+// A stack that a program holds by value: its row is lent to the public library for one act and comes back.
+ghost use mathlib.Core.Path.{_≡_};
+ghost use Prim.Native.Nat.{_≤_};
+ghost use Rattle.held.specs.Held.{sampledIn, framedIn, framedReply, readIn, sampledOf, framedOf, framedBuffer, readOf};
+use board::Answer;
+use board::Board;
+use board::Readings;
+use frame::Reply;
+use refusal::Refusal;
+use stack::Stack;
+use stack::View;
+
+struct SampledRow {
+    boards: [Board; 16],
+    answer: Answer,
+}
+
+struct FramedRow {
+    boards: [Board; 16],
+    answer: Reply,
+}
+
+pub struct SampledStack {
+    pub stack: Stack,
+    pub answer: Answer,
+}
+
+pub struct FramedStack {
+    pub stack: Stack,
+    pub answer: Reply,
+}
+
+// The first n records are lent as the row; so below.
+fn sample_in(boards: [Board; 16], n: usize, board: u32, x: Readings, mv: &[u32]) -> SampledRow
+    requires { ⌜ n ≤ 16 ⌝ }
+    ensures { λ r. ⌜ r ≡ sampledIn boards n board x (now (mv .entry)) ⌝ }
+{
+    let mut row = boards;
+    let answer = stack::sample_stack(&mut row[..n], board, x, mv);
+    SampledRow {
+        boards: row,
+        answer: answer,
+    }
+}
+
+fn frame_in(boards: [Board; 16], n: usize, bytes: &[u8], reply: &mut [u8]) -> FramedRow
+    requires { ⌜ n ≤ 16 ⌝ }
+    ensures { λ r. ⌜ (r ≡ framedIn boards n (now (bytes .entry)) (now (reply .entry))) × (now (reply .exit) ≡ framedReply boards n (now (bytes .entry)) (now (reply .entry))) ⌝ }
+{
+    let mut row = boards;
+    let answer = stack::frame_stack(&mut row[..n], bytes, reply);
+    FramedRow {
+        boards: row,
+        answer: answer,
+    }
+}
+
+fn read_in(boards: [Board; 16], n: usize) -> View
+    requires { ⌜ n ≤ 16 ⌝ }
+    ensures { λ r. ⌜ r ≡ readIn boards n ⌝ }
+{
+    stack::read_stack(&boards[..n])
+}
+
+// A sample of a stack; one that says it has more than 16 boards is a bad row.
+pub fn sample_held(s: Stack, board: u32, x: Readings, mv: &[u32]) -> SampledStack
+    ensures { λ r. ⌜ r ≡ sampledOf s board x (now (mv .entry)) ⌝ }
+{
+    let n = s.count;
+    if 16 < n {
+        return SampledStack {
+            stack: s,
+            answer: Answer::Refused(Refusal::BadRow),
+        };
+    }
+    let boards = s.boards;
+    let r = sample_in(boards, n, board, x, mv);
+    let after = r.boards;
+    let answer = r.answer;
+    let mut next = s;
+    next.boards = after;
+    SampledStack {
+        stack: next,
+        answer: answer,
+    }
+}
+
+// A frame to a stack.
+pub fn frame_held(s: Stack, bytes: &[u8], reply: &mut [u8]) -> FramedStack
+    ensures { λ r. ⌜ (r ≡ framedOf s (now (bytes .entry)) (now (reply .entry))) × (now (reply .exit) ≡ framedBuffer s (now (bytes .entry)) (now (reply .entry))) ⌝ }
+{
+    let n = s.count;
+    if 16 < n {
+        return FramedStack {
+            stack: s,
+            answer: Reply::Refused(Refusal::BadRow),
+        };
+    }
+    let boards = s.boards;
+    let r = frame_in(boards, n, bytes, reply);
+    let after = r.boards;
+    let answer = r.answer;
+    let mut next = s;
+    next.boards = after;
+    FramedStack {
+        stack: next,
+        answer: answer,
+    }
+}
+
+// The whole-stack reading of a stack.
+pub fn read_held(s: Stack) -> View
+    ensures { λ r. ⌜ r ≡ readOf s ⌝ }
+{
+    let n = s.count;
+    if 16 < n {
+        return View::Refused(Refusal::BadRow);
+    }
+    let boards = s.boards;
+    read_in(boards, n)
+}
