@@ -1,0 +1,4 @@
+pub mod Blocks
+pub mod Clips
+pub mod Keeping
+pub mod Ends

@@ -1,0 +1,5 @@
+pub mod Words
+pub mod Numbers
+pub mod Fields
+pub mod Keeps
+pub mod Room

@@ -1,0 +1,20 @@
+-- `byte_at`: within the line its byte, behind the end a space.
+-- Assumes nothing.
+use mathlib.Core.Path.{sym}
+use lib.ListN.{List·getD-eq-default}
+use Rattle.lines.proofs.Words.{byte-any}
+use borrow.Author.Needs.{needs}
+use Rattle.lines.proofs.byte_at.Statement.{statement}
+use Rattle.lines.proofs.byte_at.Tie as tie
+
+shared-slice-read-result : tie.Need-shared-slice-read-result
+shared-slice-read-result c = search needs
+
+returns : tie.Need-returns
+returns c = byte-any (c .before .before .args .s .now) _ 0 32 (c .before .if1 .taken)
+
+returns-2 : tie.Need-returns-2
+returns-2 c = sym (List·getD-eq-default (c .before .args .s .now) 32 (c .if1 .left))
+
+pub byte-at-spec : {M : Type 1} → statement M
+byte-at-spec = tie.close (tie.spec shared-slice-read-result returns returns-2)

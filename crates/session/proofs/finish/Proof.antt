@@ -1,0 +1,34 @@
+-- `session::finish` meets its contract: nothing, or a newline fed.
+-- Assumes nothing.
+use mathlib.Core.Path.{_≡_, sym, _∙_}
+use Rattle.cutter.specs.Kept.{held}
+use Rattle.session.proofs.Lasts.{lacking-one, run-none}
+use borrow.Author.Needs.{needs}
+use Rattle.session.proofs.finish.Statement.{statement}
+use Rattle.session.proofs.finish.Tie as tie
+
+kept-len-requires : tie.Need-kept-len-requires
+kept-len-requires c κs = search needs
+
+returns : tie.Need-returns
+returns c = run-none _ _ _ (sym (c .before .kept-len .ensures) ∙ c .if1 .taken)
+
+slice-aggregate-feed : tie.Need-slice-aggregate-feed
+slice-aggregate-feed c = search needs
+
+feed-requires : tie.Need-feed-requires
+feed-requires c κs = search needs
+
+same-length : tie.Need-same-length
+same-length c = search needs
+
+returns-2 : tie.Need-returns-2
+returns-2 c =
+    let e = c .before .before .before .before .before in
+    let a = e .before .before .before .args in
+    rw (lacking-one (held (a .cutter)) (λ none. e .if1 .left (e .before .kept-len .ensures ∙ none))) (c .before .before .feed .ensures)
+
+pub finish-spec : {M : Type 1} → statement M
+finish-spec =
+    tie.close
+    (tie.spec kept-len-requires returns slice-aggregate-feed feed-requires same-length returns-2)

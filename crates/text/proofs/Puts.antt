@@ -1,0 +1,73 @@
+-- Texts put into a buffer one after the other.
+-- Assumes nothing.
+use Prim.Native.Nat.{ℕ, suc, _+_, _<_, _≤_}
+use native.Mathlib.Omega.{arith}
+use native.Mathlib.Numerals.{add-one}
+use native.Mathlib.Nat.{add-zero}
+use mathlib.Core.Path.{_≡_, refl, sym, ap, _∙_}
+use mathlib.Core.List.{List, [], _∷_, _++_}
+use lib.ListN.{length, getD, set, take, drop, length-append}
+use lib.Seq.{sets, length-sets, sets-eq, length-take-le, take-suc, take-all, take-at}
+use borrow.Author.Tests.{le-leb, lt-leb}
+use Rattle.text.specs.declared.Told.{Told}
+use Rattle.text.specs.Text.{wordsOf, textOf, placed, Put, Printed}
+
+pub sets-append : (l : List ℕ) (i : ℕ) (a b : List ℕ) → sets l i (a ++ b) ≡ sets (sets l i a) (i + length a) b
+sets-append l i [] b = rw (add-zero i)
+sets-append l i (x ∷ a) b =
+    let e : i + suc (length a) ≡ suc i + length a = omega arith in
+    rw e (sets-append (set l i x) (suc i) a b)
+
+-- a turn of a copy, and its end
+pub sets-turn : (at : ℕ) (s old new : List ℕ) (i : ℕ) → new ≡ sets old at (take i s) → i < length s → set new (at + i) (getD s i 0) ≡ sets old at (take (i + 1) s)
+sets-turn at s old new i e h =
+    let few : length (take i s) ≡ i = length-take-le i s (omega arith) in
+    rw (e, add-one i, take-suc s i 0 h, sets-append old at (take i s) (getD s i 0 ∷ []), few)
+
+pub put-all : {at i : ℕ} {s old new : List ℕ} → new ≡ sets old at (take i s) → i ≤ length s → length s ≤ i → Put at s old new (at + i)
+put-all {at} {i} {s} e h k = record { after = omega arith; whole = rw (take-all i s k) at e }
+
+-- one byte
+pub put-one : {at : ℕ} {old : List ℕ} (b : ℕ) → Put at (b ∷ []) old (set old at b) (at + 1)
+put-one b = record { after = refl; whole = refl }
+
+-- one text and then another
+pub put-then : {at m r : ℕ} {a b old mid new : List ℕ} → Put at a old mid m → Put m b mid new r → Put at (a ++ b) old new r
+put-then {at} {m} {r} {a} {b} {old} p q =
+    record {
+      after = rw (length-append a b) (omega (arith, p .after, q .after));
+      whole = rw (sets-append old at a b, ← (p .whole), ← (p .after)) (q .whole);
+    }
+
+-- without 32 free bytes nothing is put, and with them the line
+pub placed-none : (room at : ℕ) (told : Told) → room < at + 32 → placed room at told ≡ []
+unfolding placed
+placed-none room at told h = rw (lt-leb (at + 32) room h)
+
+pub placed-all : (room at : ℕ) (told : Told) → at + 32 ≤ room → placed room at told ≡ textOf told
+unfolding placed
+placed-all room at told h = rw (le-leb (at + 32) room h)
+
+pub printed-none : {at : ℕ} {old : List ℕ} (told : Told) → length old < at + 32 → Printed told at old old at
+printed-none {at} {old} told h =
+    record { line = rw (placed-none (length old) at told h) (record { after = sym (add-zero at); whole = refl }); inside = λ k. k }
+
+pub printed-line : {at m r : ℕ} {old mid new : List ℕ} (told : Told) → at + 32 ≤ length old → Put at (wordsOf told) old mid m × (m ≤ at + 31) → Put m (10 ∷ []) mid new r
+    → Printed told at old new r
+unfolding textOf
+printed-line {at} {m} {r} {old} told h p q =
+    record { line = rw (placed-all (length old) at told h) (put-then (p .0) q); inside = λ k. omega (arith, p .1, q .after) }
+
+-- what a caller reads off: the buffer's length stays, and the bytes up to the next place are those before and the text
+pub put-same : {at r : ℕ} {text old new : List ℕ} → Put at text old new r → length new ≡ length old
+put-same {at} {r} {text} {old} p = ap length (p .whole) ∙ length-sets old at text
+
+pub put-take : {at r : ℕ} {text old new : List ℕ} → Put at text old new r → r ≤ length old → take r new ≡ take at old ++ text
+put-take {at} {r} {text} {old} p h =
+    let fits : at + length text ≤ length old = omega (arith, p .after) in
+    let len : length (take at old ++ text) ≡ r = length-append (take at old) text ∙ rw (length-take-le at old (omega arith)) (sym (p .after)) in
+    rw (p .whole, sets-eq text old at fits, take-at (take at old ++ text) (drop (at + length text) old) r len)
+
+-- any two outcomes of printing are the same
+pub printed-once : {at r r′ : ℕ} {old new new′ : List ℕ} {told : Told} → Printed told at old new r → Printed told at old new′ r′ → (r ≡ r′) × (new ≡ new′)
+printed-once p q = (p .line .after ∙ sym (q .line .after), p .line .whole ∙ sym (q .line .whole))

@@ -1,0 +1,157 @@
+// The line that answers an act, put into a lent buffer (01, The bench program).
+ghost use mathlib.Core.Path.{_≡_};
+ghost use mathlib.Core.List.{_++_};
+ghost use Prim.Native.Nat.{_+_, _≤_};
+ghost use lib.ListN.{length};
+ghost use Rattle.marks.specs.Marks.{bit};
+ghost use Rattle.text.specs.Text.{Put, Printed, decimal, wordsOf};
+
+pub enum Told {
+    Opened,
+    Refused(u8),
+    Status {
+        status: u8,
+        bled: u16,
+    },
+    Reply {
+        address: u8,
+        register: u8,
+        value: u8,
+        check: u8,
+    },
+    Reading {
+        line: bool,
+        chg: bool,
+        dsg: bool,
+        board: u8,
+        cell: u8,
+    },
+}
+
+// Puts s into out from at on, and gives the place after it.
+fn put_bytes(out: &mut [u8], at: usize, s: &[u8]) -> usize
+    requires { ⌜ at + length (now s) ≤ length (now out) ⌝ }
+    ensures { λ r. ⌜ Put at (now (s .entry)) (now (out .entry)) (now (out .exit)) r ⌝ }
+{
+    let mut i = 0;
+    while i < s.len() {
+        out[at + i] = s[i];
+        i += 1;
+    }
+    at + i
+}
+
+// The same with the decimal digits of n.
+fn put_number(out: &mut [u8], at: usize, n: u16) -> usize
+    requires { ⌜ at + length (decimal n) ≤ length (now out) ⌝ }
+    ensures { λ r. ⌜ Put at (decimal n) (now (out .entry)) (now (out .exit)) r ⌝ }
+{
+    if n < 10 {
+        out[at] = 48 + n as u8;
+        return at + 1;
+    }
+    let tens_end = put_number(out, at, n / 10);
+    out[tens_end] = 48 + (n % 10) as u8;
+    tens_end + 1
+}
+
+// The same with a word and a number, which has five digits at most.
+fn put_field(out: &mut [u8], at: usize, word: &[u8], n: u16) -> usize
+    requires { ⌜ at + length (now word) + 5 ≤ length (now out) ⌝ }
+    ensures { λ r. ⌜ Put at (now (word .entry) ++ decimal n) (now (out .entry)) (now (out .exit)) r ⌝ }
+    ensures { λ r. ⌜ r ≤ at + length (now (word .entry)) + 5 ⌝ }
+{
+    let word_end = put_bytes(out, at, word);
+    put_number(out, word_end, n)
+}
+
+// The same with a word and a flag.
+fn put_flag(out: &mut [u8], at: usize, word: &[u8], flag: bool) -> usize
+    requires { ⌜ at + length (now word) + 1 ≤ length (now out) ⌝ }
+    ensures { λ r. ⌜ Put at (now (word .entry) ++ decimal (bit flag)) (now (out .entry)) (now (out .exit)) r ⌝ }
+    ensures { λ r. ⌜ r ≤ at + length (now (word .entry)) + 1 ⌝ }
+{
+    let word_end = put_bytes(out, at, word);
+    out[word_end] = 48 + flag as u8;
+    word_end + 1
+}
+
+fn put_status(out: &mut [u8], at: usize, status: u8, bled: u16) -> usize
+    requires { ⌜ at + 31 ≤ length (now out) ⌝ }
+    ensures { λ r. ⌜ Put at (wordsOf (Told.Status status bled)) (now (out .entry)) (now (out .exit)) r ⌝ }
+    ensures { λ r. ⌜ r ≤ at + 31 ⌝ }
+{
+    let status_end = put_field(out, at, b"st ", status as u16);
+    put_field(out, status_end, b" bal ", bled)
+}
+
+fn put_reply(out: &mut [u8], at: usize, address: u8, register: u8, value: u8, check: u8) -> usize
+    requires { ⌜ at + 31 ≤ length (now out) ⌝ }
+    ensures { λ r. ⌜ Put at (wordsOf (Told.Reply address register value check)) (now (out .entry)) (now (out .exit)) r ⌝ }
+    ensures { λ r. ⌜ r ≤ at + 31 ⌝ }
+{
+    let address_end = put_field(out, at, b"re ", address as u16);
+    let register_end = put_field(out, address_end, b" ", register as u16);
+    let value_end = put_field(out, register_end, b" ", value as u16);
+    put_field(out, value_end, b" ", check as u16)
+}
+
+fn put_reading(
+    out: &mut [u8],
+    at: usize,
+    line: bool,
+    chg: bool,
+    dsg: bool,
+    board: u8,
+    cell: u8,
+) -> usize
+    requires { ⌜ at + 31 ≤ length (now out) ⌝ }
+    ensures { λ r. ⌜ Put at (wordsOf (Told.Reading line chg dsg board cell)) (now (out .entry)) (now (out .exit)) r ⌝ }
+    ensures { λ r. ⌜ r ≤ at + 31 ⌝ }
+{
+    let line_end = put_flag(out, at, b"ln ", line);
+    let chg_end = put_flag(out, line_end, b" chg ", chg);
+    let dsg_end = put_flag(out, chg_end, b" dsg ", dsg);
+    let board_end = put_field(out, dsg_end, b" at ", board as u16);
+    put_field(out, board_end, b" ", cell as u16)
+}
+
+// The words of an answer.
+fn put_words(out: &mut [u8], at: usize, told: Told) -> usize
+    requires { ⌜ at + 31 ≤ length (now out) ⌝ }
+    ensures { λ r. ⌜ Put at (wordsOf told) (now (out .entry)) (now (out .exit)) r ⌝ }
+    ensures { λ r. ⌜ r ≤ at + 31 ⌝ }
+{
+    match told {
+        Told::Opened => put_bytes(out, at, b"ok"),
+        Told::Refused(n) => put_field(out, at, b"no ", n as u16),
+        Told::Status { status, bled } => put_status(out, at, status, bled),
+        Told::Reply {
+            address,
+            register,
+            value,
+            check,
+        } => put_reply(out, at, address, register, value, check),
+        Told::Reading {
+            line,
+            chg,
+            dsg,
+            board,
+            cell,
+        } => put_reading(out, at, line, chg, dsg, board, cell),
+    }
+}
+
+// The line of an answer, and the place after it; where 32 bytes are not free from at on, nothing, and at.
+pub fn put_told(out: &mut [u8], at: usize, told: Told) -> usize
+    ensures { λ r. ⌜ Printed told at (now (out .entry)) (now (out .exit)) r ⌝ }
+{
+    if out.len() < 32 {
+        return at;
+    }
+    if out.len() - 32 < at {
+        return at;
+    }
+    let words_end = put_words(out, at, told);
+    put_bytes(out, words_end, b"\n")
+}
