@@ -1,13 +1,13 @@
 -- The end of a line: the search for it, and the lines of a block up to it.
 -- Assumes nothing.
-use Prim.Native.Nat.{ℕ, suc, _+_, _-_, _<_, _≤_, min}
+use Prim.Native.Nat.{ℕ, suc, _+_, _-_, _<_, _≤_}
 use native.Mathlib.Omega.{arith}
 use native.Mathlib.Numerals.{add-one}
 use mathlib.Core.Path.{_≡_, refl, sym, ap, _∙_}
 use mathlib.Core.Bool.{cond}
 use mathlib.Core.List.{List, [], _∷_, _++_, append-assoc, append-nil}
 use lib.Dec.{eqb, ltb}
-use lib.ListN.{length, getD, take, drop, length-take, length-drop, drop-of-length-le, take-append-drop}
+use lib.ListN.{length, getD, take, drop, length-drop, drop-of-length-le, take-append-drop}
 use lib.Seq.{take-all, take-add, drop-cons}
 use borrow.Author.Tests.{eqb-true, lt-ltb}
 use borrow.Table.Steps.{cases}
@@ -26,10 +26,15 @@ end-none s i h = rw (drop-of-length-le s h)
 
 -- ---- the bytes before the first newline
 
-pub line-take : (t : List ℕ) → take (length (upTo t)) t ≡ upTo t
+line-take : (t : List ℕ) → take (length (upTo t)) t ≡ upTo t
 unfolding upTo
 line-take [] = refl
 line-take (b ∷ t) = cases (eqb b 10) (λ e. rw e) λ e. rw e (ap (λ (l : List ℕ). b ∷ l) (line-take t))
+
+line-le : (t : List ℕ) → length (upTo t) ≤ length t
+unfolding upTo
+line-le [] = omega arith
+line-le (b ∷ t) = cases (eqb b 10) (λ e. rw e (omega arith)) λ e. rw e (omega (arith, line-le t))
 
 -- no line ends in them
 ended-free : (p t : List ℕ) → ended p (upTo t) ≡ []
@@ -61,6 +66,9 @@ part from to s = take (to - from) (drop from s)
 -- ---- a block s is used up to at, with h kept before it, and the next line ends at e
 
 module _ (h s : List ℕ) (at e : ℕ) (end : e ≡ at + length (upTo (drop at s))) where
+  pub end-within : at ≤ length s → e ≤ length s
+  end-within l = let few = rw (length-drop at s) at (line-le (drop at s)) in omega arith
+
   line-part : part at e s ≡ upTo (drop at s)
   line-part = let len : e - at ≡ length (upTo (drop at s)) = omega arith in rw len (line-take (drop at s))
 

@@ -1,9 +1,9 @@
 -- A cutter keeps what it is given, up to 201 bytes.
 -- Assumes nothing.
-use Prim.Native.Nat.{ℕ, _+_, _<_, _≤_}
+use Prim.Native.Nat.{ℕ, zero, suc, _+_, _<_, _≤_}
 use native.Mathlib.Omega.{arith}
 use native.Mathlib.Numerals.{add-one}
-use mathlib.Core.Path.{_≡_, sym, ap, _∙_}
+use mathlib.Core.Path.{_≡_, refl, sym, ap, _∙_}
 use mathlib.Core.List.{List, [], _∷_, _++_, append-assoc, append-nil}
 use lib.Dec.{leb}
 use lib.ListN.{length, getD, take, drop, length-append, length-take, length-set, drop-of-length-le}
@@ -11,8 +11,16 @@ use lib.Seq.{take-suc-set, take-all, take-at, drop-cons, length-take-le}
 use borrow.Author.Tests.{leb-true, leb-false}
 use borrow.Table.Steps.{cases}
 use Rattle.cutter.specs.declared.Cutter.{Cutter}
-use Rattle.cutter.specs.Kept.{most, clip, held, byteKept, listKept, Kept}
+use Rattle.cutter.specs.Kept.{most, clip, held, nothing, emptiedOf, byteKept, listKept, Kept}
 use Rattle.cutter.proofs.Clips.{clip-append}
+
+pub held-nothing : held nothing ≡ []
+unfolding held nothing
+held-nothing = refl
+
+pub held-emptied : (c : Cutter) → held (emptiedOf c) ≡ []
+unfolding held emptiedOf
+held-emptied c = refl
 
 -- whatever its length says, a cutter keeps no more than it has
 pub held-clip : (c : Cutter) → length (c .bytes) ≡ most → clip (held c) ≡ held c
@@ -51,3 +59,22 @@ unfolding listKept
 kept-all c next s i e h long =
     let all : next ≡ listKept c s = sym (rw (drop-of-length-le s h) at e) in
     record { whole = all; line = ap held all ∙ held-list s c long }
+
+-- ---- n bytes are kept: the first n of the array, and with n = 0 nothing
+
+module _ (c : Cutter) (n : ℕ) (kept : n ≡ length (held c)) where
+  pub held-fits : n ≤ length (c .bytes)
+  unfolding held
+  held-fits = let few = rw (length-take (c .len) (c .bytes)) at kept in omega arith
+
+  pub held-take : take n (c .bytes) ≡ held c
+  unfolding held
+  held-take = rw kept (by (c .len) (c .bytes))
+    where
+      by : (m : ℕ) (l : List ℕ) → take (length (take m l)) l ≡ take m l
+      by zero l = refl
+      by (suc m) [] = refl
+      by (suc m) (b ∷ l) = ap (λ (r : List ℕ). b ∷ r) (by m l)
+
+  pub held-none : n ≡ 0 → held c ≡ []
+  held-none e = sym held-take ∙ rw e

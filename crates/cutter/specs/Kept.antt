@@ -32,7 +32,7 @@ held c = take (c .len) (c .bytes)
 unfoldable pub nothing : Cutter
 nothing = record { bytes = replicate most 0; len = 0 }
 
-abbrev pub emptiedOf : Cutter → Cutter
+unfoldable pub emptiedOf : Cutter → Cutter
 emptiedOf c = record { bytes = c .bytes; len = 0 }
 
 -- one byte more, while there is room for it

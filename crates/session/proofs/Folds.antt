@@ -10,7 +10,7 @@ use lib.Seq.{take-all}
 use Rattle.lines.specs.declared.Line.{Line}
 use Rattle.lines.specs.Line.{lineOf}
 use Rattle.text.specs.Text.{textOf, Put, Printed}
-use Rattle.text.proofs.Puts.{put-then, placed-all}
+use Rattle.text.proofs.Puts.{put-then, put-same, placed-all}
 use Rattle.stack.specs.declared.Stack.{Stack}
 use Rattle.cutter.specs.declared.Cutter.{Cutter}
 use Rattle.cutter.specs.Lines.{ended, left, upTo}
@@ -71,3 +71,7 @@ module _ (c : Cutter) (s : Stack) (block old : List ℕ) (at : ℕ) (mid : List 
         text = rw (ended-rest (held c) block at e end l) (f .text);
         inside = f .inside;
       })
+
+-- what a caller reads off: what was written lies within the buffer
+pub fold-inside : {c c′ : Cutter} {s s′ : Stack} {bytes old new : List ℕ} {w : ℕ} → Fold c s bytes old new c′ s′ w → w ≤ length new
+fold-inside f = omega (arith, put-same (f .text), f .inside)

@@ -37,7 +37,7 @@ pub one-newline : (told : Told) → (textOf told ≡ wordsOf told ++ (10 ∷ [])
 unfolding textOf
 one-newline told = (refl, words-plain told)
 
--- the numbers are within their types
+-- the numbers are within their types, which leaves 32 bytes at most
 abbrev pub Typed : Told → Type 0
 Typed Opened = record {}
 Typed (Refused n) = n < 256
@@ -48,16 +48,13 @@ Typed (Reading line chg dsg board cell) = (board < 256) × (cell < 256)
 number-long : (n : ℕ) (s t : List ℕ) → length ((decimal n ++ s) ++ t) ≡ length (decimal n) + length (s ++ t)
 number-long n s t = rw (append-assoc (decimal n) s t) (length-append (decimal n) (s ++ t))
 
-number-end : (n : ℕ) (s : List ℕ) → length (decimal n ++ s) ≡ length (decimal n) + length s
-number-end n s = length-append (decimal n) s
-
 pub text-short : (told : Told) → Typed told → length (textOf told) ≤ 32
 unfolding textOf wordsOf
 text-short Opened h = omega arith
-text-short (Refused n) h = simp number-end (omega (arith, five n (omega arith)))
-text-short (Status status bled) h = simp (number-long, number-end) (omega (arith, five status (omega arith), five bled (omega arith)))
+text-short (Refused n) h = simp length-append (omega (arith, five n (omega arith)))
+text-short (Status status bled) h = simp (number-long, length-append) (omega (arith, five status (omega arith), five bled (omega arith)))
 text-short (Reply address register value check) h =
-    simp (number-long, number-end)
+    simp (number-long, length-append)
     (omega (arith, five address (omega arith), five register (omega arith), five value (omega arith), five check (omega arith)))
 text-short (Reading line chg dsg board cell) h =
-    simp (number-long, number-end, flag-digit) (omega (arith, five board (omega arith), five cell (omega arith)))
+    simp (number-long, length-append, flag-digit) (omega (arith, five board (omega arith), five cell (omega arith)))

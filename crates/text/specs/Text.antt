@@ -22,7 +22,7 @@ bytes (string._∷_ c s) = code c ∷ bytes s
 abbrev pub digit : ℕ → ℕ
 digit n = 48 + n
 
--- decimal, no leading zeros: the digits of n tens, and then its last; more digits than the first number says are not asked for
+-- decimal, no leading zeros: the digits of the tens and then the last one; the first number only bounds how many there may be
 unfoldable pub spelt : ℕ → ℕ → List ℕ
 spelt zero n = []
 spelt (suc most) n = cond (ltb n 10) (digit n ∷ []) (spelt most (n / 10) ++ (digit (n % 10) ∷ []))
@@ -33,7 +33,7 @@ decimal n = spelt (n + 1) n
 abbrev pub field : string.String → ℕ → List ℕ
 field word n = bytes word ++ decimal n
 
--- the words of each answer, as the paper's session shows them; of a whole-stack reading L, CHG, DSG, board and cell
+-- the words of each answer, as the paper's session shows them; a flag is 1 or 0
 unfoldable pub wordsOf : Told → List ℕ
 wordsOf Opened = bytes "ok"
 wordsOf (Refused n) = field "no " n
@@ -54,7 +54,7 @@ pub record Put (at : ℕ) (text old new : List ℕ) (next : ℕ) : Type 0 where
   pub after : next ≡ at + length text
   pub whole : new ≡ sets old at text
 
--- an answer is printed: its line is put, or nothing, and a place within the buffer leads to one within it
+-- an answer printed from at on into old: its line is put, or nothing, and next is no further out of the buffer than at was
 pub record Printed (told : Told) (at : ℕ) (old new : List ℕ) (next : ℕ) : Type 0 where
   pub line : Put at (placed (length old) at told) old new next
   pub inside : at ≤ length old → next ≤ length old

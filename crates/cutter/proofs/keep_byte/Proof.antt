@@ -16,9 +16,4 @@ returns-2 c = rw (lt-leb _ _ (c .if1 .left))
 
 pub keep-byte-spec : {M : Type 1} → statement M
 keep-byte-spec =
-    tie.close
-    (tie.spec
-    returns
-    (λ c. search needs)
-    (λ c. search needs)
-    returns-2)
+    tie.close (tie.spec returns (λ c. search needs) (λ c. search needs) returns-2)

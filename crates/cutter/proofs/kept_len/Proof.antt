@@ -22,7 +22,4 @@ returns-2 c =
 
 pub kept-len-spec : {M : Type 1} → statement M
 kept-len-spec =
-    tie.close
-    (tie.spec
-    returns
-    returns-2)
+    tie.close (tie.spec returns returns-2)

@@ -11,6 +11,4 @@ returns c = refl
 
 pub new-cutter-spec : {M : Type 1} → statement M
 new-cutter-spec =
-    tie.close
-    (tie.spec
-    returns)
+    tie.close (tie.spec returns)

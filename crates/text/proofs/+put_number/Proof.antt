@@ -32,17 +32,14 @@ pub +put-number-spec : {M : Type 1} → statement M
     (put-number-below t, put-number.Post)
     (put-number-at t)
     put-number.Post
-    (λ c. search needs)
-    (λ c. search needs)
+    (λ c. search needs) (λ c. search needs)
     (λ c. omega (arith, one-long _ (c .if1 .taken)))
-    (λ c. search needs)
-    (λ c. search needs)
+    (λ c. search needs) (λ c. search needs)
     (λ c. rw (decimal-one _ (c .if1 .taken)) (put-one _))
     (λ c κs.
-    let s = c .before .before .before in
-    (omega (arith, s .pre .0, c .before .if1 .left), omega (arith, more-long _ (c .before .if1 .left), s .pre .1)))
-    (λ c. search needs)
-    (λ c. search needs)
+    let start = c .before .before .before .pre in
+    (omega (arith, start .0, c .before .if1 .left), omega (arith, more-long _ (c .before .if1 .left), start .1)))
+    (λ c. search needs) (λ c. search needs)
     (λ c. let e = c .before .before .before .before in omega (arith, more-long _ (e .if1 .left), e .before .before .pre .1))
     (λ c. let e = c .before .before .before .before in omega (arith, more-long _ (e .if1 .left), e .before .before .pre .1))
     (λ c. search needs)

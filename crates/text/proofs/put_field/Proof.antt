@@ -20,9 +20,4 @@ returns c =
 
 pub put-field-spec : {M : Type 1} → statement M
 put-field-spec =
-    tie.close
-    (tie.spec
-    (λ c κs. search needs)
-    put-number-requires
-    (λ c. search needs)
-    returns)
+    tie.close (tie.spec (λ c κs. search needs) put-number-requires (λ c. search needs) returns)

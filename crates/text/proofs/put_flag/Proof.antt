@@ -20,9 +20,6 @@ put-flag-spec =
     tie.close
     (tie.spec
     (λ c κs. search needs)
-    (λ c. search needs)
-    add-out
-    (λ c. search needs)
-    (λ c. search needs)
-    (λ c. search needs)
+    (λ c. search needs) add-out
+    (λ c. search needs) (λ c. search needs) (λ c. search needs)
     returns)

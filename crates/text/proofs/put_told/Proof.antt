@@ -23,10 +23,7 @@ put-told-spec =
     tie.close
     (tie.spec
     returns
-    (λ c. search needs)
-    returns-2
+    (λ c. search needs) returns-2
     (λ c κs. search needs)
-    (λ c. search needs)
-    (λ c κs. search needs)
-    (λ c. search needs)
-    returns-3)
+    (λ c. search needs) (λ c κs. search needs)
+    (λ c. search needs) returns-3)

@@ -1,0 +1,465 @@
+#!/usr/bin/env python3
+"""Reference for the bench program, written from paper 01 alone.
+
+Reads bench lines from standard input as bytes and writes the answers.
+
+Every board keeps the history of its accepted acts. Settings, cycles, latches
+and flags are read off that history, and a run is summed from the samples
+themselves each time it is asked for: there is no counter in here that could
+go wrong in the same way as one in the program under test.
+"""
+
+import re
+import sys
+from collections import namedtuple
+
+
+class Refusal(Exception):
+    """A refused act; carries its number (01, Refusal numbers)."""
+
+    def __init__(self, number):
+        super().__init__(number)
+        self.number = number
+
+
+# ---------------------------------------------------------------- settings
+
+FIRST_SETTING, LAST_SETTING, CYCLES = 6, 10, 11
+PROGRAM = 0x41
+MOST_CYCLES = 3
+
+OV_HYSTERESIS_MV = (100, 200, 300, 0)
+UV_HYSTERESIS_MV = (200, 400, 800, 1200)
+UV_RELEASE_CAP_MV = 3300
+UV_DELAY_US = (
+    0, 1250, 2500, 5000, 10000, 15000, 20000, 30000,
+    1000000, 2000000, 3000000, 4000000,
+    5000000, 6000000, 7000000, 8000000,
+)
+HOT_BELOW_MV = 975
+
+
+def bits(byte, high, low):
+    """The field of a byte from bit `high` down to bit `low`."""
+    return (byte >> low) & ((1 << (high - low + 1)) - 1)
+
+
+def ocd_delay_us(code):
+    """Delay of an OCD delay code (01, Frames and registers, register 8)."""
+    ms = 20 * (code + 1) if code <= 15 else 100 * (code - 15)
+    return ms * 1000
+
+
+class Settings:
+    """The meaning of the five settings bytes (01, Frames and registers).
+
+    Cell levels in mV, shunt levels in uV, delays in us.
+    """
+
+    def __init__(self, five):
+        reg6, reg7, reg8, reg9, reg10 = five
+        self.ov_level = 4150 + 50 * bits(reg6, 2, 0)
+        self.ov_release = self.ov_level - OV_HYSTERESIS_MV[bits(reg6, 4, 3)]
+        self.ov_delay = (500 + 250 * bits(reg6, 7, 5)) * 1000
+        self.uv_level = 1400 + 100 * bits(reg7, 3, 0)
+        self.uv_release = min(
+            self.uv_level + UV_HYSTERESIS_MV[bits(reg7, 5, 4)],
+            UV_RELEASE_CAP_MV)
+        self.uv_delay = UV_DELAY_US[bits(reg9, 7, 4)]
+        self.ocd_level = (10 + 5 * bits(reg9, 3, 0)) * 1000
+        self.ocd_delay = ocd_delay_us(bits(reg8, 4, 0))
+        self.scd_level = (60 + 5 * bits(reg10, 3, 0)) * 1000
+        self.scd_delay = 60 * bits(reg10, 7, 4)
+
+
+# ----------------------------------------------------------- runs and faults
+
+Sample = namedtuple("Sample", "elapsed load thermistor shunt cells")
+
+STATUS_BIT = {"SCD": 0, "OCD": 1, "OV": 2, "UV": 3, "OT": 4}
+DSG_BIT, CHG_BIT = 6, 7
+STOPS_CHG = {"OV", "OCD", "SCD", "OT"}
+STOPS_DSG = {"UV", "OCD", "SCD", "OT"}
+
+
+def run(samples, holds):
+    """Run of a condition at the last of `samples` (01, When a fault latches).
+
+    None if the condition fails there. `samples` begins at the start or at
+    the last cycle spent, so the walk back ends there by itself.
+    """
+    first = len(samples)
+    while first > 0 and holds(samples[first - 1]):
+        first -= 1
+    if first == len(samples):
+        return None
+    return sum(sample.elapsed for sample in samples[first + 1:])
+
+
+def stood(samples, holds, delay):
+    """Has the condition stood its delay (01, When a fault latches)?"""
+    length = run(samples, holds)
+    return length is not None and length >= delay
+
+
+def cells_over(samples, settings):
+    """For each cell: has its OV run stood the delay (01, the fault table)?"""
+    level, delay = settings.ov_level, settings.ov_delay
+    return [stood(samples, lambda s, i=i: s.cells[i] > level, delay)
+            for i in range(len(samples[-1].cells))]
+
+
+def cells_under(samples, settings):
+    """For each cell: has its UV run stood the delay (01, the fault table)?"""
+    level, delay = settings.uv_level, settings.uv_delay
+    return [stood(samples, lambda s, i=i: s.cells[i] < level, delay)
+            for i in range(len(samples[-1].cells))]
+
+
+def faults_stood(samples, settings, over):
+    """The faults whose condition has stood its delay (01, the fault table)."""
+    ocd, scd = settings.ocd_level, settings.scd_level
+    shown = {
+        "OV": any(over),
+        "UV": any(cells_under(samples, settings)),
+        "OCD": stood(samples, lambda s: s.shunt > ocd, settings.ocd_delay),
+        "SCD": stood(samples, lambda s: s.shunt > scd, settings.scd_delay),
+        "OT": samples[-1].thermistor < HOT_BELOW_MV,
+    }
+    return {fault for fault in shown if shown[fault]}
+
+
+def faults_let_go(sample, settings):
+    """The faults that unlatch at this sample (01, the fault table)."""
+    shown = {
+        "OV": all(mv < settings.ov_release for mv in sample.cells),
+        "UV": all(mv > settings.uv_release for mv in sample.cells),
+        "OCD": sample.load == 0 and sample.shunt <= settings.ocd_level,
+        "SCD": sample.load == 0 and sample.shunt <= settings.scd_level,
+        "OT": sample.thermistor >= HOT_BELOW_MV,
+    }
+    return {fault for fault in shown if shown[fault]}
+
+
+def flags_after(flagged, sample, settings, over):
+    """The flagged cells after a sample, counted from 0 (01, Bleeding)."""
+    kept = {i for i in flagged if not sample.cells[i] < settings.ov_release}
+    return kept | {i for i, yes in enumerate(over) if yes}
+
+
+def chg_on(latched):
+    """CHG (01, When a fault latches)."""
+    return not latched & STOPS_CHG
+
+
+def dsg_on(latched):
+    """DSG (01, When a fault latches)."""
+    return not latched & STOPS_DSG
+
+
+def status(latched):
+    """The value of register 0 (01, Frames and registers)."""
+    value = sum(1 << STATUS_BIT[fault] for fault in latched)
+    return value + (dsg_on(latched) << DSG_BIT) + (chg_on(latched) << CHG_BIT)
+
+
+def bled(flagged, count):
+    """The bled cells as a number; the top cell is judged first (01, Bleeding)."""
+    number, higher_is_bled = 0, False
+    for i in reversed(range(count)):
+        higher_is_bled = i in flagged and not higher_is_bled
+        number += higher_is_bled << i
+    return number
+
+
+# ------------------------------------------------------------------- boards
+
+class Record:
+    """What a board's history amounts to (01, The stack and its readings)."""
+
+    def __init__(self):
+        self.staged = [0] * 5
+        self.working = [0] * 5
+        self.settings = Settings(self.working)
+        self.spent = 0
+        self.samples = []       # since the start or the last cycle spent
+        self.latched = set()
+        self.flagged = set()    # cells counted from 0
+
+    def follow(self, act, detail):
+        """Take in one act of the history."""
+        if act == "sample":
+            self.follow_sample(detail)
+        elif act == "write":
+            register, value = detail
+            self.staged[register - FIRST_SETTING] = value
+        elif act == "program":
+            self.follow_programming()
+
+    def follow_sample(self, sample):
+        """01, When a fault latches, and Bleeding."""
+        self.samples.append(sample)
+        over = cells_over(self.samples, self.settings)
+        shown = faults_stood(self.samples, self.settings, over)
+        gone = faults_let_go(sample, self.settings)
+        self.latched = (self.latched - gone) | (shown - self.latched)
+        self.flagged = flags_after(self.flagged, sample, self.settings, over)
+
+    def follow_programming(self):
+        """01, Frames and registers: equal sets change and spend nothing."""
+        if self.staged == self.working:
+            return
+        self.working = list(self.staged)
+        self.settings = Settings(self.working)
+        self.spent += 1
+        self.samples = []
+
+
+class Board:
+    """One board: its cell count and the history of its accepted acts.
+
+    Reads are not in the history, for they change nothing. `record` keeps
+    what it has made of the history so far and takes in only what is new.
+    """
+
+    def __init__(self, count):
+        self.count = count
+        self.history = []
+        self.followed = 0
+        self.made = Record()
+
+    def record(self):
+        """The record that the whole history amounts to."""
+        while self.followed < len(self.history):
+            self.made.follow(*self.history[self.followed])
+            self.followed += 1
+        return self.made
+
+    def sample(self, sample):
+        """Accept a sample; its answer (01, Bleeding)."""
+        self.history.append(("sample", sample))
+        record = self.record()
+        return status(record.latched), bled(record.flagged, self.count)
+
+    def read(self, register):
+        """The value a read gives (01, Frames and registers)."""
+        record = self.record()
+        if register == 0:
+            return status(record.latched)
+        if register == CYCLES:
+            return record.spent
+        return record.working[register - FIRST_SETTING]
+
+    def write(self, register, value):
+        """Accept a write, or refuse with 11; the value of its reply."""
+        if register == CYCLES:
+            return self.program()
+        self.history.append(("write", (register, value)))
+        return value
+
+    def program(self):
+        """Programming; gives the cycles spent (01, Frames and registers)."""
+        record = self.record()
+        if record.staged != record.working and record.spent >= MOST_CYCLES:
+            raise Refusal(11)
+        self.history.append(("program", None))
+        return self.record().spent
+
+
+# ------------------------------------------------------------------- frames
+
+def crc8(data):
+    """CRC-8 of the SMBus packet error code, bit by bit (01, Frames)."""
+    crc = 0
+    for byte in data:
+        for place in range(7, -1, -1):
+            top = (crc >> 7) ^ ((byte >> place) & 1)
+            crc = (crc << 1) & 0xFF
+            if top:
+                crc ^= 0x07     # x^2 + x + 1; the x^8 is the bit shifted out
+    return crc
+
+
+def check_register(register, is_write):
+    """Refusal 9 (01, Refusal numbers)."""
+    known = register == 0 or FIRST_SETTING <= register <= CYCLES
+    if not known or (is_write and register == 0):
+        raise Refusal(9)
+
+
+def value_allowed(register, value, is_write):
+    """May this value stand in the frame (01, Frames and registers)?"""
+    if not is_write:
+        return value == 0
+    if register == 7:
+        return bits(value, 7, 6) == 0
+    if register == 8:
+        return bits(value, 7, 5) == 0
+    if register == CYCLES:
+        return value == PROGRAM
+    return True
+
+
+# -------------------------------------------------------------------- stack
+
+class Stack:
+    """A stack that came from an opening (01, The stack and its readings)."""
+
+    def __init__(self, counts):
+        if not 1 <= len(counts) <= 16:
+            raise Refusal(1)
+        if not all(5 <= count <= 10 for count in counts):
+            raise Refusal(1)
+        self.boards = [Board(count) for count in counts]
+
+    def board(self, number):
+        """The board of that number, or refusal 2."""
+        if not 1 <= number <= len(self.boards):
+            raise Refusal(2)
+        return self.boards[number - 1]
+
+    def sample(self, number, sample):
+        """A sample: refusals 2, 3, 4, 5 in this order (01, Refusal numbers)."""
+        board = self.board(number)
+        if len(sample.cells) != board.count:
+            raise Refusal(3)
+        if not 1 <= sample.elapsed <= 100000:
+            raise Refusal(4)
+        if max(sample.cells) > 5000 or sample.thermistor > 5000:
+            raise Refusal(5)
+        if not -500000 <= sample.shunt <= 500000 or sample.load not in (0, 1):
+            raise Refusal(5)
+        return board.sample(sample)
+
+    def frame(self, data, reply):
+        """A frame: refusals 6, 7, 8, 2, 9, 10, 11 (01, Refusal numbers).
+
+        The reply goes into the first four bytes of the lent `reply`.
+        """
+        if len(data) != 4:
+            raise Refusal(6)
+        if len(reply) < 4:
+            raise Refusal(7)
+        address, register, value, check = data
+        if crc8((address, register, value)) != check:
+            raise Refusal(8)
+        board = self.board(address // 2)
+        is_write = address % 2 == 1
+        check_register(register, is_write)
+        if not value_allowed(register, value, is_write):
+            raise Refusal(10)
+        given = board.write(register, value) if is_write else board.read(register)
+        reply[:4] = (address, register, given, crc8((address, register, given)))
+
+    def fault_line(self):
+        """Board 1's fault line, from the north down (01, Whole-stack reading)."""
+        up = False
+        for board in reversed(self.boards):
+            up = bool(board.record().latched) or up
+        return up
+
+    def first_flagged(self):
+        """Southernmost board with a flag and its lowest flagged cell."""
+        for number, board in enumerate(self.boards, 1):
+            flagged = board.record().flagged
+            if flagged:
+                return number, min(flagged) + 1
+        return 0, 0
+
+    def reading(self):
+        """Line, pack CHG, pack DSG, board, cell (01, Whole-stack reading)."""
+        latched = [board.record().latched for board in self.boards]
+        chg = all(chg_on(one) for one in latched)
+        dsg = all(dsg_on(one) for one in latched)
+        return (int(self.fault_line()), int(chg), int(dsg)) + self.first_flagged()
+
+
+# -------------------------------------------------------------------- bench
+
+LONGEST_LINE = 200
+LARGEST_NUMBER = 2147483647
+LENT_BYTES = 4
+
+NUMBER = rb"(?:0|[1-9][0-9]*)"
+SHUNT = rb"(?:0|-?[1-9][0-9]*)"
+GRAMMAR = {
+    "O": re.compile(rb"O(?: %b)*" % NUMBER),
+    "S": re.compile(rb"S(?: %b){4} %b(?: %b){0,16}" % (NUMBER, SHUNT, NUMBER)),
+    "F": re.compile(rb"F(?: %b){0,16}" % NUMBER),
+    "R": re.compile(rb"R"),
+}
+
+
+def parse(line):
+    """Letter and numbers of a line, or refusal 12 (01, The bench program)."""
+    if len(line) > LONGEST_LINE:
+        raise Refusal(12)
+    for letter, shape in GRAMMAR.items():
+        if shape.fullmatch(line):
+            numbers = [int(word) for word in line.split(b" ")[1:]]
+            largest = 255 if letter == "F" else LARGEST_NUMBER
+            if any(abs(number) > largest for number in numbers):
+                raise Refusal(12)
+            return letter, numbers
+    raise Refusal(12)
+
+
+def split_lines(data):
+    """The lines of the input: only byte 10 ends one, the last may lack it."""
+    lines = data.split(b"\n")
+    if lines[-1] == b"":
+        lines.pop()
+    return lines
+
+
+class Bench:
+    """The bench program (01, The bench program)."""
+
+    def __init__(self):
+        self.stack = None
+
+    def answer(self, line):
+        """The answer to one line, without its newline."""
+        try:
+            letter, numbers = parse(line)
+            if letter == "O":
+                return self.opening(numbers)
+            if self.stack is None:
+                raise Refusal(1)
+            return {"S": self.sample, "F": self.frame, "R": self.reading}[letter](numbers)
+        except Refusal as refusal:
+            return b"no %d" % refusal.number
+
+    def opening(self, counts):
+        """A refused opening raises before the earlier stack is let go."""
+        self.stack = Stack(counts)
+        return b"ok"
+
+    def sample(self, numbers):
+        """The fields in the line's order."""
+        number, elapsed, load, thermistor, shunt = numbers[:5]
+        sample = Sample(elapsed, load, thermistor, shunt, tuple(numbers[5:]))
+        return b"st %d bal %d" % self.stack.sample(number, sample)
+
+    def frame(self, data):
+        """A frame with the bench's own reply buffer."""
+        reply = bytearray(LENT_BYTES)
+        self.stack.frame(data, reply)
+        return b"re %d %d %d %d" % tuple(reply)
+
+    def reading(self, _numbers):
+        """The whole-stack reading."""
+        return b"ln %d chg %d dsg %d at %d %d" % self.stack.reading()
+
+    def answers(self, data):
+        """The whole output for a whole input."""
+        return b"".join(self.answer(line) + b"\n" for line in split_lines(data))
+
+
+def main():
+    """Bench lines from standard input, answers to standard output."""
+    sys.stdout.buffer.write(Bench().answers(sys.stdin.buffer.read()))
+
+
+if __name__ == "__main__":
+    main()

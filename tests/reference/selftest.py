@@ -1,0 +1,679 @@
+#!/usr/bin/env python3
+"""Self test of the reference: every expected answer was worked out by hand.
+
+A session is text, one act a line: `input -> answer`. A leading `5: ` repeats
+the act with the same answer. A `*` stands for a check byte, which is worked
+out here by long division, not by the reference. `{a}` names a list of cells.
+"""
+
+import sys
+
+sys.dont_write_bytecode = True
+
+import reference  # noqa: E402
+from reference import Bench, Refusal, Settings, Stack, crc8  # noqa: E402
+
+FAILED = []
+
+
+def expect(name, wanted, got):
+    """Note a difference."""
+    if wanted != got:
+        FAILED.append(name)
+        print(f"{name}: wanted {wanted!r}, got {got!r}")
+
+
+def long_division(data):
+    """Remainder of data * x^8 by x^8 + x^2 + x + 1, over the whole number."""
+    rest = int.from_bytes(bytes(data), "big") << 8
+    while rest.bit_length() > 8:
+        rest ^= 0b100000111 << (rest.bit_length() - 9)
+    return rest
+
+
+def fill_check(text):
+    """Put the check byte in place of a closing star."""
+    if not text.endswith(" *"):
+        return text
+    head = text[:-2]
+    return f"{head} {long_division([int(word) for word in head.split()[1:]])}"
+
+
+def replayed(board):
+    """The record of a board's history, gone over afresh from the start."""
+    record = reference.Record()
+    for act in board.history:
+        record.follow(*act)
+    return record
+
+
+def check_replay(name, bench):
+    """What was kept on the way must be what the whole history gives."""
+    for board in bench.stack.boards if bench.stack else ():
+        kept, fresh = vars(board.record()), vars(replayed(board))
+        for key in ("staged", "working", "spent", "samples", "latched", "flagged"):
+            expect(f"{name}, {key} gone over afresh", fresh[key], kept[key])
+
+
+def session(name, text, **cells):
+    """Run one session and compare it line by line."""
+    bench = Bench()
+    for row in text.strip().splitlines():
+        row = row.strip().format(**cells)
+        times, colon, rest = row.partition(": ")
+        times, rest = (int(times), rest) if colon else (1, row)
+        line, wanted = (fill_check(part.strip()) for part in rest.split("->"))
+        for turn in range(times):
+            got = bench.answer(line.encode()).decode()
+            expect(f"{name}, {line}, turn {turn + 1}", wanted, got)
+    check_replay(name, bench)
+
+
+def paper_session():
+    """01, The bench program."""
+    given = b"""O 5
+S 1 1000 0 2000 0 4000 4000 4000 4000 4000
+F 2 0 0 214
+S 1 1000 1 2000 60001 4000 4000 4000 4000 4000
+R
+S 1 20000 0 2000 0 4000 4000 4000 4000 4000
+"""
+    printed = b"""ok
+st 192 bal 0
+re 2 0 192 152
+st 1 bal 0
+ln 1 chg 0 dsg 0 at 0 0
+st 192 bal 0
+"""
+    expect("the paper's session", printed, Bench().answers(given))
+    expect("the same without its last newline", printed, Bench().answers(given[:-1]))
+
+
+def crc_values():
+    """01, What the acceptance reads: published check values and some by hand."""
+    expect("CRC-8/SMBUS check value", 0xF4, crc8(b"123456789"))
+    expect("the long division", 0xF4, long_division(b"123456789"))
+    # one bit alone gives the powers of x modulo the polynomial
+    powers = (0x07, 0x0E, 0x1C, 0x38, 0x70, 0xE0, 0xC7, 0x89)
+    for place, power in enumerate(powers):
+        expect(f"bit {place}", power, crc8([0, 0, 1 << place]))
+    for data, check in (([], 0), ([0, 0, 0], 0), ([2, 0, 0], 214), ([2, 0, 192], 152),
+                        ([3, 11, 65], 234), ([3, 11, 0], 42), ([3, 11, 1], 45),
+                        ([2, 6, 0], 168), ([3, 6, 7], 214)):
+        expect(f"check of {data}", check, crc8(data))
+
+
+FIVE = {
+    "calm": "4000 4000 4000 4000 4000",
+    "one": "4151 4000 4000 4000 4000",
+    "two": "4000 4151 4000 4000 4000",
+    "both": "4151 4151 4000 4000 4000",
+}
+
+
+def marked_cases():
+    """01, Both sides of the line: M1 to M12."""
+    session("M1, M3, M4", """
+        O 5 -> ok
+        5: S 1 100000 0 2000 0 {one} -> st 192 bal 0
+        S 1 100000 0 2000 0 {one} -> st 68 bal 1
+        3: S 1 100000 0 2000 0 4050 4050 4050 4050 4050 -> st 68 bal 1
+        S 1 100000 0 2000 0 4049 4049 4049 4049 4050 -> st 68 bal 0
+        S 1 100000 0 2000 0 4049 4049 4049 4049 4049 -> st 192 bal 0
+        """, **FIVE)
+    session("M2", """
+        O 5 -> ok
+        40: S 1 100000 0 2000 0 4150 4150 4150 4150 4150 -> st 192 bal 0
+        """)
+    session("M5", """
+        O 5 -> ok
+        F 3 7 56 * -> re 3 7 56 *
+        F 3 11 65 * -> re 3 11 1 *
+        S 1 1 0 2000 0 2200 2200 2200 2200 2200 -> st 192 bal 0
+        S 1 1 0 2000 0 2200 2200 2199 2200 2200 -> st 136 bal 0
+        S 1 1 0 2000 0 3300 3300 3300 3300 3300 -> st 136 bal 0
+        S 1 1 0 2000 0 3301 3301 3301 3301 3300 -> st 136 bal 0
+        S 1 1 0 2000 0 3301 3301 3301 3301 3301 -> st 192 bal 0
+        """)
+    session("M6", """
+        O 5 -> ok
+        S 1 1 0 2000 0 1400 1400 1400 1400 1400 -> st 192 bal 0
+        S 1 1 0 2000 0 1400 1400 1400 1400 1399 -> st 136 bal 0
+        S 1 1 0 2000 0 1600 1600 1600 1600 1600 -> st 136 bal 0
+        S 1 1 0 2000 0 1601 1601 1601 1601 1601 -> st 192 bal 0
+        """)
+    session("M7", """
+        O 5 -> ok
+        F 3 8 15 * -> re 3 8 15 *
+        F 3 11 65 * -> re 3 11 1 *
+        4: S 1 100000 0 2000 10001 {calm} -> st 192 bal 0
+        S 1 19999 0 2000 10001 {calm} -> st 192 bal 0
+        S 1 1 0 2000 10001 {calm} -> st 2 bal 0
+        """, **FIVE)
+    session("M8", """
+        O 5 -> ok
+        F 3 8 16 * -> re 3 8 16 *
+        F 3 11 65 * -> re 3 11 1 *
+        S 1 100000 0 2000 10001 {calm} -> st 192 bal 0
+        S 1 99999 0 2000 10001 {calm} -> st 192 bal 0
+        S 1 1 0 2000 10001 {calm} -> st 2 bal 0
+        """, **FIVE)
+    session("M9", """
+        O 5 -> ok
+        F 3 8 31 * -> re 3 8 31 *
+        F 3 11 65 * -> re 3 11 1 *
+        16: S 1 100000 0 2000 10001 {calm} -> st 192 bal 0
+        S 1 99999 0 2000 10001 {calm} -> st 192 bal 0
+        S 1 1 0 2000 10001 {calm} -> st 2 bal 0
+        """, **FIVE)
+    session("M10", """
+        O 5 -> ok
+        30: S 1 100000 1 2000 -60001 {calm} -> st 192 bal 0
+        30: S 1 100000 0 2000 -500000 {calm} -> st 192 bal 0
+        """, **FIVE)
+    session("M11", """
+        O 5 -> ok
+        S 1 100000 1 2000 60000 {calm} -> st 192 bal 0
+        S 1 19999 1 2000 60000 {calm} -> st 192 bal 0
+        S 1 1 1 2000 60000 {calm} -> st 2 bal 0
+        S 1 1 1 2000 60001 {calm} -> st 3 bal 0
+        """, **FIVE)
+    session("M12", """
+        O 8 -> ok
+        5: S 1 100000 0 2000 0 {high} -> st 192 bal 0
+        S 1 100000 0 2000 0 {high} -> st 68 bal 132
+        R -> ln 1 chg 0 dsg 1 at 1 3
+        """, high="4000 4000 4151 4000 4000 4000 4151 4151")
+
+
+def run_cases():
+    """01, When a fault latches, and Errors a good mechanic would make."""
+    session("a refused sample neither counts nor breaks a stretch", """
+        O 5 -> ok
+        3: S 1 100000 0 2000 0 {one} -> st 192 bal 0
+        S 1 100000 0 2000 0 4151 5001 4000 4000 4000 -> no 5
+        S 1 0 0 2000 0 {calm} -> no 4
+        S 1 100000 0 2000 0 4000 4000 4000 4000 -> no 3
+        S 1 100000 2 2000 0 {calm} -> no 5
+        2: S 1 100000 0 2000 0 {one} -> st 192 bal 0
+        S 1 100000 0 2000 0 {one} -> st 68 bal 1
+        """, **FIVE)
+    session("the last microsecond", """
+        O 5 -> ok
+        5: S 1 100000 0 2000 0 {one} -> st 192 bal 0
+        S 1 99999 0 2000 0 {one} -> st 192 bal 0
+        S 1 1 0 2000 0 {one} -> st 68 bal 1
+        """, **FIVE)
+    session("one sample at the level breaks the stretch", """
+        O 5 -> ok
+        5: S 1 100000 0 2000 0 {one} -> st 192 bal 0
+        S 1 100000 0 2000 0 4150 4000 4000 4000 4000 -> st 192 bal 0
+        5: S 1 100000 0 2000 0 {one} -> st 192 bal 0
+        S 1 100000 0 2000 0 {one} -> st 68 bal 1
+        """, **FIVE)
+    session("two cells take turns", """
+        O 5 -> ok
+        5: S 1 100000 0 2000 0 {one} -> st 192 bal 0
+        5: S 1 100000 0 2000 0 {two} -> st 192 bal 0
+        5: S 1 100000 0 2000 0 {one} -> st 192 bal 0
+        5: S 1 100000 0 2000 0 {two} -> st 192 bal 0
+        """, **FIVE)
+    session("two cells overlap: the second has its own run", """
+        O 5 -> ok
+        4: S 1 100000 0 2000 0 {one} -> st 192 bal 0
+        S 1 100000 0 2000 0 {both} -> st 192 bal 0
+        4: S 1 100000 0 2000 0 {two} -> st 192 bal 0
+        S 1 100000 0 2000 0 {two} -> st 68 bal 2
+        """, **FIVE)
+    session("a run goes on while its fault is latched", """
+        O 5 -> ok
+        3: S 1 100000 0 2000 0 {one} -> st 192 bal 0
+        2: S 1 100000 0 2000 0 {both} -> st 192 bal 0
+        3: S 1 100000 0 2000 0 {both} -> st 68 bal 1
+        S 1 100000 0 2000 0 {both} -> st 68 bal 2
+        R -> ln 1 chg 0 dsg 1 at 1 1
+        S 1 100000 0 2000 0 4049 4100 4000 4000 4000 -> st 68 bal 2
+        R -> ln 1 chg 0 dsg 1 at 1 2
+        """, **FIVE)
+    session("a stack of two: another board's samples are not in the stretch", """
+        O 5 5 -> ok
+        5: S 1 100000 0 2000 0 {one} -> st 192 bal 0
+        5: S 2 100000 0 2000 0 {calm} -> st 192 bal 0
+        S 1 100000 0 2000 0 {one} -> st 68 bal 1
+        5: S 2 100000 0 2000 0 {one} -> st 192 bal 0
+        S 2 100000 0 2000 0 {one} -> st 68 bal 1
+        R -> ln 1 chg 0 dsg 1 at 1 1
+        """, **FIVE)
+    session("programming unlike sets starts every run over", """
+        O 5 -> ok
+        5: S 1 100000 0 2000 0 {one} -> st 192 bal 0
+        F 3 10 1 * -> re 3 10 1 *
+        F 3 11 65 * -> re 3 11 1 *
+        5: S 1 100000 0 2000 0 {one} -> st 192 bal 0
+        S 1 100000 0 2000 0 {one} -> st 68 bal 1
+        """, **FIVE)
+    session("programming equal sets starts nothing over", """
+        O 5 -> ok
+        5: S 1 100000 0 2000 0 {one} -> st 192 bal 0
+        F 3 11 65 234 -> re 3 11 0 42
+        S 1 100000 0 2000 0 {one} -> st 68 bal 1
+        """, **FIVE)
+    session("staging alone starts nothing over and changes no level", """
+        O 5 -> ok
+        5: S 1 100000 0 2000 0 {one} -> st 192 bal 0
+        F 3 6 255 * -> re 3 6 255 *
+        S 1 100000 0 2000 0 {one} -> st 68 bal 1
+        """, **FIVE)
+
+
+OV_LEVELS = (4150, 4200, 4250, 4300, 4350, 4400, 4450, 4500)
+OV_DELAYS_MS = (500, 750, 1000, 1250, 1500, 1750, 2000, 2250)
+OV_STEPS = (100, 200, 300, 0)
+UV_LEVELS = (1400, 1500, 1600, 1700, 1800, 1900, 2000, 2100,
+             2200, 2300, 2400, 2500, 2600, 2700, 2800, 2900)
+# one row for each hysteresis code
+UV_RELEASES = (
+    (1600, 1700, 1800, 1900, 2000, 2100, 2200, 2300,
+     2400, 2500, 2600, 2700, 2800, 2900, 3000, 3100),
+    (1800, 1900, 2000, 2100, 2200, 2300, 2400, 2500,
+     2600, 2700, 2800, 2900, 3000, 3100, 3200, 3300),
+    (2200, 2300, 2400, 2500, 2600, 2700, 2800, 2900,
+     3000, 3100, 3200, 3300, 3300, 3300, 3300, 3300),
+    (2600, 2700, 2800, 2900, 3000, 3100, 3200, 3300,
+     3300, 3300, 3300, 3300, 3300, 3300, 3300, 3300),
+)
+UV_DELAYS_MS = (0, 1.25, 2.5, 5, 10, 15, 20, 30,
+                1000, 2000, 3000, 4000, 5000, 6000, 7000, 8000)
+OCD_DELAYS_MS = (20, 40, 60, 80, 100, 120, 140, 160,
+                 180, 200, 220, 240, 260, 280, 300, 320,
+                 100, 200, 300, 400, 500, 600, 700, 800,
+                 900, 1000, 1100, 1200, 1300, 1400, 1500, 1600)
+OCD_LEVELS_MV = (10, 15, 20, 25, 30, 35, 40, 45, 50, 55, 60, 65, 70, 75, 80, 85)
+SCD_LEVELS_MV = (60, 65, 70, 75, 80, 85, 90, 95, 100, 105, 110, 115, 120, 125, 130, 135)
+SCD_DELAYS_US = (0, 60, 120, 180, 240, 300, 360, 420, 480, 540, 600, 660, 720, 780, 840, 900)
+
+
+def settings_tables():
+    """01, Frames and registers: every byte of every settings register."""
+    for byte in range(256):
+        high, low = divmod(byte, 16)
+        six = Settings((byte, 0, 0, 0, 0))
+        expect(f"OV level of {byte}", OV_LEVELS[byte % 8], six.ov_level)
+        expect(f"OV release of {byte}",
+               OV_LEVELS[byte % 8] - OV_STEPS[byte // 8 % 4], six.ov_release)
+        expect(f"OV delay of {byte}", OV_DELAYS_MS[byte // 32] * 1000, six.ov_delay)
+        nine = Settings((0, 0, 0, byte, 0))
+        expect(f"OCD level of {byte}", OCD_LEVELS_MV[low] * 1000, nine.ocd_level)
+        expect(f"UV delay of {byte}", UV_DELAYS_MS[high] * 1000, nine.uv_delay)
+        ten = Settings((0, 0, 0, 0, byte))
+        expect(f"SCD level of {byte}", SCD_LEVELS_MV[low] * 1000, ten.scd_level)
+        expect(f"SCD delay of {byte}", SCD_DELAYS_US[high], ten.scd_delay)
+        if high < 4:
+            seven = Settings((0, byte, 0, 0, 0))
+            expect(f"UV level of {byte}", UV_LEVELS[low], seven.uv_level)
+            expect(f"UV release of {byte}", UV_RELEASES[high][low], seven.uv_release)
+        if byte < 32:
+            eight = Settings((0, 0, byte, 0, 0))
+            expect(f"OCD delay of {byte}", OCD_DELAYS_MS[byte] * 1000, eight.ocd_delay)
+
+
+def fault_cases():
+    """01, the fault table."""
+    session("hysteresis of 0: a cell at the level leaves everything as it was", """
+        O 5 -> ok
+        F 3 6 24 * -> re 3 6 24 *
+        F 3 11 65 * -> re 3 11 1 *
+        5: S 1 100000 0 2000 0 {one} -> st 192 bal 0
+        S 1 100000 0 2000 0 {one} -> st 68 bal 1
+        9: S 1 100000 0 2000 0 4150 4150 4150 4150 4150 -> st 68 bal 1
+        S 1 100000 0 2000 0 4149 4149 4149 4149 4149 -> st 192 bal 0
+        """, **FIVE)
+    session("OV byte 255: level 4500, delay 2250 ms", """
+        O 5 -> ok
+        F 3 6 255 * -> re 3 6 255 *
+        F 3 11 65 * -> re 3 11 1 *
+        30: S 1 100000 0 2000 0 4500 4500 4500 4500 4500 -> st 192 bal 0
+        23: S 1 100000 0 2000 0 4000 4501 4000 4000 4000 -> st 192 bal 0
+        S 1 49999 0 2000 0 4000 4501 4000 4000 4000 -> st 192 bal 0
+        S 1 1 0 2000 0 4000 4501 4000 4000 4000 -> st 68 bal 2
+        """, **FIVE)
+    session("OV byte 17: level 4200, hysteresis 300", """
+        O 5 -> ok
+        F 3 6 17 * -> re 3 6 17 *
+        F 3 11 65 * -> re 3 11 1 *
+        5: S 1 100000 0 2000 0 4201 3800 3800 3800 3800 -> st 192 bal 0
+        S 1 100000 0 2000 0 4201 3800 3800 3800 3800 -> st 68 bal 1
+        S 1 100000 0 2000 0 3900 3800 3800 3800 3800 -> st 68 bal 1
+        S 1 100000 0 2000 0 3899 3900 3899 3899 3899 -> st 68 bal 0
+        S 1 100000 0 2000 0 3899 3899 3899 3899 3899 -> st 192 bal 0
+        """)
+    session("UV delay 1.25 ms", """
+        O 5 -> ok
+        F 3 9 16 * -> re 3 9 16 *
+        F 3 11 65 * -> re 3 11 1 *
+        S 1 100000 0 2000 0 4000 0 4000 4000 4000 -> st 192 bal 0
+        S 1 1249 0 2000 0 4000 0 4000 4000 4000 -> st 192 bal 0
+        S 1 1 0 2000 0 4000 0 4000 4000 4000 -> st 136 bal 0
+        """)
+    session("UV cells take turns", """
+        O 5 -> ok
+        F 3 9 16 * -> re 3 9 16 *
+        F 3 11 65 * -> re 3 11 1 *
+        S 1 1000 0 2000 0 4000 0 4000 4000 4000 -> st 192 bal 0
+        S 1 1249 0 2000 0 4000 0 4000 4000 4000 -> st 192 bal 0
+        S 1 1000 0 2000 0 4000 4000 0 4000 4000 -> st 192 bal 0
+        S 1 1249 0 2000 0 4000 4000 0 4000 4000 -> st 192 bal 0
+        S 1 1249 0 2000 0 4000 0 4000 4000 4000 -> st 192 bal 0
+        """)
+    session("UV delay 8 s and OCD level 85 mV, SCD level 135 mV after 900 us", """
+        O 5 -> ok
+        F 3 9 255 * -> re 3 9 255 *
+        F 3 10 255 * -> re 3 10 255 *
+        F 3 11 65 * -> re 3 11 1 *
+        80: S 1 100000 0 2000 85000 4000 0 4000 4000 4000 -> st 192 bal 0
+        S 1 99999 0 2000 85000 4000 0 4000 4000 4000 -> st 192 bal 0
+        S 1 1 0 2000 85000 4000 0 4000 4000 4000 -> st 136 bal 0
+        S 1 1 0 2000 135001 {calm} -> st 192 bal 0
+        S 1 899 0 2000 135001 {calm} -> st 192 bal 0
+        S 1 1 0 2000 135001 {calm} -> st 1 bal 0
+        S 1 19098 0 2000 135001 {calm} -> st 1 bal 0
+        S 1 1 0 2000 135001 {calm} -> st 1 bal 0
+        S 1 1 0 2000 135001 {calm} -> st 3 bal 0
+        S 1 1 0 2000 85001 {calm} -> st 2 bal 0
+        S 1 1 0 2000 85000 {calm} -> st 192 bal 0
+        """, **FIVE)
+    session("the load holds a current fault", """
+        O 5 -> ok
+        S 1 1 1 2000 500000 {calm} -> st 1 bal 0
+        S 1 1 1 2000 0 {calm} -> st 1 bal 0
+        S 1 1 0 2000 60001 {calm} -> st 1 bal 0
+        S 1 1 0 2000 60000 {calm} -> st 192 bal 0
+        S 1 20000 0 2000 60000 {calm} -> st 2 bal 0
+        S 1 1 1 2000 10000 {calm} -> st 2 bal 0
+        S 1 1 0 2000 10001 {calm} -> st 2 bal 0
+        S 1 1 0 2000 10000 {calm} -> st 192 bal 0
+        """, **FIVE)
+    session("overtemperature", """
+        O 5 -> ok
+        S 1 1 0 975 0 {calm} -> st 192 bal 0
+        2: S 1 1 0 974 0 {calm} -> st 16 bal 0
+        2: S 1 1 0 975 0 {calm} -> st 192 bal 0
+        S 1 1 0 0 0 {calm} -> st 16 bal 0
+        S 1 1 0 5000 0 {calm} -> st 192 bal 0
+        """, **FIVE)
+    session("all five at once", """
+        O 5 -> ok
+        6: S 1 0 0 0 0 {calm} -> no 4
+        S 1 1 1 0 500000 5000 0 0 0 0 -> st 25 bal 0
+        4: S 1 100000 1 0 500000 5000 0 0 0 0 -> st 27 bal 0
+        S 1 100000 1 0 500000 5000 0 0 0 0 -> st 31 bal 1
+        F 2 0 0 214 -> re 2 0 31 *
+        R -> ln 1 chg 0 dsg 0 at 1 1
+        S 1 1 0 975 10000 {calm} -> st 192 bal 0
+        """, **FIVE)
+
+
+def bleeding_cases():
+    """01, Bleeding and Whole-stack reading."""
+    session("all five, all ten", """
+        O 5 10 -> ok
+        5: S 1 100000 0 2000 0 {five} -> st 192 bal 0
+        S 1 100000 0 2000 0 {five} -> st 68 bal 21
+        5: S 2 100000 0 2000 0 {five} {five} -> st 192 bal 0
+        S 2 100000 0 2000 0 {five} {five} -> st 68 bal 682
+        """, five="4200 4200 4200 4200 4200")
+    session("southernmost board, lowest flagged cell, line and pack", """
+        O 5 6 5 -> ok
+        R -> ln 0 chg 1 dsg 1 at 0 0
+        S 3 1 0 2000 0 0 4000 4000 4000 4000 -> st 136 bal 0
+        R -> ln 1 chg 1 dsg 0 at 0 0
+        5: S 3 100000 0 2000 0 4000 4000 4000 4151 4000 -> st 192 bal 0
+        S 3 100000 0 2000 0 4000 4000 4000 4151 4000 -> st 68 bal 8
+        R -> ln 1 chg 0 dsg 1 at 3 4
+        5: S 2 100000 0 2000 0 4000 4000 4000 4000 4151 4151 -> st 192 bal 0
+        S 2 100000 0 2000 0 4000 4000 4000 4000 4151 4151 -> st 68 bal 32
+        R -> ln 1 chg 0 dsg 1 at 2 5
+        S 3 1 0 2000 0 {calm} -> st 192 bal 0
+        R -> ln 1 chg 0 dsg 1 at 2 5
+        S 2 1 0 974 0 {calm} 4000 -> st 16 bal 0
+        R -> ln 1 chg 0 dsg 0 at 0 0
+        S 2 1 0 975 0 {calm} 4000 -> st 192 bal 0
+        R -> ln 0 chg 1 dsg 1 at 0 0
+        """, **FIVE)
+    session("latches and flags outlast a programming", """
+        O 5 -> ok
+        5: S 1 100000 0 2000 0 {one} -> st 192 bal 0
+        S 1 100000 0 2000 0 {one} -> st 68 bal 1
+        F 3 6 7 214 -> re 3 6 7 214
+        F 3 11 65 234 -> re 3 11 1 45
+        F 2 0 0 214 -> re 2 0 68 *
+        R -> ln 1 chg 0 dsg 1 at 1 1
+        S 1 1 0 2000 0 4400 4000 4000 4000 4000 -> st 68 bal 1
+        S 1 1 0 2000 0 4399 4000 4000 4000 4000 -> st 192 bal 0
+        """, **FIVE)
+
+
+def frame_cases():
+    """01, Frames and registers, and the order of refusals."""
+    session("reads give the working byte, writes echo", """
+        O 5 -> ok
+        F 3 6 7 214 -> re 3 6 7 214
+        F 2 6 0 168 -> re 2 6 0 168
+        F 2 11 0 * -> re 2 11 0 *
+        F 3 11 65 234 -> re 3 11 1 45
+        F 2 6 0 168 -> re 2 6 7 *
+        F 2 11 0 * -> re 2 11 1 *
+        """)
+    session("three cycles", """
+        O 5 5 -> ok
+        F 5 8 4 * -> re 5 8 4 *
+        F 5 11 65 * -> re 5 11 1 *
+        F 5 8 16 * -> re 5 8 16 *
+        F 5 11 65 * -> re 5 11 2 *
+        F 5 8 16 * -> re 5 8 16 *
+        F 5 11 65 * -> re 5 11 2 *
+        F 5 8 0 * -> re 5 8 0 *
+        F 5 11 65 * -> re 5 11 3 *
+        F 5 11 65 * -> re 5 11 3 *
+        F 5 10 9 * -> re 5 10 9 *
+        2: F 5 11 65 * -> no 11
+        F 4 10 0 * -> re 4 10 0 *
+        F 5 10 0 * -> re 5 10 0 *
+        F 5 11 65 * -> re 5 11 3 *
+        F 4 11 0 * -> re 4 11 3 *
+        F 2 11 0 * -> re 2 11 0 *
+        """)
+    session("order 6, 8, 2, 9, 10", """
+        O 5 -> ok
+        F -> no 6
+        F 2 0 0 -> no 6
+        F 2 0 0 214 0 -> no 6
+        F 2 0 0 213 -> no 8
+        F 200 99 9 0 -> no 8
+        F 0 0 0 0 -> no 2
+        F 1 11 65 * -> no 2
+        F 4 99 1 * -> no 2
+        F 255 0 0 * -> no 2
+        F 2 12 0 * -> no 9
+        F 2 5 7 * -> no 9
+        F 3 0 0 * -> no 9
+        F 3 0 255 * -> no 9
+        F 3 1 65 * -> no 9
+        F 2 255 0 * -> no 9
+        F 2 0 1 * -> no 10
+        F 2 6 255 * -> no 10
+        F 2 11 65 * -> no 10
+        F 3 7 64 * -> no 10
+        F 3 7 128 * -> no 10
+        F 3 7 63 * -> re 3 7 63 *
+        F 3 8 32 * -> no 10
+        F 3 8 31 * -> re 3 8 31 *
+        F 3 11 0 42 -> no 10
+        F 3 11 64 * -> no 10
+        F 3 11 1 45 -> no 10
+        F 2 7 0 * -> re 2 7 0 *
+        F 2 8 0 * -> re 2 8 0 *
+        """)
+
+
+def unknown_registers():
+    """01, Refusal numbers: 9 for every register that is not in the map."""
+    for register in (*range(1, 6), *range(12, 256)):
+        for address in (2, 3):
+            session(f"register {register}", f"""
+                O 5 -> ok
+                F {address} {register} 0 * -> no 9
+                """)
+
+
+def sample_refusals():
+    """01, Refusal numbers: 2, 3, 4, 5 and both sides of each bound."""
+    session("samples", """
+        O 5 6 -> ok
+        S 0 0 2 5001 500001 1 -> no 2
+        S 3 0 2 5001 500001 1 -> no 2
+        S 2147483647 1 0 2000 0 {calm} -> no 2
+        S 1 0 2 5001 500001 5001 -> no 3
+        S 1 1 0 2000 0 -> no 3
+        S 2 1 0 2000 0 {calm} -> no 3
+        S 1 1 0 2000 0 {calm} 4000 -> no 3
+        S 1 0 2 5001 500001 5001 1 1 1 1 -> no 4
+        S 1 100001 2 5001 500001 5001 1 1 1 1 -> no 4
+        S 1 2147483647 0 2000 0 {calm} -> no 4
+        S 1 1 0 2000 0 4000 4000 4000 4000 5001 -> no 5
+        S 1 1 0 2000 0 4000 4000 4000 2147483647 4000 -> no 5
+        S 1 1 0 5001 0 {calm} -> no 5
+        S 1 1 0 2000 500001 {calm} -> no 5
+        S 1 1 0 2000 -500001 {calm} -> no 5
+        S 1 1 0 2000 -2147483647 {calm} -> no 5
+        S 1 1 2 2000 0 {calm} -> no 5
+        S 1 1 2147483647 2000 0 {calm} -> no 5
+        S 1 100000 1 5000 -500000 5000 4000 4000 4000 1400 -> st 192 bal 0
+        S 1 1 0 5000 500000 {calm} -> st 1 bal 0
+        F 2 0 0 214 -> re 2 0 1 *
+        """, **FIVE)
+
+
+def opening_cases():
+    """01, The bench program: openings and what comes before one."""
+    session("before a good opening", """
+        R -> no 1
+        S 9 0 9 9 9 -> no 1
+        F -> no 1
+        F 256 -> no 12
+        R 1 -> no 12
+        O -> no 1
+        O 4 -> no 1
+        O 11 -> no 1
+        O 5 5 0 -> no 1
+        R -> no 1
+        O 5 10 -> ok
+        R -> ln 0 chg 1 dsg 1 at 0 0
+        """)
+    session("openings over a stack that has a latch", """
+        O 5 -> ok
+        S 1 1 0 974 0 {calm} -> st 16 bal 0
+        F 3 11 66 * -> no 10
+        O 5 5 5 5 5 5 5 5 5 5 5 5 5 5 5 5 5 -> no 1
+        O 5 11 -> no 1
+        O 4 5 -> no 1
+        O 5 11 5 -> no 1
+        O 2147483647 -> no 1
+        O 2147483648 -> no 12
+        R -> ln 1 chg 0 dsg 0 at 0 0
+        O 5 5 5 5 5 5 5 5 5 5 5 5 5 5 5 5 -> ok
+        R -> ln 0 chg 1 dsg 1 at 0 0
+        S 16 1 0 974 0 {calm} -> st 16 bal 0
+        S 17 1 0 974 0 {calm} -> no 2
+        F 32 0 0 * -> re 32 0 16 *
+        F 34 0 0 * -> no 2
+        F 66 0 0 * -> no 2
+        F 130 0 0 * -> no 2
+        """, **FIVE)
+
+
+RAW_LINES = (
+    (b"", 12), (b" ", 12), (b"X", 12), (b"o 5", 12), (b"r", 12), (b"R ", 12),
+    (b" R", 12), (b"R\r", 12), (b"\tR", 12), (b"R\0", 12), (b"\xff", 12),
+    (b"RR", 12), (b"O5", 12), (b"O ", 12), (b"O  5", 12), (b"O 5 ", 12),
+    (b"O 05", 12), (b"O 00", 12), (b"O -5", 12), (b"O +5", 12), (b"O 5,5", 12),
+    (b"O 5\t5", 12), (b"O 5\x00", 12), (b"O \xb2", 12), (b"O 0x5", 12),
+    (b"O 5.0", 12), (b"O", 1), (b"O 0", 1), (b"O 5 4", 1),
+    (b"O 99999999999999999999", 12), (b"O 4294967301", 12),
+    (b"O 18446744073709551621", 12), (b"F 256", 12), (b"F -1", 12),
+    (b"F 2 0 0 0214", 12), (b"F" + b" 0" * 16, 6), (b"F" + b" 0" * 17, 12),
+    (b"S", 12), (b"S 1 1 0 2000", 12), (b"S 1 1 0 2000 0", 3),
+    (b"S 1 1 0 2000 -0" + b" 1" * 5, 12), (b"S 1 1 0 2000 -01" + b" 1" * 5, 12),
+    (b"S 1 1 0 2000 -" + b" 1" * 5, 12), (b"S 1 1 0 2000 +1" + b" 1" * 5, 12),
+    (b"S 1 1 0 2000 --1" + b" 1" * 5, 12), (b"S 1 1 0 2000 - 1" + b" 1" * 5, 12),
+    (b"S 1 1 0 -2000 0" + b" 1" * 5, 12), (b"S -1 1 0 2000 0" + b" 1" * 5, 12),
+    (b"S 1 1 0 2000 0 -1" + b" 1" * 4, 12),
+    (b"S 1 1 0 2000 -2147483648" + b" 1" * 5, 12),
+    (b"S 1 1 0 2000 2147483648" + b" 1" * 5, 12),
+    (b"S 1 1 0 2000 -2147483647" + b" 1" * 5, 5),
+    (b"S 1 1 0 2000 0" + b" 1" * 11, 3), (b"S 1 1 0 2000 0" + b" 1" * 16, 3),
+    (b"S 1 1 0 2000 0" + b" 1" * 17, 12),
+    # 200 and 201 bytes: the first is judged by its counts
+    (b"O 10" + b" 5" * 98, 1), (b"O" + b" 5" * 100, 12), (b"R" * 200, 12),
+    (b"O" + b" 5" * 500, 12),
+    # 6 + 16 * 11 + 18 = 200 bytes, and one digit more
+    (b"S 1 1 " + b"0 " + b"1111111 " + b"11111111" + b" 1111111111" * 16, 3),
+    (b"S 1 1 " + b"0 " + b"1111111 " + b"111111111" + b" 1111111111" * 16, 12),
+)
+
+
+def raw_lines():
+    """01, The bench program: shapes of lines, before and after an opening."""
+    for line, number in RAW_LINES:
+        bench = Bench()
+        early = b"no 12" if number == 12 else b"no 1"
+        expect(f"{line!r} at the start", early, bench.answer(line))
+        expect("opening", b"ok", bench.answer(b"O 5"))
+        expect(f"{line!r} on a stack", b"no %d" % number, bench.answer(line))
+        expect(f"state after {line!r}", b"ln 0 chg 1 dsg 1 at 0 0", bench.answer(b"R"))
+
+
+def input_cases():
+    """01, The bench program: what a line of the input is."""
+    for data, wanted in (
+            (b"", b""), (b"\n", b"no 12\n"), (b"\n\n", b"no 12\nno 12\n"),
+            (b"R", b"no 1\n"), (b"R\n", b"no 1\n"), (b"R\n\n", b"no 1\nno 12\n"),
+            (b"O 5\r\nR\r\n", b"no 12\nno 12\n"), (b"R\rR", b"no 12\n"),
+            (b"O 5\nR\0\nR", b"ok\nno 12\nln 0 chg 1 dsg 1 at 0 0\n"),
+            (b"O 5\x0bR\n", b"no 12\n"), (b"\x00", b"no 12\n"), (b"\xe2\x80\xa8", b"no 12\n"),
+            (b"O" + b" 5" * 600 + b"\nR\n", b"no 12\nno 1\n")):
+        expect(f"input {data[:30]!r}", wanted, Bench().answers(data))
+
+
+def refusal_of(act, *args):
+    """The number an act of the library is refused with, or None."""
+    try:
+        act(*args)
+    except Refusal as refusal:
+        return refusal.number
+    return None
+
+
+def buffer_cases():
+    """01, Frames: the lent buffer, which the bench itself cannot vary."""
+    stack = Stack([5])
+    expect("three bytes, no buffer", 6, refusal_of(stack.frame, [2, 0, 0], bytearray()))
+    expect("bad check, no buffer", 7, refusal_of(stack.frame, [2, 0, 0, 0], bytearray(3)))
+    buffer = bytearray(b"\x09" * 6)
+    expect("bad check", 8, refusal_of(stack.frame, [2, 0, 0, 0], buffer))
+    expect("buffer after a refusal", bytearray(b"\x09" * 6), buffer)
+    expect("a read", None, refusal_of(stack.frame, [2, 0, 0, 214], buffer))
+    expect("later bytes stay", bytearray([2, 0, 192, 152, 9, 9]), buffer)
+
+
+def main():
+    """Run all; exit 1 if anything differs."""
+    for part in (paper_session, crc_values, settings_tables, marked_cases, run_cases,
+                 fault_cases, bleeding_cases, frame_cases, unknown_registers,
+                 sample_refusals, opening_cases, raw_lines, input_cases, buffer_cases):
+        part()
+    sys.exit(1 if FAILED else 0)
+
+
+if __name__ == "__main__":
+    main()
