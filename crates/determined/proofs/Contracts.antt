@@ -55,6 +55,16 @@ use Rattle.registers.proofs.obey.Reads as registers-obey
 use Rattle.reading.proofs.summary_of.Reads as reading-summary-of
 use Rattle.reading.proofs.read_all.Reads as reading-read-all
 use Rattle.stack.proofs.open_stack.Reads as stack-open-stack
+use Rattle.held.proofs.sample_held.Reads as held-sample-held
+use Rattle.held.proofs.read_held.Reads as held-read-held
+use Rattle.lines.proofs.line_of.Reads as lines-line-of
+use Rattle.cutter.proofs.new_cutter.Reads as cutter-new-cutter
+use Rattle.cutter.proofs.emptied.Reads as cutter-emptied
+use Rattle.cutter.proofs.kept_len.Reads as cutter-kept-len
+use Rattle.cutter.proofs.line_end.Reads as cutter-line-end
+use Rattle.cutter.proofs.keep.Reads as cutter-keep
+use Rattle.text.proofs.put_told.Reads as text-put-told
+use Rattle.held.proofs.frame_held.Reads as held-frame-held
 
 -- two results that are the same value; two outcomes of a result and one value at exit; and of two values at exit
 agree : {A : Type 0} {v r t : A} → r ≡ v → t ≡ v → r ≡ t
@@ -196,6 +206,39 @@ reading-read-all-one κs a r t s u = agree
 -- ---- stack
 pub stack-open-stack-one : (κs : _) (a : _) (r t : _) (s u : _) → stack-open-stack.Learnt κs a r s → stack-open-stack.Learnt κs a t u → r ≡ t
 stack-open-stack-one κs a r t s u = agree
+
+-- ---- held
+pub held-sample-held-one : (κs : _) (a : _) (r t : _) (s u : _) → held-sample-held.Learnt κs a r s → held-sample-held.Learnt κs a t u → r ≡ t
+held-sample-held-one κs a r t s u = agree
+
+pub held-read-held-one : (κs : _) (a : _) (r t : _) (s u : _) → held-read-held.Learnt κs a r s → held-read-held.Learnt κs a t u → r ≡ t
+held-read-held-one κs a r t s u = agree
+
+-- ---- lines
+pub lines-line-of-one : (κs : _) (a : _) (r t : _) (s u : _) → lines-line-of.Learnt κs a r s → lines-line-of.Learnt κs a t u → r ≡ t
+lines-line-of-one κs a r t s u = agree
+
+-- ---- cutter
+pub cutter-new-cutter-one : (κs : _) (a : _) (r t : _) (s u : _) → cutter-new-cutter.Learnt κs a r s → cutter-new-cutter.Learnt κs a t u → r ≡ t
+cutter-new-cutter-one κs a r t s u = agree
+
+pub cutter-emptied-one : (κs : _) (a : _) (r t : _) (s u : _) → cutter-emptied.Learnt κs a r s → cutter-emptied.Learnt κs a t u → r ≡ t
+cutter-emptied-one κs a r t s u = agree
+
+pub cutter-kept-len-one : (κs : _) (a : _) (r t : _) (s u : _) → cutter-kept-len.Learnt κs a r s → cutter-kept-len.Learnt κs a t u → r ≡ t
+cutter-kept-len-one κs a r t s u = agree
+
+pub cutter-line-end-one : (κs : _) (a : _) (r t : _) (s u : _) → cutter-line-end.Learnt κs a r s → cutter-line-end.Learnt κs a t u → r ≡ t
+cutter-line-end-one κs a r t s u = agree
+
+pub cutter-keep-one : (κs : _) (a : _) (r t : _) (s u : _) → cutter-keep.Learnt κs a r s → cutter-keep.Learnt κs a t u → r ≡ t
+cutter-keep-one κs a r t s u p q = agree (p .whole) (q .whole)
+
+pub text-put-told-one : (κs : _) (a : _) (r t : _) (s u : _) → text-put-told.Learnt κs a r s → text-put-told.Learnt κs a t u → r ≡ t
+text-put-told-one κs a r t s u p q = agree (p .line .after) (q .line .after)
+
+pub held-frame-held-one : (κs : _) (a : _) (r t : _) (s u : _) → held-frame-held.Learnt κs a r s → held-frame-held.Learnt κs a t u → r ≡ t
+held-frame-held-one κs a r t s u p q = agree (p .0) (q .0)
 
 -- ---- what writes into what it was lent
 -- the result, and the buffer
