@@ -14,7 +14,7 @@ use Rattle.runs.specs.Kept.{runNext, stood}
 use Rattle.marks.specs.Marks.{bit, number}
 use Rattle.cells.specs.Each.{each}
 use Rattle.cells.specs.Bleed.{bled}
-use Rattle.cells.specs.Cells.{cellNext, sweepOf}
+use Rattle.cells.specs.Cells.{cellBy, sweepBy}
 use Rattle.lists.specs.Every.{every}
 use Rattle.board.specs.declared.Board.{Board}
 use Rattle.board.specs.Shunt.{shuntAbove}
@@ -69,5 +69,5 @@ right [] = true
 right (c ∷ cases) = eqb (c .gives) (c .says) && right cases
 
 pub marked-right : right marked ≡ true
-unfolding fresh sampleOf boardNext currentsNext latchesNext latchesByte register0 shuntAbove sweepOf cellNext every each bled number runNext stood
+unfolding fresh sampleOf boardNext currentsNext latchesNext latchesByte register0 shuntAbove sweepBy cellBy every each bled number runNext stood
 marked-right = refl

@@ -16,16 +16,18 @@ use Rattle.cells.specs.Each.{each, some, all}
 use Rattle.cells.specs.Bleed.{bled}
 
 -- OV is a cell above its level, UV a cell below its level; a cell keeps a run of each
-unfoldable pub cellNext : Settings → ℕ → Cell → ℕ → Cell
-cellNext s elapsed c mv =
-    record {
-      ov = runNext (c .ov) (ltb (ovLevel s) mv) elapsed;
-      uv = runNext (c .uv) (ltb mv (uvLevel s)) elapsed;
-    }
+unfoldable pub cellBy : ℕ → ℕ → ℕ → Cell → ℕ → Cell
+cellBy ov uv elapsed c mv = record { ov = runNext (c .ov) (ltb ov mv) elapsed; uv = runNext (c .uv) (ltb mv uv) elapsed }
+
+abbrev pub cellNext : Settings → ℕ → Cell → ℕ → Cell
+cellNext s elapsed c mv = cellBy (ovLevel s) (uvLevel s) elapsed c mv
 
 -- a cell is flagged when its OV run has stood the delay, and loses its flag when it reads lower than OV level less hysteresis
+abbrev pub flagBy : ℕ → Bool → Bool → ℕ → Bool
+flagBy release stands flagged mv = stands || (flagged && not (ltb mv release))
+
 abbrev pub flagNext : Settings → Bool → Bool → ℕ → Bool
-flagNext s stands flagged mv = stands || (flagged && not (ltb mv (ovRelease s)))
+flagNext s stands flagged mv = flagBy (ovRelease s) stands flagged mv
 
 -- the cell at a place
 abbrev pub cellAt : List Cell → ℕ → Cell
@@ -39,33 +41,49 @@ readingAt mv k = getD mv k 0
 abbrev pub cellCount : List ℕ → ℕ
 cellCount mv = min (length mv) 10
 
-module _ (s : Settings) (elapsed : ℕ) (cells : List Cell) (flags : ℕ) (mv : List ℕ) where
+-- what the cells are held against, from the settings
+pub record Limits : Type 0 where
+  pub ov : ℕ
+  pub ovRelease : ℕ
+  pub ovDelay : ℕ
+  pub uv : ℕ
+  pub uvRelease : ℕ
+  pub uvDelay : ℕ
+
+abbrev pub limitsOf : Settings → Limits
+limitsOf s =
+    record { ov = ovLevel s; ovRelease = ovRelease s; ovDelay = ovDelay s; uv = uvLevel s; uvRelease = uvRelease s; uvDelay = uvDelay s }
+
+module _ (l : Limits) (elapsed : ℕ) (cells : List Cell) (flags : ℕ) (mv : List ℕ) where
   -- of the cell at a place: the cell after the sample, whether it has stood its delays, and whether it is flagged
   abbrev pub nextAt : ℕ → Cell
-  nextAt k = cellNext s elapsed (cellAt cells k) (readingAt mv k)
+  nextAt k = cellBy (l .ov) (l .uv) elapsed (cellAt cells k) (readingAt mv k)
 
   abbrev pub ovStoodAt : ℕ → Bool
-  ovStoodAt k = stood (ovDelay s) (nextAt k .ov)
+  ovStoodAt k = stood (l .ovDelay) (nextAt k .ov)
 
   abbrev pub uvStoodAt : ℕ → Bool
-  uvStoodAt k = stood (uvDelay s) (nextAt k .uv)
+  uvStoodAt k = stood (l .uvDelay) (nextAt k .uv)
 
   abbrev pub flaggedAt : ℕ → Bool
-  flaggedAt k = flagNext s (ovStoodAt k) (marked flags k) (readingAt mv k)
+  flaggedAt k = flagBy (l .ovRelease) (ovStoodAt k) (marked flags k) (readingAt mv k)
 
   -- of all cells: those after the sample, the flagged and the bled ones; OV and UV have stood for some one cell;
   -- all cells are where OV and UV let go. What a board keeps past its cells stays
-  unfoldable pub sweepOf : Swept
-  sweepOf =
+  unfoldable pub sweepBy : Swept
+  sweepBy =
       record {
         cells = each 0 (cellCount mv) nextAt ++ drop (cellCount mv) cells;
         flags = number (each 0 (cellCount mv) flaggedAt);
         bled = number (bled (each 0 (cellCount mv) flaggedAt));
         «ov_stood» = some (each 0 (cellCount mv) ovStoodAt);
-        «ov_lets_go» = all (each 0 (cellCount mv) (λ k. ltb (readingAt mv k) (ovRelease s)));
+        «ov_lets_go» = all (each 0 (cellCount mv) (λ k. ltb (readingAt mv k) (l .ovRelease)));
         «uv_stood» = some (each 0 (cellCount mv) uvStoodAt);
-        «uv_lets_go» = all (each 0 (cellCount mv) (λ k. ltb (uvRelease s) (readingAt mv k)));
+        «uv_lets_go» = all (each 0 (cellCount mv) (λ k. ltb (l .uvRelease) (readingAt mv k)));
       }
+
+abbrev pub sweepOf : Settings → ℕ → List Cell → ℕ → List ℕ → Swept
+sweepOf s elapsed cells flags mv = sweepBy (limitsOf s) elapsed cells flags mv
 
 -- no run and no flag: a board at its start; and a cycle that is spent starts every run over
 abbrev pub noCells : List Cell

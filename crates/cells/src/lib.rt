@@ -2,7 +2,7 @@
 // (01, When a fault latches and lets go; Bleeding).
 ghost use mathlib.Core.Path.{_≡_};
 ghost use Prim.Native.Nat.{min, _<_};
-ghost use Rattle.cells.specs.Cells.{cellNext, flagNext, sweepOf, noCells, readable};
+ghost use Rattle.cells.specs.Cells.{cellBy, flagBy, sweepOf, noCells, readable};
 ghost use Rattle.cells.specs.Bleed.{bleedNext, markNext};
 use settings::Settings;
 
@@ -23,19 +23,20 @@ pub struct Swept {
     pub uv_lets_go: bool,
 }
 
-fn cell_next(s: Settings, elapsed: u32, c: Cell, mv: u32) -> Cell
-    ensures { λ r. ⌜ r ≡ cellNext s elapsed c mv ⌝ }
+// The runs of a cell, held against the OV and the UV level.
+fn cell_next(ov: u32, uv: u32, elapsed: u32, c: Cell, mv: u32) -> Cell
+    ensures { λ r. ⌜ r ≡ cellBy ov uv elapsed c mv ⌝ }
 {
     Cell {
-        ov: runs::advance(c.ov, s.ov_level() < mv, elapsed),
-        uv: runs::advance(c.uv, mv < s.uv_level(), elapsed),
+        ov: runs::advance(c.ov, ov < mv, elapsed),
+        uv: runs::advance(c.uv, mv < uv, elapsed),
     }
 }
 
-fn flag_next(s: Settings, stood: bool, flagged: bool, mv: u32) -> bool
-    ensures { λ r. ⌜ r ≡ flagNext s stood flagged mv ⌝ }
+fn flag_next(release: u32, stood: bool, flagged: bool, mv: u32) -> bool
+    ensures { λ r. ⌜ r ≡ flagBy release stood flagged mv ⌝ }
 {
-    stood | (flagged & !(mv < s.ov_release()))
+    stood | (flagged & !(mv < release))
 }
 
 // A number of cells with one more cell below them.
@@ -61,10 +62,16 @@ fn cell_count(readings: usize) -> usize
     if readings < 10 { readings } else { 10 }
 }
 
-// One pass over the cells, from the highest down.
+// One pass over the cells, from the highest down. The settings are decoded once, in front of it.
 pub fn sweep(s: Settings, elapsed: u32, cells: [Cell; 10], flags: u16, mv: &[u32]) -> Swept
     ensures { λ r. ⌜ r ≡ sweepOf s elapsed cells flags (now (mv .entry)) ⌝ }
 {
+    let ov = s.ov_level();
+    let ov_release = s.ov_release();
+    let ov_delay = s.ov_delay();
+    let uv = s.uv_level();
+    let uv_release = s.uv_release();
+    let uv_delay = s.uv_delay();
     let mut next = cells;
     let mut flagged = 0;
     let mut bled = 0;
@@ -76,17 +83,17 @@ pub fn sweep(s: Settings, elapsed: u32, cells: [Cell; 10], flags: u16, mv: &[u32
     while 0 < i {
         i -= 1;
         let v = mv[i];
-        let cell = cell_next(s, elapsed, cells[i], v);
+        let cell = cell_next(ov, uv, elapsed, cells[i], v);
         next[i] = cell;
-        let high = runs::has_stood(s.ov_delay(), cell.ov);
-        let low = runs::has_stood(s.uv_delay(), cell.uv);
-        let flag = flag_next(s, high, marks::mark_at(flags, i), v);
+        let high = runs::has_stood(ov_delay, cell.ov);
+        let low = runs::has_stood(uv_delay, cell.uv);
+        let flag = flag_next(ov_release, high, marks::mark_at(flags, i), v);
         flagged = mark_next(flag, flagged);
         bled = bleed_next(flag, bled);
         ov_stood = high | ov_stood;
-        ov_lets_go = (v < s.ov_release()) & ov_lets_go;
+        ov_lets_go = (v < ov_release) & ov_lets_go;
         uv_stood = low | uv_stood;
-        uv_lets_go = (s.uv_release() < v) & uv_lets_go;
+        uv_lets_go = (uv_release < v) & uv_lets_go;
     }
     Swept {
         cells: next,

@@ -4,7 +4,7 @@
 --     fn h(x: X) -> O          says `r ≡ F x`.                           OfOne, calls-one
 --     fn f(row: &[T]) -> O     says `r ≡ F (now (row .entry))`.          OfSlice, calls-slice
 -- All arguments but the slice and all results are plain. A slice is handed over as a copy, so its owner still has it.
---     slice-val, shared, token     the machine value of a lent slice, what a shared one owns, and the token of a lifetime
+--     slice-val, shared, mut-slice, token     the machine value of a lent slice, what a shared one owns, what a `&mut` one owns, and the token of a lifetime
 use mathlib.Core.Path.{_≡_}
 use mathlib.Core.List.{[], _∷_, List}
 use lib.ListN.{length}
@@ -22,7 +22,7 @@ use types.Run.{Opds, no-more}
 use denote.RattleType.{RattleType}
 use denote.Laws.{Is}
 use denote.Ref.{RefT, now}
-use denote.Slice.{sliceVal, ShrSlice, shr-slice-copy}
+use denote.Slice.{sliceVal, MutSlice, ShrSlice, shr-slice-copy}
 use denote.Signature.{plain, shrSliceOf}
 use denote.Steps.{nothing}
 use denote.Triple.Clauses.{Clauses, Ended, closing}
@@ -81,6 +81,9 @@ slice-val ys = sliceVal (ys .ptr) (length (now ys))
 
 abbrev pub shared : (R : RattleType) → Lft → RefT (List (R .Denot)) → Fml
 shared R κ ys = ShrSlice (named 0) κ R .own ys (slice-val ys ∷ [])
+
+abbrev pub mut-slice : (R : RattleType) → Lft → RefT (List (R .Denot)) → Fml
+mut-slice R κ ys = MutSlice (named 0) κ R .own ys (slice-val ys ∷ [])
 
 abbrev pub token : {M : Type 1} {𝓤 : URA M} → Lft → Share → Item 𝓤
 token κ p = ‵ (flft κ p) ⊛ ‵ ftrue

@@ -1,10 +1,11 @@
--- A `&mut [T]` that is lent on for one call: one element as a `&mut T`, or the whole row as a `&[T]`.
+-- A `&mut [T]` that is lent on for one call: one element as a `&mut T`, the whole row as a `&[T]`, or the whole row as a `&mut [T]`.
 -- Assumes nothing.
 --     seen, borrowed       what a `&mut [T]` owns, in two parts: the list that its holder sees, and the borrow
 --     lends-elem, elem-home     the element at i is lent for a new lifetime, and comes home with what the callee left in it
 --     shows-row, row-home       the row is shown for a new lifetime, and comes home as it was
---     ElemKept, RowKept    what the lender keeps meanwhile.        row-settled     the last list of a row that is let go
-use mathlib.Core.Path.{refl}
+--     lends-row, lent-home      the row is lent as a `&mut [T]` for a new lifetime, and comes home with what the callee left in it
+--     ElemKept, RowKept, LentKept    what the lender keeps meanwhile.        row-settled, mut-settled     the last list of a row that is let go
+use mathlib.Core.Path.{_≡_, refl, sym, subst}
 use Prim.Native.Nat.{ℕ, _<_}
 use mathlib.Core.List.{List, [], _∷_}
 use lib.ListN.{length, getD, set, length-set}
@@ -16,17 +17,18 @@ use base.Fml.{Lft, Share, GName, Fml, fsep, flft, fobs, fauth, fres, fbor, fobor
 use prog.Wp.{Heap}
 use ghost.Atoms.{Atoms}
 use types.Kit.{Goal, Soaks, Step, step, Given, Item, ‵, some, later, _⊛_, Seq, _$_, move, drop, use1, use2, use3, split, join, pick, fsplit, fjoin, feqI, await}
-use types.SemTy.{Body}
+use types.SemTy.{Body, cells, Arr}
 use types.Share.{arr-parts}
 use types.Tokens.{lft-new, lft-end, lent-back}
 use denote.RattleType.{RattleType}
 use denote.Memory.{mem, partAt, shares}
 use denote.Ref.{RefT, MutRef}
-use denote.Slice.{Room, heres, codedHoleys, finally, res-finally}
-use denote.Lend.{Held, lends-ref, ref-back, lends-shr-slice}
-use denote.Index.{place, row, others, takes, puts, opens-slice, closes-slice}
+use denote.Shadow.{pureI}
+use denote.Slice.{Room, at-slice, heres, codedHoleys, finally, res-finally}
+use denote.Lend.{Held, lends-ref, ref-back, lends-shr-slice, lends-slice, slice-back}
+use denote.Index.{place, row, others, takes, puts, whole-in, whole-out, opens-slice, closes-slice}
 use denote.Steps.{nothing}
-use Rattle.walks.proofs.Callee.{shared, token}
+use Rattle.walks.proofs.Callee.{slice-val, shared, mut-slice, token}
 
 module _ (R : RattleType) where
   abbrev pub seen : GName → List (R .Denot) → Fml
@@ -55,6 +57,9 @@ module _ (R : RattleType) where
 
   abbrev pub RowKept : Lft → Share → ℕ → ℕ → GName → List (R .Denot) → ℕ → Fml
   RowKept κ q b o γ ys ν = fsep (flent (ν ∷ []) (arr-parts (shares R) (length ys) .part fullShare ys b o)) (Open κ q b o γ ys)
+
+  abbrev pub LentKept : Lft → Share → ℕ → ℕ → GName → List (R .Denot) → ℕ → GName → Fml
+  LentKept κ q b o γ ys ν δ = fsep (flent (ν ∷ []) (Held R (length ys) b o δ)) (Open κ q b o γ ys)
 
 module _ {M : Type 1} {𝓤 : URA M} {H : Heap 𝓤} {A : Atoms 𝓤} {K : Type 0} {W : Given 𝓤 H A} {Γ : List (Item 𝓤)} {G : Goal 𝓤 H} where
   pub lends-elem : K → Soaks G → (R : RattleType) {κ : Lft} {q : Share} (b o : ℕ) {γ : GName} (ys : List (R .Denot)) (i : ℕ) (none : R .Denot) → i < length ys
@@ -94,3 +99,26 @@ module _ {M : Type 1} {𝓤 : URA M} {H : Heap 𝓤} {A : Atoms 𝓤} {K : Type 
   -- a row that is let go is seen for good as it is
   pub row-settled : K → (R : RattleType) (κ : Lft) {γ : GName} (ys : List (R .Denot)) → Step K W (‵ (finally R γ ys) ∷ Γ) G (‵ (seen R γ ys) ∷ Γ) G
   row-settled t R κ {γ} ys = step (λ s. use1 W (‵ (fres γ (codedHoleys R .code (heres R ys)))) (W .names .obs-res γ (codedHoleys R .code (heres R ys))) $ use1 W (‵ (finally R γ ys)) (res-finally 𝓤 H A W (named 0) κ R γ ys) $ s)
+
+  -- [the token; what the row owns]  to  [the new token; what it owns for the new lifetime; what the lender keeps]
+  pub lends-row : K → Soaks G → (R : RattleType) {κ : Lft} {q : Share} (b o : ℕ) {γ : GName} (ys : List (R .Denot)) → Room R (length ys)
+      → ((ν : ℕ) (δ : GName) → Seq K W (token (ν ∷ []) fullShare ∷ ‵ (mut-slice R (ν ∷ []) (whole-row R b o δ ys)) ∷ ‵ (LentKept R κ q b o γ ys ν δ) ∷ Γ) G)
+      → Seq K W (token κ q ∷ ‵ (mut-slice R κ (whole-row R b o γ ys)) ∷ Γ) G
+  lends-row t z R b o ys space k =
+      split t $ move t (1 ∷ []) $ drop t $ move t (1 ∷ []) $ fsplit t $ drop t $ fsplit t $ opens-slice t z R ys b o $ move t (2 ∷ 3 ∷ []) $ fjoin t $ move t (2 ∷ 0 ∷ []) $ fjoin t $ move t (1 ∷ []) $
+      use1 W (‵ (cells (mem R) ys b o)) (whole-in 𝓤 H A W R ys b o) $ lft-new t z (λ ν. move t (1 ∷ []) $
+      use1 W (later (some (λ (δ : GName). ‵ (mut-slice R (ν ∷ []) (whole-row R b o δ ys)) ⊛ ‵ (flent (ν ∷ []) (Held R (length ys) b o δ))))) (lends-slice 𝓤 H A W R (named 0) (ν ∷ []) ys b o space) $ await t z $ pick t (λ δ. split t $
+      -- [the row; the lender's part; the new token; the open borrow]
+      move t (1 ∷ 3 ∷ []) $ fjoin t $ nothing t $ move t (3 ∷ 0 ∷ []) $ join t $ move t (0 ∷ 2 ∷ 1 ∷ []) $ k ν δ))
+
+  -- and back, at what the callee left
+  pub lent-home : K → Soaks G → (R : RattleType) {κ : Lft} {q : Share} (b o : ℕ) {γ : GName} (ys : List (R .Denot)) → Room R (length ys) → (ν : ℕ) (δ : GName) (zs : List (R .Denot)) → length zs ≡ length ys
+      → Step K W (token κ q ∷ ‵ (mut-slice R κ (whole-row R b o γ zs)) ∷ Γ) G (token (ν ∷ []) fullShare ∷ ‵ (finally R δ zs) ∷ ‵ (LentKept R κ q b o γ ys ν δ) ∷ Γ) G
+  lent-home t z R b o {γ} ys space ν δ zs e = step (λ s.
+      split t $ lft-end t z $ move t (1 ∷ []) $ drop t $ move t (2 ∷ []) $ fsplit t $ move t (2 ∷ 0 ∷ 3 ∷ []) $ use3 W (later (‵ (Arr (mem R) (length ys) .lies zs b o))) (slice-back 𝓤 H A W R (ν ∷ []) δ zs (length ys) b o) $ await t z $ fsplit t $ drop t $
+      use1 W (‵ (row R fullShare zs b o)) (whole-out 𝓤 H A W R zs b o) $ move t (1 ∷ []) $ fsplit t $ move t (1 ∷ []) $ fsplit t $ move t (3 ∷ 2 ∷ 0 ∷ 1 ∷ []) $ closes-slice t z R ys zs e b o $
+      fjoin t $ pureI t (at-slice R (whole-row R b o γ zs) (slice-val (whole-row R b o γ zs) ∷ [])) (tt, (tt, tt)) (refl, subst (Room R) (sym e) space) $ fjoin t $ nothing t $ move t (2 ∷ 0 ∷ []) $ join t $ s)
+
+module _ {M : Type 1} {𝓤 : URA M} {H : Heap 𝓤} {A : Atoms 𝓤} {K : Type 0} {W : Given 𝓤 H A} {Γ : List (Item 𝓤)} {G : Goal 𝓤 H} where
+  pub mut-settled : K → (R : RattleType) (κ : Lft) (ys : RefT (List (R .Denot))) → Step K W (‵ (finally R (ys .name) (ys .now)) ∷ Γ) G (‵ (mut-slice R κ ys) ∷ Γ) G
+  mut-settled t R κ ys = step (λ s. fsplit t $ drop t $ fsplit t $ row-settled t R κ (ys .now) $ move t (1 ∷ []) $ drop t $ s)

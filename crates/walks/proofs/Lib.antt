@@ -18,3 +18,12 @@ pub mod LendArray
 pub mod LendsShared
 pub mod LendsBeside
 pub mod LendsFrame
+pub mod OnRow
+pub mod Either
+pub mod Shown
+pub mod OnLine
+pub mod Lined
+pub mod Turning
+pub mod LendsRun
+pub mod Listed
+pub mod ListedFrame

@@ -4,9 +4,10 @@
 // decision in a function by value, and it is proved by a file that fills in the records Shape and Knows of its theorem and cites `meets`.
 // crates/walked has a function of each shape with that file: copy it, and proofs/Known.antt for the crate's own types.
 //
-// T is a declared struct of plain fields. X, N, K, Y, B and O are plain: a number, a bool, a declared struct or enum of such, an array of such. E and G are what a slice
-// can hold. Names of locals, fields and functions are free; statements, their order and the order of parameters are not. A function by value returns the record and the
-// answer as a struct of these two, in this order. No callee has a `requires`. In a contract `row` stands for now (row .entry) and `row'` for now (row .exit).
+// T is a declared struct of plain fields. X, N, K, S, Y, Z, B and O are plain: a number, a bool, a declared struct or enum of such, an array of such. E and G are what a
+// slice can hold, and where they fill a local array they are plain too. Names of locals, fields and functions are free; statements, their order and the order of
+// parameters are not. A function by value returns the record and the answer as a struct of these two, in this order. No callee has a `requires`. In a contract `row`
+// stands for now (row .entry) and `row'` for now (row .exit). The length of an array is a capital too: [E; K].
 //
 // Through         fn g(b: &mut T, x: X) -> O { let s = f(*b, x); *b = s.board; s.answer }
 //                 f: r ≡ F b x                  g: (r ≡ F b x .answer) × (b' ≡ F b x .board)
@@ -37,6 +38,24 @@
 //                 requires n ≤ N                f as g of Framed         g: (r ≡ A boards n bytes reply) × (reply' ≡ C boards n bytes reply)
 // LendsShared     fn g(boards: [T; N], n: usize) -> O { f(&boards[..n]) }
 //                 requires n ≤ N                f: r ≡ F row             g: r ≡ A boards n
+// Either          fn g(row: &mut [T], x: X) -> O { if test(x) { return f(row, x); } h(row, x) }
+//                 test: r ≡ is-so x             f and h as g of LendAtPlain                  g as f
+// Shown           fn g(row: &mut [T], x: X) -> O { let v = f(row); h(v) }
+//                 f: r ≡ F row, on a `&[T]`     h: r ≡ G v               g: (r ≡ A row x) × (row' ≡ R row x), where R row x ≡ row
+// Lined           fn g(row: &mut [T], s: S, block: &[E], out: &mut [G]) -> O { let d = f1(s, block); let y = f2(row, d); f3(out, d, y) }
+//                 f1: r ≡ P s block             f2 as g of LendAtPlain   f3: (r ≡ A3 out d y) × (out' ≡ C3 out d y)
+//                 g: (r ≡ A row s block out) × ((row' ≡ R row s block out) × (out' ≡ C row s block out))
+// Turning         fn g(row: &mut [T], s: S, block: &[E], out: &mut [G]) -> S { let mut st = s; while more(st) { st = f(row, st, block, out); } st }
+//                 more: r ≡ m st                f as g of Lined, with S for O                  g as f
+// LendsRun        fn g(boards: [T; N], n: usize, s: S, block: &[E], out: &mut [G]) -> Q { let mut row = boards; let state = f(&mut row[..n], s, block, out); Q { boards: row, state: state } }
+//                 requires n ≤ N                f as g of Lined          g: (r ≡ A boards n s block out) × (out' ≡ C boards n s block out)
+// Listed          fn g(row: &mut [T], x: X) -> O { let n = f1(x); let z = f2(x); let cells = f3(x); let m = f4(x); let a = f(row, n, z, &cells[..m]); h(a) }
+//                 f1: r ≡ number x    f2: r ≡ other x    f3: r ≡ cells x, a [E; K]    f4: r ≡ many x, with many x ≤ K    f as g of LendAt    h: r ≡ told a
+//                 g as g of LendAtPlain
+// ListedFrame     fn g(row: &mut [T], x: X) -> O { let bytes = f1(x); let m = f2(x); let mut reply = f3(); let a = f(row, &bytes[..m], &mut reply); h(a) }
+//                 f1: r ≡ bytes x, a [E; K]    f2: r ≡ many x, with many x ≤ K    f3: r ≡ blank, a [G; L]    f as g of Framed    h: r ≡ told a
+//                 g as g of LendAtPlain
 //
-// Under the theorems: Plain (plain types, a call by value), Told (a call with lifetimes), Callee (three callees that many shapes have), Walk (a row's arithmetic,
-// the freeing of the locals), Lent (a lent row, lent on), LendArray (a local array, lent).
+// Under the theorems: Plain (plain types, a call by value), Told (a call with lifetimes), Callee (three callees that many shapes have), OnRow and OnLine (a function
+// over a lent row and a plain argument, and one with a block and an output beside them: called, or walked), Walk (a row's arithmetic, the freeing of the locals),
+// Lent (a lent row, lent on), LendArray (a local array, lent).

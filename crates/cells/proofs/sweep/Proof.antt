@@ -1,28 +1,47 @@
-use Rattle.cells.proofs.Gather.{done}
+use Rattle.cells.specs.Cells.{limitsOf}
 use Prim.Native.Nat.{_≤_}
 use native.Mathlib.Omega.{arith}
 use mathlib.Core.Path.{_≡_, refl, sym, ap, _∙_}
 use borrow.Author.Needs.{needs}
 use lib.ListN.{length}
-use Rattle.cells.specs.Cells.{sweepOf, cellCount}
-use Rattle.cells.proofs.Gather.{Gathered, nothing, turn, few-flags, few-bled}
+use Rattle.cells.specs.Cells.{cellCount, Limits, sweepBy}
+use Rattle.cells.proofs.Gather.{Gathered, nothing, turn, few-flags, few-bled, done}
 use Rattle.cells.proofs.sweep.Statement.{statement}
 use Rattle.cells.proofs.sweep.Tie as tie
 
 abbrev Inv-loop : tie.InvT-loop
-Inv-loop s elapsed flags mv cells next₀ flagged₀ bled₀ ov-stood₀ ov-lets-go₀ uv-stood₀ uv-lets-go₀ i₀ next flagged bled ov-stood ov-lets-go uv-stood uv-lets-go i = (i ≤ cellCount mv) × (length cells ≡ 10) × Gathered s elapsed cells flags mv (cellCount mv) i next flagged bled ov-stood ov-lets-go uv-stood uv-lets-go
+Inv-loop elapsed flags mv cells ov ov-release ov-delay uv uv-release uv-delay next₀ flagged₀ bled₀ ov-stood₀ ov-lets-go₀ uv-stood₀ uv-lets-go₀ i₀ next flagged bled ov-stood ov-lets-go uv-stood uv-lets-go i =
+    (i ≤ cellCount mv) × (length cells ≡ 10) × Gathered (record { ov = ov; ovRelease = ov-release; ovDelay = ov-delay; uv = uv; uvRelease = uv-release; uvDelay = uv-delay }) elapsed cells flags mv (cellCount mv) i next flagged bled ov-stood ov-lets-go uv-stood uv-lets-go
 
 abbrev μ-loop : tie.MeasureT-loop
-μ-loop s elapsed flags mv cells next₀ flagged₀ bled₀ ov-stood₀ ov-lets-go₀ uv-stood₀ uv-lets-go₀ i₀ next flagged bled ov-stood ov-lets-go uv-stood uv-lets-go i = i
+μ-loop elapsed flags mv cells ov ov-release ov-delay uv uv-release uv-delay next₀ flagged₀ bled₀ ov-stood₀ ov-lets-go₀ uv-stood₀ uv-lets-go₀ i₀ next flagged bled ov-stood ov-lets-go uv-stood uv-lets-go i = i
+
+ov-level-requires : tie.Need-ov-level-requires Inv-loop μ-loop
+ov-level-requires c κs = search needs
+
+ov-release-requires : tie.Need-ov-release-requires Inv-loop μ-loop
+ov-release-requires c κs = search needs
+
+ov-delay-requires : tie.Need-ov-delay-requires Inv-loop μ-loop
+ov-delay-requires c κs = search needs
+
+uv-level-requires : tie.Need-uv-level-requires Inv-loop μ-loop
+uv-level-requires c κs = search needs
+
+uv-release-requires : tie.Need-uv-release-requires Inv-loop μ-loop
+uv-release-requires c κs = search needs
+
+uv-delay-requires : tie.Need-uv-delay-requires Inv-loop μ-loop
+uv-delay-requires c κs = search needs
 
 cell-count-requires : tie.Need-cell-count-requires Inv-loop μ-loop
 cell-count-requires c κs = search needs
 
 loop-holds : tie.Need-loop-holds Inv-loop μ-loop
 loop-holds c =
-    let a = c .before .before .args in
+    let a = c .before .before .before .before .before .before .before .before .args in
     let long : length (a .t3) ≡ 10 = search needs in
-    (search needs, long, rw (c .cell-count .ensures) (nothing (a .s) (a .elapsed) (a .t3) (a .flags) (a .mv .now) (cellCount (a .mv .now)) (omega arith)))
+    (search needs, long, rw (c .cell-count .ensures) (nothing _ (a .elapsed) (a .t3) (a .flags) (a .mv .now) (cellCount (a .mv .now)) (omega arith)))
 
 sub-i : tie.Need-sub-i Inv-loop μ-loop
 sub-i c = search needs
@@ -48,14 +67,8 @@ mul-next c = search needs
 array-set-from-next : tie.Need-array-set-from-next Inv-loop μ-loop
 array-set-from-next c = search needs
 
-ov-delay-requires : tie.Need-ov-delay-requires Inv-loop μ-loop
-ov-delay-requires c κs = search needs
-
 has-stood-requires : tie.Need-has-stood-requires Inv-loop μ-loop
 has-stood-requires c κs = search needs
-
-uv-delay-requires : tie.Need-uv-delay-requires Inv-loop μ-loop
-uv-delay-requires c κs = search needs
 
 has-stood-requires-2 : tie.Need-has-stood-requires-2 Inv-loop μ-loop
 has-stood-requires-2 c κs = search needs
@@ -68,19 +81,13 @@ flag-next-requires c κs = search needs
 
 mark-next-requires : tie.Need-mark-next-requires Inv-loop μ-loop
 mark-next-requires c κs =
-    let h = c .before .before .before .before .before .before .before .before .before .before in
+    let h = c .before .before .before .before .before .before .before .before in
     few-flags _ _ _ _ _ _ (h .loop .inv .2) (omega arith)
 
 bleed-next-requires : tie.Need-bleed-next-requires Inv-loop μ-loop
 bleed-next-requires c κs =
-    let h = c .before .before .before .before .before .before .before .before .before .before .before in
+    let h = c .before .before .before .before .before .before .before .before .before in
     few-bled _ _ _ _ _ _ (h .loop .inv .2) (omega arith)
-
-ov-release-requires : tie.Need-ov-release-requires Inv-loop μ-loop
-ov-release-requires c κs = search needs
-
-uv-release-requires : tie.Need-uv-release-requires Inv-loop μ-loop
-uv-release-requires c κs = search needs
 
 loop-less : tie.Need-loop-less Inv-loop μ-loop
 loop-less c = search needs
@@ -93,24 +100,26 @@ loop-again c =
     let c4 = c3 .before in
     let c5 = c4 .before in
     let c6 = c5 .before in
-    let c7 = c6 .before in
-    let c8 = c7 .before in
-    let c9 = c8 .before in
-    let c10 = c9 .before in
-    let h = c10 .before .before .before .before in
-    let a = h .before .before .before .args in
+    let h = c6 .before .before .before .before in
     let within = h .loop .inv .0 in
     let long = h .loop .inv .1 in
-    let going = c10 .before .before .before .loop-test .taken in
-    let high = rw (c9 .ov-delay .ensures) at (c8 .has-stood .ensures) in
-    let low = rw (c7 .uv-delay .ensures) at (c6 .has-stood2 .ensures) in
-    let flag = rw (c5 .mark-at .ensures) at (c4 .flag-next .ensures) in
-    (search needs, long, rw (c .uv-release .ensures, c1 .ov-release .ensures, c2 .bleed-next .ensures, c3 .mark-next .ensures) (turn (a .s) (a .elapsed) (a .t3) (a .flags) (a .mv .now) (cellCount (a .mv .now)) _ _ _ _ (h .loop .inv .2) (c10 .cell-next .ensures) high low flag (omega arith) (omega arith) (omega arith)))
+    let going = c6 .before .before .before .loop-test .taken in
+    let flag = rw (c3 .mark-at .ensures) at (c2 .flag-next .ensures) in
+    (search needs, long, rw (c .bleed-next .ensures, c1 .mark-next .ensures) (turn _ _ _ _ _ _ _ _ _ _ (h .loop .inv .2) (c6 .cell-next .ensures) (c5 .has-stood .ensures) (c4 .has-stood2 .ensures) flag (omega arith) (omega arith) (omega arith)))
 
 returns : tie.Need-returns Inv-loop μ-loop
 returns c =
-    let a = c .before .before .before .before .args in
-    done (a .s) (a .elapsed) (a .t3) (a .flags) (a .mv .now) (c .before .loop .inv .2) (omega arith)
+    let h = c .before in
+    let b1 = h .before .before in
+    let b2 = b1 .before in
+    let b3 = b2 .before in
+    let b4 = b3 .before in
+    let b5 = b4 .before in
+    let b6 = b5 .before in
+    let a = b6 .before .before .args in
+    let same : _≡_ {A = Limits} (record { ov = b6 .ov-level .result; ovRelease = b5 .ov-release .result; ovDelay = b4 .ov-delay .result; uv = b3 .uv-level .result; uvRelease = b2 .uv-release .result; uvDelay = b1 .uv-delay .result }) (limitsOf (a .s)) =
+      λ i. record { ov = b6 .ov-level .ensures i; ovRelease = b5 .ov-release .ensures i; ovDelay = b4 .ov-delay .ensures i; uv = b3 .uv-level .ensures i; uvRelease = b2 .uv-release .ensures i; uvDelay = b1 .uv-delay .ensures i } in
+    done _ (a .elapsed) (a .t3) (a .flags) (a .mv .now) (h .loop .inv .2) (omega arith) ∙ ap (λ (l : Limits). sweepBy l (a .elapsed) (a .t3) (a .flags) (a .mv .now)) same
 
 pub sweep-spec : {M : Type 1} → statement M
 sweep-spec =
@@ -118,6 +127,12 @@ sweep-spec =
     (tie.spec
     Inv-loop
     μ-loop
+    ov-level-requires
+    ov-release-requires
+    ov-delay-requires
+    uv-level-requires
+    uv-release-requires
+    uv-delay-requires
     cell-count-requires
     loop-holds
     sub-i
@@ -128,16 +143,12 @@ sweep-spec =
     cell-next-requires
     mul-next
     array-set-from-next
-    ov-delay-requires
     has-stood-requires
-    uv-delay-requires
     has-stood-requires-2
     mark-at-requires
     flag-next-requires
     mark-next-requires
     bleed-next-requires
-    ov-release-requires
-    uv-release-requires
     loop-less
     loop-again
     returns)
