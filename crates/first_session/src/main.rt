@@ -1,9 +1,5 @@
 // The session of the paper, through the public library, with the records in a local array.
-ghost use mathlib.Core.Path.{_≡_};
-ghost use Prim.Native.Nat.{_≤_};
-ghost use Rattle.first_session.specs.Lent.{sampledOf, servedOf, servedReply, shownOf};
 use board::Answer;
-use board::Board;
 use board::Readings;
 use frame::Reply;
 use stack::Opening;
@@ -11,48 +7,6 @@ use stack::Stack;
 use stack::View;
 
 const OUT: i32 = 1;
-
-struct Sampled {
-    boards: [Board; 16],
-    answer: Answer,
-}
-
-struct Served {
-    boards: [Board; 16],
-    answer: Reply,
-}
-
-// The first n records of the array are lent as the row.
-fn sample_in(boards: [Board; 16], n: usize, board: u32, x: Readings, mv: &[u32]) -> Sampled
-    requires { ⌜ n ≤ 16 ⌝ }
-    ensures { λ r. ⌜ r ≡ sampledOf boards n board x (now (mv .entry)) ⌝ }
-{
-    let mut row = boards;
-    let answer = stack::sample_stack(&mut row[..n], board, x, mv);
-    Sampled {
-        boards: row,
-        answer: answer,
-    }
-}
-
-fn frame_in(boards: [Board; 16], n: usize, bytes: &[u8], reply: &mut [u8]) -> Served
-    requires { ⌜ n ≤ 16 ⌝ }
-    ensures { λ r. ⌜ (r ≡ servedOf boards n (now (bytes .entry)) (now (reply .entry))) × (now (reply .exit) ≡ servedReply boards n (now (bytes .entry)) (now (reply .entry))) ⌝ }
-{
-    let mut row = boards;
-    let answer = stack::frame_stack(&mut row[..n], bytes, reply);
-    Served {
-        boards: row,
-        answer: answer,
-    }
-}
-
-fn read_in(boards: [Board; 16], n: usize) -> View
-    requires { ⌜ n ≤ 16 ⌝ }
-    ensures { λ r. ⌜ r ≡ shownOf boards n ⌝ }
-{
-    stack::read_stack(&boards[..n])
-}
 
 fn show(word: &[u8], n: u8) {
     io::write_all(OUT, word);
@@ -68,18 +22,13 @@ fn bit(b: bool) -> u8 {
 }
 
 fn sample_next(s: Stack, board: u32, elapsed: u32, load: u32, shunt: i32) -> Stack {
-    let boards = s.boards;
-    let n = s.count;
-    if 16 < n {
-        return s;
-    }
     let x = Readings {
         elapsed: elapsed,
         shunt: shunt,
         thermistor: 2000,
         load: load,
     };
-    let r = sample_in(boards, n, board, x, &[4000, 4000, 4000, 4000, 4000]);
+    let r = held::sample_held(s, board, x, &[4000, 4000, 4000, 4000, 4000]);
     let answer = r.answer;
     match answer {
         Answer::Sampled { status, bled } => {
@@ -90,21 +39,12 @@ fn sample_next(s: Stack, board: u32, elapsed: u32, load: u32, shunt: i32) -> Sta
         Answer::Refused(why) => show(b"no ", refusal::number(why)),
     }
     end_line();
-    let next = r.boards;
-    Stack {
-        boards: next,
-        count: n,
-    }
+    r.stack
 }
 
 fn framed(s: Stack, bytes: &[u8]) -> Stack {
-    let boards = s.boards;
-    let n = s.count;
-    if 16 < n {
-        return s;
-    }
     let mut reply = [0u8; 4];
-    let r = frame_in(boards, n, bytes, &mut reply);
+    let r = held::frame_held(s, bytes, &mut reply);
     let answer = r.answer;
     match answer {
         Reply::Replied {
@@ -120,20 +60,11 @@ fn framed(s: Stack, bytes: &[u8]) -> Stack {
         Reply::Refused(why) => show(b"no ", refusal::number(why)),
     }
     end_line();
-    let next = r.boards;
-    Stack {
-        boards: next,
-        count: n,
-    }
+    r.stack
 }
 
 fn read(s: Stack) {
-    let boards = s.boards;
-    let n = s.count;
-    if 16 < n {
-        return;
-    }
-    let v = read_in(boards, n);
+    let v = held::read_held(s);
     match v {
         View::Read(w) => {
             show(b"ln ", bit(w.line));

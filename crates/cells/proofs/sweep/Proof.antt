@@ -118,7 +118,7 @@ returns c =
     let b6 = b5 .before in
     let a = b6 .before .before .args in
     let same : _≡_ {A = Limits} (record { ov = b6 .ov-level .result; ovRelease = b5 .ov-release .result; ovDelay = b4 .ov-delay .result; uv = b3 .uv-level .result; uvRelease = b2 .uv-release .result; uvDelay = b1 .uv-delay .result }) (limitsOf (a .s)) =
-      λ i. record { ov = b6 .ov-level .ensures i; ovRelease = b5 .ov-release .ensures i; ovDelay = b4 .ov-delay .ensures i; uv = b3 .uv-level .ensures i; uvRelease = b2 .uv-release .ensures i; uvDelay = b1 .uv-delay .ensures i } in
+    λ i. record { ov = b6 .ov-level .ensures i; ovRelease = b5 .ov-release .ensures i; ovDelay = b4 .ov-delay .ensures i; uv = b3 .uv-level .ensures i; uvRelease = b2 .uv-release .ensures i; uvDelay = b1 .uv-delay .ensures i } in
     done _ (a .elapsed) (a .t3) (a .flags) (a .mv .now) (h .loop .inv .2) (omega arith) ∙ ap (λ (l : Limits). sweepBy l (a .elapsed) (a .t3) (a .flags) (a .mv .now)) same
 
 pub sweep-spec : {M : Type 1} → statement M
