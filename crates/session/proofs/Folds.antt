@@ -33,7 +33,7 @@ fold-none c s old long =
     record { keeps = sym (held-clip c long); stack = refl; text = record { after = refl; whole = refl }; inside = omega arith }
 
 emptied-holds : (c c′ : Cutter) → c′ ≡ emptiedOf c → held c′ ≡ []
-unfolding held
+unfolding held emptiedOf
 emptied-holds c c′ e = rw e
 
 -- a block is fed up to at, and the next line ends at e
