@@ -7,7 +7,8 @@ use mathlib.Core.Path.{_≡_, refl, ap, sym, _∙_}
 use mathlib.Core.Bool.{Bool, true, false, cond, not, _&&_, _||_}
 use mathlib.Core.List.{List, [], _∷_, _++_}
 use lib.Dec.{ltb}
-use lib.ListN.{length, getD, take, drop, set, take-append-drop}
+use lib.ListN.{length, getD, take, drop, set, take-append-drop, length-take, List·getD-append}
+use lib.Seq.{getD-take}
 use lib.Pow.{pow-mono}
 use Rattle.runs.specs.Kept.{stood}
 use Rattle.marks.specs.Marks.{number, marked}
@@ -15,7 +16,7 @@ use Rattle.marks.proofs.Laws.{number-below}
 use Rattle.cells.specs.declared.Cell.{Cell}
 use Rattle.cells.specs.Each.{each, some, all}
 use Rattle.cells.specs.Bleed.{bled, markNext, bleedNext}
-use Rattle.cells.specs.Cells.{flagBy, readingAt, cellCount, Limits, nextAt, ovStoodAt, uvStoodAt, flaggedAt, sweepBy}
+use Rattle.cells.specs.Cells.{flagBy, cellAt, readingAt, cellCount, Limits, nextAt, ovStoodAt, uvStoodAt, flaggedAt, sweepBy}
 use Rattle.cells.proofs.Each.{each-length, each-down, each-none, set-front}
 use Rattle.cells.proofs.Bleed.{mark-turn, bleed-turn, bled-length}
 
@@ -46,6 +47,13 @@ module _ (l : Limits) (elapsed : ℕ) (cells : List Cell) (flags : ℕ) (mv : Li
         in-uv = rw (each-none (uvStoodAt l elapsed cells flags mv) n);
         in-uv-lets = rw (each-none (λ k. ltb (l .uvRelease) (readingAt mv k)) n);
       }
+
+  -- the cell at place i - 1 is still the one that was handed in
+  pub waits : {i : ℕ} {next : List Cell} {flagged bleeds : ℕ} {ovStood ovLets uvStood uvLets : Bool}
+      → Gathered i next flagged bleeds ovStood ovLets uvStood uvLets → 0 < i → i ≤ n → n ≤ length cells → cellAt next (i - 1) ≡ cellAt cells (i - 1)
+  waits {i} g p q h =
+      let rest = each i (n - i) (nextAt l elapsed cells flags mv) ++ drop n cells in
+      rw (g .in-cells, List·getD-append (take i cells) rest (record { ov = 0; uv = 0 }) (i - 1) (rw (length-take i cells) (omega arith)), getD-take i cells (i - 1) (record { ov = 0; uv = 0 }) (omega arith))
 
   -- the cell at place i - 1, what was found of it, and all before
   pub turn : {i : ℕ} {next : List Cell} {flagged bleeds : ℕ} {ovStood ovLets uvStood uvLets : Bool} (cell : Cell) (high low flag : Bool)

@@ -83,7 +83,7 @@ pub fn sweep(s: Settings, elapsed: u32, cells: [Cell; 10], flags: u16, mv: &[u32
     while 0 < i {
         i -= 1;
         let v = mv[i];
-        let cell = cell_next(ov, uv, elapsed, cells[i], v);
+        let cell = cell_next(ov, uv, elapsed, next[i], v);
         next[i] = cell;
         let high = runs::has_stood(ov_delay, cell.ov);
         let low = runs::has_stood(uv_delay, cell.uv);

@@ -5,16 +5,16 @@ use mathlib.Core.Path.{_≡_, refl, sym, ap, _∙_}
 use borrow.Author.Needs.{needs}
 use lib.ListN.{length}
 use Rattle.cells.specs.Cells.{cellCount, Limits, sweepBy}
-use Rattle.cells.proofs.Gather.{Gathered, nothing, turn, few-flags, few-bled, done}
+use Rattle.cells.proofs.Gather.{Gathered, nothing, waits, turn, few-flags, few-bled, done}
 use Rattle.cells.proofs.sweep.Statement.{statement}
 use Rattle.cells.proofs.sweep.Tie as tie
 
 abbrev Inv-loop : tie.InvT-loop
-Inv-loop elapsed flags mv cells ov ov-release ov-delay uv uv-release uv-delay next₀ flagged₀ bled₀ ov-stood₀ ov-lets-go₀ uv-stood₀ uv-lets-go₀ i₀ next flagged bled ov-stood ov-lets-go uv-stood uv-lets-go i =
-    (i ≤ cellCount mv) × (length cells ≡ 10) × Gathered (record { ov = ov; ovRelease = ov-release; ovDelay = ov-delay; uv = uv; uvRelease = uv-release; uvDelay = uv-delay }) elapsed cells flags mv (cellCount mv) i next flagged bled ov-stood ov-lets-go uv-stood uv-lets-go
+Inv-loop elapsed flags mv ov ov-release ov-delay uv uv-release uv-delay next₀ flagged₀ bled₀ ov-stood₀ ov-lets-go₀ uv-stood₀ uv-lets-go₀ i₀ next flagged bled ov-stood ov-lets-go uv-stood uv-lets-go i =
+    (i ≤ cellCount mv) × (length next₀ ≡ 10) × Gathered (record { ov = ov; ovRelease = ov-release; ovDelay = ov-delay; uv = uv; uvRelease = uv-release; uvDelay = uv-delay }) elapsed next₀ flags mv (cellCount mv) i next flagged bled ov-stood ov-lets-go uv-stood uv-lets-go
 
 abbrev μ-loop : tie.MeasureT-loop
-μ-loop elapsed flags mv cells ov ov-release ov-delay uv uv-release uv-delay next₀ flagged₀ bled₀ ov-stood₀ ov-lets-go₀ uv-stood₀ uv-lets-go₀ i₀ next flagged bled ov-stood ov-lets-go uv-stood uv-lets-go i = i
+μ-loop elapsed flags mv ov ov-release ov-delay uv uv-release uv-delay next₀ flagged₀ bled₀ ov-stood₀ ov-lets-go₀ uv-stood₀ uv-lets-go₀ i₀ next flagged bled ov-stood ov-lets-go uv-stood uv-lets-go i = i
 
 ov-level-requires : tie.Need-ov-level-requires Inv-loop μ-loop
 ov-level-requires c κs = search needs
@@ -40,8 +40,8 @@ cell-count-requires c κs = search needs
 loop-holds : tie.Need-loop-holds Inv-loop μ-loop
 loop-holds c =
     let a = c .before .before .before .before .before .before .before .before .args in
-    let long : length (a .t3) ≡ 10 = search needs in
-    (search needs, long, rw (c .cell-count .ensures) (nothing _ (a .elapsed) (a .t3) (a .flags) (a .mv .now) (cellCount (a .mv .now)) (omega arith)))
+    let long : length (a .cells) ≡ 10 = search needs in
+    (search needs, long, rw (c .cell-count .ensures) (nothing _ (a .elapsed) (a .cells) (a .flags) (a .mv .now) (cellCount (a .mv .now)) (omega arith)))
 
 sub-i : tie.Need-sub-i Inv-loop μ-loop
 sub-i c = search needs
@@ -105,7 +105,8 @@ loop-again c =
     let long = h .loop .inv .1 in
     let going = c6 .before .before .before .loop-test .taken in
     let flag = rw (c3 .mark-at .ensures) at (c2 .flag-next .ensures) in
-    (search needs, long, rw (c .bleed-next .ensures, c1 .mark-next .ensures) (turn _ _ _ _ _ _ _ _ _ _ (h .loop .inv .2) (c6 .cell-next .ensures) (c5 .has-stood .ensures) (c4 .has-stood2 .ensures) flag (omega arith) (omega arith) (omega arith)))
+    let cell = rw (waits _ _ _ _ _ _ (h .loop .inv .2) (omega arith) (omega arith) (omega arith)) at (c6 .cell-next .ensures) in
+    (search needs, long, rw (c .bleed-next .ensures, c1 .mark-next .ensures) (turn _ _ _ _ _ _ _ _ _ _ (h .loop .inv .2) cell (c5 .has-stood .ensures) (c4 .has-stood2 .ensures) flag (omega arith) (omega arith) (omega arith)))
 
 returns : tie.Need-returns Inv-loop μ-loop
 returns c =
@@ -119,7 +120,7 @@ returns c =
     let a = b6 .before .before .args in
     let same : _≡_ {A = Limits} (record { ov = b6 .ov-level .result; ovRelease = b5 .ov-release .result; ovDelay = b4 .ov-delay .result; uv = b3 .uv-level .result; uvRelease = b2 .uv-release .result; uvDelay = b1 .uv-delay .result }) (limitsOf (a .s)) =
     λ i. record { ov = b6 .ov-level .ensures i; ovRelease = b5 .ov-release .ensures i; ovDelay = b4 .ov-delay .ensures i; uv = b3 .uv-level .ensures i; uvRelease = b2 .uv-release .ensures i; uvDelay = b1 .uv-delay .ensures i } in
-    done _ (a .elapsed) (a .t3) (a .flags) (a .mv .now) (h .loop .inv .2) (omega arith) ∙ ap (λ (l : Limits). sweepBy l (a .elapsed) (a .t3) (a .flags) (a .mv .now)) same
+    done _ (a .elapsed) (a .cells) (a .flags) (a .mv .now) (h .loop .inv .2) (omega arith) ∙ ap (λ (l : Limits). sweepBy l (a .elapsed) (a .cells) (a .flags) (a .mv .now)) same
 
 pub sweep-spec : {M : Type 1} → statement M
 sweep-spec =
