@@ -1,0 +1,232 @@
+-- Two acts that are not tied commute: each keeps its outcome, and the logs after both are the same.
+-- Assumes nothing.
+use Prim.Native.Nat.{ℕ}
+use mathlib.Core.Path.{_≡_, refl, sym, ap, ap₂, _∙_}
+use mathlib.Core.Bool.{Bool, true, false, true≢false, cond, not, _&&_}
+use mathlib.Core.List.{List, [], _∷_, _++_}
+use lib.Dec.{eqb}
+use lib.ListN.{length, getD, set, drop, length-set, length-map}
+use lib.Seq.{getD-set-other, set-comm, set-getD}
+use Rattle.lists.proofs.Split.{both, not-yes}
+use Rattle.refusal.specs.Said.{Said, Bar, bar, accepts, refuses, first, judged, kept}
+use Rattle.board.specs.declared.Board.{Board}
+use Rattle.board.specs.declared.Readings.{Readings}
+use Rattle.board.specs.Sample.{readingBars}
+use Rattle.frame.specs.Frame.{byte, writes}
+use Rattle.registers.specs.Registers.{accessBars}
+use Rattle.stack.specs.Row.{goodRow, placeOf, boardAt}
+use Rattle.stack.specs.Frame.{framePlace}
+use Rattle.demands.specs.Paper.{Entry, sampled, asked}
+use Rattle.demands.specs.Acts.{Act, sample, frame, reading, Outcome, bars}
+use Rattle.demands.specs.Tied.{Who, board, whole, nobody, early, who, Ties, Tied}
+use Rattle.demands.specs.Demands.{Log, log, logAt, joined, boardGiven, rowGiven, frameEntry, joins, taken, sampleSays, frameSays, told, nothing}
+use Rattle.demands.proofs.Clear.{clear}
+use Rattle.demands.proofs.Tells.{board-at}
+use Rattle.demands.proofs.Demanded.{countsOf, same-counts, goodOf, good-counts}
+
+-- ---- an act, taken apart: its board's place, its entry, and its refusals once the board is known
+
+abbrev place : Act → ℕ
+place (sample n x mv) = placeOf n
+place (frame bytes buffer) = framePlace bytes
+place reading = 0
+
+abbrev entry : Act → Entry
+entry (sample n x mv) = sampled x mv
+entry (frame bytes buffer) = frameEntry bytes
+entry reading = asked
+
+abbrev late : Board → Act → List Bar
+late b (sample n x mv) = readingBars b x mv
+late b (frame bytes buffer) = accessBars b (writes (byte bytes 0)) (byte bytes 1) (byte bytes 2)
+late b reading = []
+
+-- what it makes of its board's log, and its outcome there; and its outcome where it is refused early
+abbrev stepIn : Log → Act → Log
+stepIn l a = kept (late (boardGiven l) a) l (joined l (entry a))
+
+abbrev answerIn : Log → Act → Outcome
+answerIn l (sample n x mv) = record { said = judged (readingBars (boardGiven l) x mv) (sampleSays (joined l (sampled x mv))); buffer = [] }
+answerIn l (frame bytes buffer) =
+    let refusals = late (boardGiven l) (frame bytes buffer) in
+    let reply = frameSays (joined l (frameEntry bytes)) bytes in
+    record { said = judged refusals reply; buffer = kept refusals buffer (reply ++ drop 4 buffer) }
+answerIn l reading = nothing
+
+abbrev lent : Act → List ℕ
+lent (sample n x mv) = []
+lent (frame bytes buffer) = buffer
+lent reading = []
+
+abbrev refusedEarly : ℕ → Act → Outcome
+refusedEarly m a = record { said = refuses (first (early m a)); buffer = lent a }
+
+-- ---- the same by whom the act concerns
+
+abbrev nextFor : Who → List Log → Act → List Log
+nextFor (board i) logs a = set logs i (stepIn (logAt logs i) a)
+nextFor whole logs a = logs
+nextFor nobody logs a = logs
+
+abbrev answerFor : ℕ → Who → List Log → Act → Outcome
+answerFor m (board i) logs a = answerIn (logAt logs i) a
+answerFor m whole logs a = told logs reading
+answerFor m nobody logs a = refusedEarly m a
+
+commuteFor : (m : ℕ) (v w : Who) (logs : List Log) (a b : Act) → (Ties w v → ⊥)
+    → (answerFor m w (nextFor v logs a) b ≡ answerFor m w logs b) × (answerFor m v (nextFor w logs b) a ≡ answerFor m v logs a)
+    × (nextFor w (nextFor v logs a) b ≡ nextFor v (nextFor w logs b) a)
+commuteFor m (board i) (board j) s a b f =
+    let p = getD-set-other s i j (stepIn (logAt s i) a) (log 0 []) f in
+    let q = getD-set-other s j i (stepIn (logAt s j) b) (log 0 []) (λ e. f (sym e)) in (
+      ap (λ (l : Log). answerIn l b) p,
+      ap (λ (l : Log). answerIn l a) q,
+      ap (λ (l : Log). set (set s i (stepIn (logAt s i) a)) j (stepIn l b)) p
+          ∙ set-comm s i j (stepIn (logAt s i) a) (stepIn (logAt s j) b) (λ e. f (sym e))
+          ∙ ap (λ (l : Log). set (set s j (stepIn (logAt s j) b)) i (stepIn l a)) (sym q),
+    )
+commuteFor m (board i) whole s a b f = absurd (f tt)
+commuteFor m (board i) nobody s a b f = (refl, refl, refl)
+commuteFor m whole (board j) s a b f = absurd (f tt)
+commuteFor m whole whole s a b f = (refl, refl, refl)
+commuteFor m whole nobody s a b f = (refl, refl, refl)
+commuteFor m nobody (board j) s a b f = (refl, refl, refl)
+commuteFor m nobody whole s a b f = (refl, refl, refl)
+commuteFor m nobody nobody s a b f = (refl, refl, refl)
+
+-- ---- refusals in two parts: early ones, and then those once the board is known
+
+abbrev numbers : List Bar → Bool
+numbers [] = true
+numbers (b ∷ l) = not (eqb (b .number) 0) && numbers l
+
+first-early : (es ls : List Bar) → eqb (first es) 0 ≡ false → first (es ++ ls) ≡ first es
+first-early [] ls e = absurd (true≢false e)
+first-early (b ∷ es) ls e = by (b .when) (first-early es ls) e
+  where
+    by : (t : Bool) → (eqb (first es) 0 ≡ false → first (es ++ ls) ≡ first es) → eqb (cond t (b .number) (first es)) 0 ≡ false
+        → cond t (b .number) (first (es ++ ls)) ≡ cond t (b .number) (first es)
+    by true rest e = refl
+    by false rest e = rest e
+
+first-late : (es ls : List Bar) → numbers es ≡ true → eqb (first es) 0 ≡ true → first (es ++ ls) ≡ first ls
+first-late [] ls n e = refl
+first-late (b ∷ es) ls n e =
+    let m = both (not (eqb (b .number) 0)) (numbers es) n in
+    let c = clear b es (not-yes (eqb (b .number) 0) (m .0)) e in
+    ap (λ (t : Bool). cond t (b .number) (first (es ++ ls))) (c .0) ∙ first-late es ls (m .1) (c .1)
+
+-- a verdict, by the number of the first refusal
+abbrev verdict : ℕ → List ℕ → Said
+verdict k vs = cond (eqb k 0) (accepts vs) (refuses k)
+
+set-kept : (t : Bool) (logs : List Log) (at : ℕ) (l : Log) → cond t (set logs at l) logs ≡ set logs at (cond t l (logAt logs at))
+set-kept true logs at l = refl
+set-kept false logs at l = sym (set-getD logs at (log 0 []))
+
+-- refusals `bs` that come to the early ones `es` and the late ones `ls`
+module _ (bs es ls : List Bar) (parts : first bs ≡ first (es ++ ls)) (n : numbers es ≡ true) where
+  kept-late : {A : Type 0} (old new : A) → eqb (first es) 0 ≡ true → kept bs old new ≡ kept ls old new
+  kept-late {A} old new e = ap (λ (k : ℕ). cond {A = A} (eqb k 0) new old) (parts ∙ first-late es ls n e)
+
+  kept-early : {A : Type 0} (old new : A) → eqb (first es) 0 ≡ false → kept bs old new ≡ old
+  kept-early {A} old new e = ap (λ (k : ℕ). cond {A = A} (eqb k 0) new old) (parts ∙ first-early es ls e) ∙ ap (λ (t : Bool). cond {A = A} t new old) e
+
+  judged-late : (vs : List ℕ) → eqb (first es) 0 ≡ true → judged bs vs ≡ judged ls vs
+  judged-late vs e = ap (λ (k : ℕ). verdict k vs) (parts ∙ first-late es ls n e)
+
+  judged-early : (vs : List ℕ) → eqb (first es) 0 ≡ false → judged bs vs ≡ refuses (first es)
+  judged-early vs e = ap (λ (k : ℕ). verdict k vs) (parts ∙ first-early es ls e) ∙ ap (λ (t : Bool). cond t (accepts vs) (refuses (first es))) e
+
+-- ---- on logs of the counts of an opening, an act goes by whom it concerns
+
+module _ (counts : List ℕ) (good : goodOf counts ≡ true) where
+  abbrev pub Good : List Log → Type 0
+  Good logs = countsOf logs ≡ counts
+
+  pub keeps : (logs : List Log) (a : Act) → Good logs → Good (taken logs a)
+  keeps logs a g = same-counts logs a ∙ g
+
+  abbrev m : ℕ
+  m = length counts
+
+  module _ (logs : List Log) (g : Good logs) where
+    row-good : goodRow (rowGiven logs) ≡ true
+    row-good = good-counts logs ∙ ap goodOf g ∙ good
+
+    row-long : length (rowGiven logs) ≡ m
+    row-long = length-map logs boardGiven ∙ sym (length-map logs (λ (l : Log). l .cells)) ∙ ap length g
+
+    -- refusal 1 is not given, and the rest falls into its two parts
+    parts : (a : Act) → first (bar 1 (not (goodRow (rowGiven logs))) ∷ (early (length (rowGiven logs)) a ++ late (boardAt (rowGiven logs) (place a)) a))
+        ≡ first (early m a ++ late (boardGiven (logAt logs (place a))) a)
+    parts a =
+        ap (λ (t : Bool). first (bar 1 (not t) ∷ (early (length (rowGiven logs)) a ++ late (boardAt (rowGiven logs) (place a)) a))) row-good
+        ∙ ap (λ (k : ℕ). first (early k a ++ late (boardAt (rowGiven logs) (place a)) a)) row-long
+        ∙ ap (λ (b : Board). first (early m a ++ late b a)) (board-at logs (place a))
+
+    sample-agrees : (n : ℕ) (x : Readings) (mv : List ℕ) → let a = sample n x mv in
+        (t : Bool) → eqb (first (early m a)) 0 ≡ t
+        → (taken logs a ≡ nextFor (cond t (board (placeOf n)) nobody) logs a) × (told logs a ≡ answerFor m (cond t (board (placeOf n)) nobody) logs a)
+    sample-agrees n x mv true e =
+        let a = sample n x mv in
+        let l = logAt logs (placeOf n) in
+        let bs = bars (rowGiven logs) a in
+        let ls = late (boardGiven l) a in
+        let new = joined l (sampled x mv) in
+        let said = judged-late bs (early m a) ls (parts a) refl (sampleSays new) e in (
+          kept-late bs (early m a) ls (parts a) refl logs (joins logs (placeOf n) (sampled x mv)) e ∙ set-kept (eqb (first ls) 0) logs (placeOf n) new,
+          λ i. record { said = said i; buffer = [] },
+        )
+    sample-agrees n x mv false e =
+        let a = sample n x mv in
+        let l = logAt logs (placeOf n) in
+        let bs = bars (rowGiven logs) a in
+        let ls = late (boardGiven l) a in
+        let said = judged-early bs (early m a) ls (parts a) refl (sampleSays (joined l (sampled x mv))) e in
+        (kept-early bs (early m a) ls (parts a) refl logs (joins logs (placeOf n) (sampled x mv)) e, λ i. record { said = said i; buffer = [] })
+
+    frame-agrees : (bytes buffer : List ℕ) → let a = frame bytes buffer in
+        (t : Bool) → eqb (first (early m a)) 0 ≡ t
+        → (taken logs a ≡ nextFor (cond t (board (framePlace bytes)) nobody) logs a) × (told logs a ≡ answerFor m (cond t (board (framePlace bytes)) nobody) logs a)
+    frame-agrees bytes buffer true e =
+        let a = frame bytes buffer in
+        let at = framePlace bytes in
+        let l = logAt logs at in
+        let bs = bars (rowGiven logs) a in
+        let ls = late (boardGiven l) a in
+        let new = joined l (frameEntry bytes) in
+        let reply = frameSays new bytes in
+        let said = judged-late bs (early m a) ls (parts a) refl reply e in
+        let left = kept-late bs (early m a) ls (parts a) refl buffer (reply ++ drop 4 buffer) e in (
+          kept-late bs (early m a) ls (parts a) refl logs (joins logs at (frameEntry bytes)) e ∙ set-kept (eqb (first ls) 0) logs at new,
+          λ i. record { said = said i; buffer = left i },
+        )
+    frame-agrees bytes buffer false e =
+        let a = frame bytes buffer in
+        let at = framePlace bytes in
+        let l = logAt logs at in
+        let bs = bars (rowGiven logs) a in
+        let ls = late (boardGiven l) a in
+        let reply = frameSays (joined l (frameEntry bytes)) bytes in
+        let said = judged-early bs (early m a) ls (parts a) refl reply e in
+        let left = kept-early bs (early m a) ls (parts a) refl buffer (reply ++ drop 4 buffer) e in
+        (kept-early bs (early m a) ls (parts a) refl logs (joins logs at (frameEntry bytes)) e, λ i. record { said = said i; buffer = left i })
+
+    agrees : (a : Act) → (taken logs a ≡ nextFor (who m a) logs a) × (told logs a ≡ answerFor m (who m a) logs a)
+    agrees (sample n x mv) = sample-agrees n x mv (eqb (first (early m (sample n x mv))) 0) refl
+    agrees (frame bytes buffer) = frame-agrees bytes buffer (eqb (first (early m (frame bytes buffer))) 0) refl
+    agrees reading = (refl, refl)
+
+  pub commute : (logs : List Log) (a b : Act) → Good logs → (Tied m b a → ⊥)
+      → (told (taken logs a) b ≡ told logs b) × (told (taken logs b) a ≡ told logs a) × (taken (taken logs a) b ≡ taken (taken logs b) a)
+  commute logs a b g f =
+      let c = commuteFor m (who m a) (who m b) logs a b f in
+      let p = agrees logs g a in
+      let q = agrees logs g b in
+      let p′ = agrees (taken logs b) (keeps logs b g) a in
+      let q′ = agrees (taken logs a) (keeps logs a g) b in (
+        q′ .1 ∙ ap (λ (z : List Log). answerFor m (who m b) z b) (p .0) ∙ c .0 ∙ sym (q .1),
+        p′ .1 ∙ ap (λ (z : List Log). answerFor m (who m a) z a) (q .0) ∙ c .1 ∙ sym (p .1),
+        q′ .0 ∙ ap (λ (z : List Log). nextFor (who m b) z b) (p .0) ∙ c .2 ∙ ap (λ (z : List Log). nextFor (who m a) z a) (sym (q .0)) ∙ sym (p′ .0),
+      )

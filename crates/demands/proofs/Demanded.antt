@@ -1,0 +1,104 @@
+-- Demand 2: what the library does with any acts after any opening is what the paper tells of them.
+-- Assumes nothing.
+use Prim.Native.Nat.{ℕ, _-_, _≤_}
+use mathlib.Core.Path.{_≡_, refl, ap, ap₂, sym, _∙_}
+use mathlib.Core.Bool.{Bool, true, false, true≢false, cond, not, _&&_, _||_}
+use mathlib.Core.List.{List, [], _∷_, _++_, map}
+use lib.Dec.{eqb}
+use lib.ListN.{length, set, take, replicate, length-map}
+use lib.Seq.{take-at, map-set-same}
+use Rattle.lists.specs.Every.{every}
+use Rattle.lists.proofs.Split.{both}
+use Rattle.refusal.specs.Said.{Bar, bar, first, kept}
+use Rattle.board.specs.declared.Board.{Board}
+use Rattle.board.specs.Sample.{fresh, outside, badBoard}
+use Rattle.stack.specs.Row.{badCount, goodRow, placeOf}
+use Rattle.stack.specs.Open.{goodCounts, openBars, opened, freshRow, openOf}
+use Rattle.stack.specs.Frame.{framePlace}
+use Rattle.stack.proofs.Counts.{within}
+use Rattle.demands.specs.Paper.{Entry, sampled}
+use Rattle.demands.specs.Acts.{Act, sample, frame, reading, Outcome, bars, outcome, next, openedRow, final, answers}
+use Rattle.demands.specs.Demands.{Log, log, begun, logAt, joined, boardGiven, rowGiven, frameEntry, joins, taken, told, opens, Demand2}
+use Rattle.demands.proofs.Given.{given-start}
+use Rattle.demands.proofs.Clear.{clear}
+use Rattle.demands.proofs.Tells.{tells, gives}
+
+-- ---- no act changes a board's cell count, and whether a row is good goes by the counts alone
+
+abbrev pub countsOf : List Log → List ℕ
+countsOf logs = map (λ l. l .cells) logs
+
+kept-counts : (refusals : List Bar) (logs : List Log) (at : ℕ) (e : Entry) → countsOf (kept refusals logs (joins logs at e)) ≡ countsOf logs
+kept-counts refusals logs at e = by (eqb (first refusals) 0)
+  where
+    by : (t : Bool) → countsOf (cond t (joins logs at e) logs) ≡ countsOf logs
+    by true = map-set-same (λ (l : Log). l .cells) logs at (joined (logAt logs at) e) (log 0 []) refl
+    by false = refl
+
+pub same-counts : (logs : List Log) (a : Act) → countsOf (taken logs a) ≡ countsOf logs
+same-counts logs (sample n x mv) = kept-counts (bars (rowGiven logs) (sample n x mv)) logs (placeOf n) (sampled x mv)
+same-counts logs (frame bytes buffer) = kept-counts (bars (rowGiven logs) (frame bytes buffer)) logs (framePlace bytes) (frameEntry bytes)
+same-counts logs reading = refl
+
+abbrev pub goodOf : List ℕ → Bool
+goodOf counts = not (badCount (length counts)) && goodCounts counts
+
+every-count : (logs : List Log) → every (λ b. not (badBoard b)) (rowGiven logs) ≡ goodCounts (countsOf logs)
+unfolding every
+every-count [] = refl
+every-count (l ∷ logs) = rw (every-count logs)
+
+pub good-counts : (logs : List Log) → goodRow (rowGiven logs) ≡ goodOf (countsOf logs)
+unfolding goodRow
+good-counts logs = rw (length-map logs boardGiven, length-map logs (λ (l : Log). l .cells), every-count logs)
+
+-- ---- the opening
+
+pub begun-counts : (counts : List ℕ) → countsOf (begun counts) ≡ counts
+begun-counts [] = refl
+begun-counts (n ∷ counts) = ap (λ (l : List ℕ). n ∷ l) (begun-counts counts)
+
+neither : (a b : Bool) → (a || not b) ≡ false → (a ≡ false) × (b ≡ true)
+neither false true e = (refl, refl)
+neither false false e = (refl, sym e)
+neither true b e = absurd (true≢false e)
+
+pub opens-good : (counts : List ℕ) → opens counts ≡ true → (badCount (length counts) ≡ false) × (goodCounts counts ≡ true)
+opens-good counts e = neither (badCount (length counts)) (goodCounts counts) (clear (bar 1 (badCount (length counts) || not (goodCounts counts))) [] refl e .0)
+
+-- a fresh board is the one that the paper gives of no acts
+fresh-given : (counts : List ℕ) → goodCounts counts ≡ true → opened counts ≡ rowGiven (begun counts)
+unfolding every
+fresh-given [] e = refl
+fresh-given (n ∷ counts) e =
+    let good = both (not (outside 5 10 n)) (goodCounts counts) e in
+    ap₂ (λ (b : Board) (row : List Board). b ∷ row) (sym (given-start n (within 5 10 n (good .0) .1))) (fresh-given counts (good .1))
+
+pub opened-given : (counts : List ℕ) → opens counts ≡ true → openedRow counts ≡ rowGiven (begun counts)
+unfolding openOf freshRow
+opened-given counts e =
+    let good = opens-good counts e in
+    let row = opened counts in
+    rw (good .0, good .1) (take-at row (replicate (16 - length counts) (fresh 0)) (length counts) (length-map counts fresh) ∙ fresh-given counts (good .1))
+
+-- ---- demand 2
+
+-- from any logs of good counts
+told-on : (logs : List Log) → goodOf (countsOf logs) ≡ true → (acts : List Act) → answers next outcome (rowGiven logs) acts ≡ answers taken told logs acts
+told-on logs good [] = refl
+told-on logs good (a ∷ acts) =
+    ap₂ (λ (o : Outcome) (later : List Outcome). o ∷ later) (tells logs (good-counts logs ∙ good) a)
+    (ap (λ (row : List Board). answers next outcome row acts) (gives logs a) ∙ told-on (taken logs a) (ap goodOf (same-counts logs a) ∙ good) acts)
+
+given-on : (logs : List Log) (acts : List Act) → final next (rowGiven logs) acts ≡ rowGiven (final taken logs acts)
+given-on logs [] = refl
+given-on logs (a ∷ acts) = ap (λ (row : List Board). final next row acts) (gives logs a) ∙ given-on (taken logs a) acts
+
+pub demand2 : Demand2
+demand2 counts e acts =
+    let good = opens-good counts e in
+    let start = opened-given counts e in
+    let fine : goodOf (countsOf (begun counts)) ≡ true = ap goodOf (begun-counts counts) ∙ rw (good .0, good .1) in (
+      ap (λ (row : List Board). answers next outcome row acts) start ∙ told-on (begun counts) fine acts,
+      ap (λ (row : List Board). final next row acts) start ∙ given-on (begun counts) acts,
+    )

@@ -1,0 +1,45 @@
+-- Lists by places: two rules that agree, one value throughout, and what stands behind.
+-- Assumes nothing.
+use Prim.Native.Nat.{ℕ, zero, suc, _+_, _*_, _<_, _≤_}
+use native.Mathlib.Nat.{not-suc-le-zero, le-of-suc-le-suc}
+use native.Mathlib.Omega.{arith}
+use mathlib.Core.Path.{_≡_, refl, ap, ap₂, sym, _∙_}
+use mathlib.Core.Bool.{Bool, false}
+use mathlib.Core.List.{List, [], _∷_, _++_}
+use lib.ListN.{length, getD, drop, replicate, List·getD-append}
+use Rattle.marks.specs.Marks.{number}
+use Rattle.cells.specs.Each.{each}
+use Rattle.cells.proofs.Each.{each-length, each-place}
+
+-- two rules that agree at every place
+each-from : {A : Type 0} (i n : ℕ) (f g : ℕ → A) → ((k : ℕ) → k < i + n → f k ≡ g k) → each i n f ≡ each i n g
+unfolding each
+each-from i zero f g e = refl
+each-from i (suc n) f g e = ap₂ (λ x l. x ∷ l) (e i (omega arith)) (each-from (suc i) n f g (λ k p. e k (omega arith)))
+
+pub each-same : {A : Type 0} (n : ℕ) (f g : ℕ → A) → ((k : ℕ) → k < n → f k ≡ g k) → each 0 n f ≡ each 0 n g
+each-same n f g e = each-from 0 n f g (λ k p. e k (omega arith))
+
+-- what is appended is what stands behind
+pub each-behind : {A : Type 0} (i n : ℕ) (f : ℕ → A) (behind : List A) → drop n (each i n f ++ behind) ≡ behind
+unfolding each
+each-behind i zero f behind = refl
+each-behind i (suc n) f behind = each-behind (suc i) n f behind
+
+pub each-before : {A : Type 0} (n : ℕ) (f : ℕ → A) (behind : List A) (k : ℕ) (d : A) → k < n → getD (each 0 n f ++ behind) k d ≡ f k
+each-before n f behind k d p =
+    let long : k < length (each 0 n f) = rw (each-length f 0 n) p in
+    List·getD-append (each 0 n f) behind d k long ∙ each-place f n k d p
+
+-- one value at each of n places, with the rest of m behind
+pub each-one : {A : Type 0} (i n m : ℕ) (v : A) → n ≤ m → each i n (λ k. v) ++ drop n (replicate m v) ≡ replicate m v
+unfolding each
+each-one i zero m v p = refl
+each-one i (suc n) zero v p = absurd (not-suc-le-zero p)
+each-one {A} i (suc n) (suc m) v p = ap (λ (l : List A). v ∷ l) (each-one (suc i) n m v (le-of-suc-le-suc p))
+
+-- no cell at all is 0
+pub number-none : (i n : ℕ) → number (each i n (λ k. false)) ≡ 0
+unfolding each number
+number-none i zero = refl
+number-none i (suc n) = let none = number-none (suc i) n in omega arith

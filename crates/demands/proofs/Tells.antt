@@ -1,0 +1,216 @@
+-- One act on a row that the paper gives: the library's outcome is the one told, and its row the one given after it.
+-- Assumes nothing.
+use Prim.Native.Nat.{ℕ, zero, suc, _<_, _≤_}
+use native.Mathlib.Omega.{arith}
+use mathlib.Core.Path.{_≡_, refl, ap, ap₂, sym, _∙_}
+use mathlib.Core.Bool.{Bool, true, false, true≢false, cond, not}
+use mathlib.Core.List.{List, [], _∷_, _++_, map}
+use lib.Dec.{ltb, eqb}
+use lib.ListN.{length, getD, set, drop, List·getD-map}
+use borrow.Author.Tests.{ltb-true, ltb-false, eqb-true, not-false}
+use Rattle.lists.proofs.Split.{split, not-yes}
+use Rattle.settings.specs.Bytes.{byteOf}
+use Rattle.refusal.specs.Said.{Bar, bar, accepts, first, judged, kept}
+use Rattle.cells.specs.Each.{each}
+use Rattle.latches.specs.declared.Latches.{Latches}
+use Rattle.latches.specs.Latches.{anyLatch, chgOn, dsgOn, register0}
+use Rattle.latches.proofs.Packed.{latches-kept}
+use Rattle.board.specs.declared.Board.{Board}
+use Rattle.board.specs.declared.Readings.{Readings}
+use Rattle.board.specs.Sample.{fresh, badBoard, outside, outOfRange, readingBars, latchesAfter, sweptAt, boardNext, sampleValues}
+use Rattle.frame.specs.Frame.{byte, boardOf, writes, frameBars}
+use Rattle.frame.specs.Reply.{replyBytes}
+use Rattle.frame.specs.Check.{checkOf}
+use Rattle.registers.specs.Registers as registers
+use Rattle.registers.specs.Registers.{programs, staging, accessBars, boardAfter, readValue, replyValue}
+use Rattle.reading.specs.declared.Summary.{Summary}
+use Rattle.reading.specs.declared.Whole.{Whole}
+use Rattle.reading.specs.Reading.{summaryOf, readOf, wholeSaid}
+use Rattle.stack.specs.Row.{goodRow, noBoard, placeOf, boardAt}
+use Rattle.stack.specs.Sample.{sampleRowBars, sampleAnswer, sampleRow}
+use Rattle.stack.specs.Frame.{framePlace, frameBoard, boardFramed, frameReply, frameRowBars, frameAnswer, frameRow, frameBuffer}
+use Rattle.stack.specs.Read.{viewSaid, readingOf}
+use Rattle.stack.proofs.Counts.{within}
+use Rattle.stack.proofs.Ways.{board-good, has-none}
+use Rattle.stack.proofs.Laws.{sample-said, frame-said}
+use Rattle.stack.proofs.Scanned.{whole-said}
+use Rattle.demands.specs.Paper.{Entry, sampled, wrote, programmed, asked, History, working, spent, latchesAt, given}
+use Rattle.demands.specs.Acts.{Act, sample, frame, reading, Outcome, bars, outcome, next}
+use Rattle.demands.specs.Demands.{Log, log, logAt, joined, boardGiven, rowGiven, frameEntry, joins, taken, sampleSays, readSays, frameSays, summaryGiven, readingSays, told}
+use Rattle.demands.proofs.Given.{given-start, latches-are, bled-are, given-sampled, given-wrote, given-asked, given-programmed}
+use Rattle.demands.proofs.Clear.{clear, judged-same, kept-same}
+
+-- ---- the record at a place, and a record stored
+
+pub board-at : (logs : List Log) (at : ℕ) → boardAt (rowGiven logs) at ≡ boardGiven (logAt logs at)
+board-at logs at = ap (getD (rowGiven logs) at) (sym (given-start 0 (omega arith))) ∙ List·getD-map boardGiven logs at (log 0 [])
+
+row-set : (logs : List Log) (at : ℕ) (l : Log) → set (rowGiven logs) at (boardGiven l) ≡ rowGiven (set logs at l)
+row-set [] at l = refl
+row-set (m ∷ logs) zero l = refl
+row-set (m ∷ logs) (suc at) l = ap (λ (row : List Board). boardGiven m ∷ row) (row-set logs at l)
+
+-- a board that a good row has is one of at most ten cells
+few-cells : (logs : List Log) (n : ℕ) → not (goodRow (rowGiven logs)) ≡ false → noBoard (rowGiven logs) n ≡ false → logAt logs (placeOf n) .cells ≤ 10
+few-cells logs n g b =
+    let row = rowGiven logs in
+    let good : goodRow row ≡ true = not-false (goodRow row) g in
+    split (ltb (placeOf n) (length row))
+    (λ e.
+    let fine : badBoard (boardAt row (placeOf n)) ≡ false = board-good row good (placeOf n) (ltb-true (placeOf n) (length row) e) in
+    within 5 10 (logAt logs (placeOf n) .cells) (rw (board-at logs (placeOf n)) at (ap not fine)) .1)
+    (λ e. absurd (true≢false (sym (has-none row good n (ltb-false (placeOf n) (length row) e)) ∙ b)))
+
+-- ---- a sample
+
+module _ (logs : List Log) (n : ℕ) (x : Readings) (mv : List ℕ) where
+  abbrev of-sample : Log
+  of-sample = logAt logs (placeOf n)
+
+  abbrev sample-row : List Bar
+  sample-row = sampleRowBars (rowGiven logs) n x mv
+
+  -- an accepted sample has as many cells as its board, which has at most ten
+  sample-fits : eqb (first sample-row) 0 ≡ true → (of-sample .cells ≤ 10) × (length mv ≡ of-sample .cells)
+  sample-fits accepted =
+      let row = rowGiven logs in
+      let b = boardAt row (placeOf n) in
+      let c1 = clear (bar 1 (not (goodRow row))) (bar 2 (noBoard row n) ∷ readingBars b x mv) refl accepted in
+      let c2 = clear (bar 2 (noBoard row n)) (readingBars b x mv) refl (c1 .1) in
+      let c3 = clear (bar 3 (not (eqb (length mv) (b .count)))) (bar 4 (outside 1 100000 (x .elapsed)) ∷ bar 5 (outOfRange x mv) ∷ []) refl (c2 .1) in
+      let long : length mv ≡ b .count = eqb-true (length mv) (b .count) (not-false (eqb (length mv) (b .count)) (c3 .0)) in
+      (few-cells logs n (c1 .0) (c2 .0), long ∙ ap (λ (r : Board). r .count) (board-at logs (placeOf n)))
+
+  sample-leaves : eqb (first sample-row) 0 ≡ true → boardNext (boardAt (rowGiven logs) (placeOf n)) x mv ≡ boardGiven (joined of-sample (sampled x mv))
+  sample-leaves accepted =
+      let fits = sample-fits accepted in
+      ap (λ (b : Board). boardNext b x mv) (board-at logs (placeOf n)) ∙ given-sampled (of-sample .cells) (fits .0) (of-sample .acts) x mv (fits .1)
+
+  sample-values : eqb (first sample-row) 0 ≡ true → sampleValues (boardAt (rowGiven logs) (placeOf n)) x mv ≡ sampleSays (joined of-sample (sampled x mv))
+  sample-values accepted =
+      let fits = sample-fits accepted in
+      let m = of-sample .cells in
+      let h = of-sample .acts in
+      ap (λ (b : Board). sampleValues b x mv) (board-at logs (placeOf n))
+      ∙ ap₂ (λ (t : Latches) (v : ℕ). register0 t ∷ v ∷ []) (latches-are m (fits .0) h x mv (fits .1)) (bled-are m (fits .0) h x mv (fits .1))
+
+  sample-told : outcome (rowGiven logs) (sample n x mv) ≡ told logs (sample n x mv)
+  sample-told =
+      let said = sample-said (rowGiven logs) n x mv ∙ judged-same sample-row _ _ sample-values in
+      λ i. record { said = said i; buffer = [] }
+
+  sample-taken : next (rowGiven logs) (sample n x mv) ≡ rowGiven (taken logs (sample n x mv))
+  unfolding sampleRow
+  sample-taken =
+      let row = rowGiven logs in
+      let at = placeOf n in
+      kept-same rowGiven sample-row logs (set row at (boardNext (boardAt row at) x mv)) (joins logs at (sampled x mv))
+      (λ a. ap (set row at) (sample-leaves a) ∙ row-set logs at (joined of-sample (sampled x mv)))
+
+-- ---- a frame
+
+-- an access, by whether it writes and whether it is to register 11
+accessed : (write programs : Bool) (m : ℕ) → m ≤ 10 → (h : History) (register v : ℕ)
+    → cond write (cond programs (registers.programmed (given m h)) (staging (given m h) register v)) (given m h)
+    ≡ given m (cond write (cond programs programmed (wrote register v)) asked ∷ h)
+accessed true true m few h register v = given-programmed m few h
+accessed true false m few h register v = given-wrote m h register v
+accessed false programs m few h register v = given-asked m h
+
+-- a reply by the record is a reply by the log
+reply-is : (l : Log) (write : Bool) (register v : ℕ)
+    → replyValue (boardGiven l) write register v ≡ cond (programs write register) (spent (l .acts)) (cond write v (readSays l register))
+reply-is l write register v =
+    ap (λ (t : Latches). cond (programs write register) (spent (l .acts)) (cond write v
+    (cond (eqb register 0) (register0 t) (cond (eqb register 11) (spent (l .acts)) (byteOf (working (l .acts)) register)))))
+    (latches-kept (latchesAt (l .cells) (l .acts)))
+
+module _ (logs : List Log) (bytes buffer : List ℕ) where
+  abbrev of-frame : Log
+  of-frame = logAt logs (framePlace bytes)
+
+  abbrev frame-row : List Bar
+  frame-row = frameRowBars (rowGiven logs) bytes buffer
+
+  -- an accepted frame is to a board of at most ten cells
+  frame-fits : eqb (first frame-row) 0 ≡ true → of-frame .cells ≤ 10
+  frame-fits accepted =
+      let row = rowGiven logs in
+      let n = boardOf (byte bytes 0) in
+      let late = accessBars (frameBoard row bytes) (writes (byte bytes 0)) (byte bytes 1) (byte bytes 2) in
+      let b6 = bar 6 (not (eqb (length bytes) 4)) in
+      let b7 = bar 7 (ltb (length buffer) 4) in
+      let b8 = bar 8 (not (eqb (byte bytes 3) (checkOf (byte bytes 0 ∷ byte bytes 1 ∷ byte bytes 2 ∷ [])))) in
+      let b2 = bar 2 (noBoard row n) in
+      let c1 = clear (bar 1 (not (goodRow row))) (b6 ∷ b7 ∷ b8 ∷ b2 ∷ late) refl accepted in
+      let c6 = clear b6 (b7 ∷ b8 ∷ b2 ∷ late) refl (c1 .1) in
+      let c7 = clear b7 (b8 ∷ b2 ∷ late) refl (c6 .1) in
+      let c8 = clear b8 (b2 ∷ late) refl (c7 .1) in
+      let c2 = clear b2 late refl (c8 .1) in
+      few-cells logs n (c1 .0) (c2 .0)
+
+  frame-leaves : eqb (first frame-row) 0 ≡ true → boardFramed (rowGiven logs) bytes ≡ boardGiven (joined of-frame (frameEntry bytes))
+  unfolding boardAfter
+  frame-leaves accepted =
+      let write = writes (byte bytes 0) in
+      ap (λ (b : Board). boardAfter b write (byte bytes 1) (byte bytes 2)) (board-at logs (framePlace bytes))
+      ∙ accessed write (eqb (byte bytes 1) 11) (of-frame .cells) (frame-fits accepted) (of-frame .acts) (byte bytes 1) (byte bytes 2)
+
+  frame-values : eqb (first frame-row) 0 ≡ true → frameReply (rowGiven logs) bytes ≡ frameSays (joined of-frame (frameEntry bytes)) bytes
+  frame-values accepted =
+      let write = writes (byte bytes 0) in
+      ap (λ (b : Board). replyBytes (byte bytes 0) (byte bytes 1) (replyValue b write (byte bytes 1) (byte bytes 2))) (frame-leaves accepted)
+      ∙ ap (replyBytes (byte bytes 0) (byte bytes 1)) (reply-is (joined of-frame (frameEntry bytes)) write (byte bytes 1) (byte bytes 2))
+
+  frame-put : frameBuffer (rowGiven logs) bytes buffer ≡ told logs (frame bytes buffer) .buffer
+  unfolding frameBuffer
+  frame-put =
+      kept-same (λ (l : List ℕ). l) frame-row buffer (frameReply (rowGiven logs) bytes ++ drop 4 buffer)
+      (frameSays (joined of-frame (frameEntry bytes)) bytes ++ drop 4 buffer) (λ a. ap (λ (l : List ℕ). l ++ drop 4 buffer) (frame-values a))
+
+  frame-told : outcome (rowGiven logs) (frame bytes buffer) ≡ told logs (frame bytes buffer)
+  frame-told =
+      let said = frame-said (rowGiven logs) bytes buffer ∙ judged-same frame-row _ _ frame-values in
+      λ i. record { said = said i; buffer = frame-put i }
+
+  frame-taken : next (rowGiven logs) (frame bytes buffer) ≡ rowGiven (taken logs (frame bytes buffer))
+  unfolding frameRow
+  frame-taken =
+      let row = rowGiven logs in
+      let at = framePlace bytes in
+      kept-same rowGiven frame-row logs (set row at (boardFramed row bytes)) (joins logs at (frameEntry bytes))
+      (λ a. ap (set row at) (frame-leaves a) ∙ row-set logs at (joined of-frame (frameEntry bytes)))
+
+-- ---- a whole-stack reading
+
+summary-is : (l : Log) → summaryOf (boardGiven l) ≡ summaryGiven l
+unfolding summaryOf
+summary-is l =
+    let by : Latches → Summary = λ t. record { latched = anyLatch t; chg = chgOn t; dsg = dsgOn t; count = l .cells; flags = boardGiven l .flags } in
+    ap by (latches-kept (latchesAt (l .cells) (l .acts)))
+
+summaries-are : (logs : List Log) → map summaryOf (rowGiven logs) ≡ map summaryGiven logs
+summaries-are [] = refl
+summaries-are (l ∷ logs) = ap₂ (λ (s : Summary) (north : List Summary). s ∷ north) (summary-is l) (summaries-are logs)
+
+-- a good row is read
+reading-said : (row : List Board) → goodRow row ≡ true → viewSaid (readingOf row) ≡ accepts (wholeSaid (readOf (map summaryOf row)))
+unfolding readingOf
+reading-said row good = rw good (ap (λ (w : Whole). accepts (wholeSaid w)) (whole-said (readOf (map summaryOf row))))
+
+reading-told : (logs : List Log) → goodRow (rowGiven logs) ≡ true → outcome (rowGiven logs) reading ≡ told logs reading
+reading-told logs good =
+    let said = reading-said (rowGiven logs) good ∙ ap (λ (boards : List Summary). accepts (wholeSaid (readOf boards))) (summaries-are logs) in
+    λ i. record { said = said i; buffer = [] }
+
+-- ---- any act
+
+pub tells : (logs : List Log) → goodRow (rowGiven logs) ≡ true → (a : Act) → outcome (rowGiven logs) a ≡ told logs a
+tells logs good (sample n x mv) = sample-told logs n x mv
+tells logs good (frame bytes buffer) = frame-told logs bytes buffer
+tells logs good reading = reading-told logs good
+
+pub gives : (logs : List Log) (a : Act) → next (rowGiven logs) a ≡ rowGiven (taken logs a)
+gives logs (sample n x mv) = sample-taken logs n x mv
+gives logs (frame bytes buffer) = frame-taken logs bytes buffer
+gives logs reading = refl

@@ -1,0 +1,57 @@
+-- The acts on a row of boards, and what the library does at each, by the definitions that its contracts cite (01, The stack and its readings).
+-- Assumes nothing.
+use Prim.Native.Nat.{ℕ}
+use mathlib.Core.List.{List, [], _∷_}
+use lib.ListN.{take}
+use Rattle.refusal.specs.Said.{Said, Bar}
+use Rattle.board.specs.declared.Board.{Board}
+use Rattle.board.specs.declared.Readings.{Readings}
+use Rattle.board.specs.Sample.{answerSaid}
+use Rattle.frame.specs.Reply.{replySaid}
+use Rattle.stack.specs.Open.{openOf}
+use Rattle.stack.specs.Sample.{sampleRowBars, sampleAnswer, sampleRow}
+use Rattle.stack.specs.Frame.{frameRowBars, frameAnswer, frameRow, frameBuffer}
+use Rattle.stack.specs.Read.{viewSaid, readBars, readingOf}
+
+-- the three kinds of act: a sample of the board of a number, a frame with its lent reply buffer, a whole-stack reading
+pub data Act : Type 0 where
+  sample : ℕ → Readings → List ℕ → Act
+  frame : List ℕ → List ℕ → Act
+  reading : Act
+
+-- what comes of an act: the paper's number and values, and the lent buffer after it; only a frame lends one
+pub record Outcome : Type 0 where
+  pub said : Said
+  pub buffer : List ℕ
+
+-- the rows of the table of refusals that an act meets, in order
+abbrev pub bars : List Board → Act → List Bar
+bars row (sample n x mv) = sampleRowBars row n x mv
+bars row (frame bytes buffer) = frameRowBars row bytes buffer
+bars row reading = readBars row
+
+-- ---- the library: sample_stack, frame_stack, read_stack
+
+abbrev pub outcome : List Board → Act → Outcome
+outcome row (sample n x mv) = record { said = answerSaid (sampleAnswer row n x mv); buffer = [] }
+outcome row (frame bytes buffer) = record { said = replySaid (frameAnswer row bytes buffer); buffer = frameBuffer row bytes buffer }
+outcome row reading = record { said = viewSaid (readingOf row); buffer = [] }
+
+abbrev pub next : List Board → Act → List Board
+next row (sample n x mv) = sampleRow row n x mv
+next row (frame bytes buffer) = frameRow row bytes buffer
+next row reading = row
+
+-- the row that open_stack gives
+abbrev pub openedRow : List ℕ → List Board
+openedRow counts = take (openOf counts .stack .count) (openOf counts .stack .boards)
+
+-- ---- any machine: what stands after the acts of a list, oldest first, and what came of each on the way
+
+abbrev pub final : {S A : Type 0} → (S → A → S) → S → List A → S
+final step s [] = s
+final step s (a ∷ acts) = final step (step s a) acts
+
+abbrev pub answers : {S A R : Type 0} → (S → A → S) → (S → A → R) → S → List A → List R
+answers step answer s [] = []
+answers step answer s (a ∷ acts) = answer s a ∷ answers step answer (step s a) acts

@@ -1,0 +1,130 @@
+-- What the paper tells of an opening and the acts since, from the accepted acts of each board alone; and demands 2 and 3.
+-- Assumes nothing.
+use Prim.Native.Nat.{ℕ}
+use mathlib.Core.Path.{_≡_}
+use mathlib.Core.Bool.{Bool, true, cond}
+use mathlib.Core.List.{List, [], _∷_, _++_, map}
+use lib.Dec.{eqb}
+use lib.ListN.{length, getD, set, drop}
+use Rattle.refusal.specs.Said.{Said, accepts, first, judged, kept}
+use Rattle.settings.specs.Bytes.{byteOf}
+use Rattle.marks.specs.Marks.{number}
+use Rattle.cells.specs.Bleed.{bled}
+use Rattle.latches.specs.Latches.{anyLatch, chgOn, dsgOn, register0}
+use Rattle.board.specs.declared.Board.{Board}
+use Rattle.frame.specs.Frame.{byte, writes}
+use Rattle.frame.specs.Reply.{replyBytes}
+use Rattle.registers.specs.Registers.{programs}
+use Rattle.reading.specs.declared.Summary.{Summary}
+use Rattle.reading.specs.Reading.{readOf, wholeSaid}
+use Rattle.stack.specs.Row.{placeOf}
+use Rattle.stack.specs.Open.{openBars}
+use Rattle.stack.specs.Frame.{framePlace}
+use Rattle.demands.specs.Paper.{Entry, sampled, wrote, programmed, asked, History, working, spent, latchesAt, flagsAt, given}
+use Rattle.demands.specs.Acts.{Act, sample, frame, reading, Outcome, bars, outcome, next, openedRow, final, answers}
+use Rattle.demands.specs.Shuffle.{pick, Shuffle}
+use Rattle.demands.specs.Tied.{Tied}
+
+-- ---- what is known of each board: its cell count and its accepted acts
+
+pub record Log : Type 0 where
+  pub cells : ℕ
+  pub acts : History
+
+abbrev pub log : ℕ → History → Log
+log n h = record { cells = n; acts = h }
+
+-- an opening begins a log for each board
+abbrev pub begun : List ℕ → List Log
+begun counts = map (λ n. log n []) counts
+
+abbrev pub logAt : List Log → ℕ → Log
+logAt logs at = getD logs at (log 0 [])
+
+abbrev pub joined : Log → Entry → Log
+joined l e = log (l .cells) (e ∷ l .acts)
+
+-- the records that the paper gives of them
+abbrev pub boardGiven : Log → Board
+boardGiven l = given (l .cells) (l .acts)
+
+abbrev pub rowGiven : List Log → List Board
+rowGiven logs = map boardGiven logs
+
+-- ---- an act joins its board's log exactly if no row of the table refuses it
+
+abbrev pub frameEntry : List ℕ → Entry
+frameEntry bytes = cond (writes (byte bytes 0)) (cond (eqb (byte bytes 1) 11) programmed (wrote (byte bytes 1) (byte bytes 2))) asked
+
+abbrev pub joins : List Log → ℕ → Entry → List Log
+joins logs at e = set logs at (joined (logAt logs at) e)
+
+abbrev pub taken : List Log → Act → List Log
+taken logs (sample n x mv) = kept (bars (rowGiven logs) (sample n x mv)) logs (joins logs (placeOf n) (sampled x mv))
+taken logs (frame bytes buffer) = kept (bars (rowGiven logs) (frame bytes buffer)) logs (joins logs (framePlace bytes) (frameEntry bytes))
+taken logs reading = logs
+
+-- ---- what an accepted act says, by the log after it
+
+-- a sample: register 0's value and the bled cells
+abbrev pub sampleSays : Log → List ℕ
+sampleSays l = register0 (latchesAt (l .cells) (l .acts)) ∷ number (bled (flagsAt (l .cells) (l .acts))) ∷ []
+
+-- a read: the status, the cycles spent, or a working byte
+abbrev pub readSays : Log → ℕ → ℕ
+readSays l register =
+    cond (eqb register 0) (register0 (latchesAt (l .cells) (l .acts)))
+    (cond (eqb register 11) (spent (l .acts)) (byteOf (working (l .acts)) register))
+
+-- a frame: its first two bytes, then the cycles spent, the byte written or what is read, and a fresh check
+abbrev pub frameSays : Log → List ℕ → List ℕ
+frameSays l bytes =
+    let write = writes (byte bytes 0) in
+    let register = byte bytes 1 in
+    replyBytes (byte bytes 0) register (cond (programs write register) (spent (l .acts)) (cond write (byte bytes 2) (readSays l register)))
+
+-- a whole-stack reading: what it takes from each board
+abbrev pub summaryGiven : Log → Summary
+summaryGiven l =
+    let latches = latchesAt (l .cells) (l .acts) in
+    record { latched = anyLatch latches; chg = chgOn latches; dsg = dsgOn latches; count = l .cells; flags = number (flagsAt (l .cells) (l .acts)) }
+
+abbrev pub readingSays : List Log → List ℕ
+readingSays logs = wholeSaid (readOf (map summaryGiven logs))
+
+-- the outcome that the paper tells: the first refusal in the table's order, or these values; a reading of an opened stack is never refused
+abbrev pub told : List Log → Act → Outcome
+told logs (sample n x mv) =
+    record {
+      said = judged (bars (rowGiven logs) (sample n x mv)) (sampleSays (joined (logAt logs (placeOf n)) (sampled x mv)));
+      buffer = [];
+    }
+told logs (frame bytes buffer) =
+    let refusals = bars (rowGiven logs) (frame bytes buffer) in
+    let reply = frameSays (joined (logAt logs (framePlace bytes)) (frameEntry bytes)) bytes in
+    record { said = judged refusals reply; buffer = kept refusals buffer (reply ++ drop 4 buffer) }
+told logs reading = record { said = accepts (readingSays logs); buffer = [] }
+
+-- ---- demand 2
+
+-- an opening that is not refused
+abbrev pub opens : List ℕ → Bool
+opens counts = eqb (first (openBars counts)) 0
+
+-- after any opening and any acts, every outcome is the one that the paper tells, and the row is the one that it gives
+abbrev pub Demand2 : Type 0
+Demand2 = (counts : List ℕ) → opens counts ≡ true → (acts : List Act)
+    → (answers next outcome (openedRow counts) acts ≡ answers taken told (begun counts) acts)
+    × (final next (openedRow counts) acts ≡ rowGiven (final taken (begun counts) acts))
+
+-- ---- demand 3
+
+-- the outcome of no act, which no place of a shuffle picks
+abbrev pub nothing : Outcome
+nothing = record { said = accepts []; buffer = [] }
+
+-- however acts that are not tied change places, each keeps the outcome that the paper tells of it, and the row at the end is the same
+abbrev pub Demand3 : Type 0
+Demand3 = (counts : List ℕ) → opens counts ≡ true → (acts : List Act) (places : List ℕ) → Shuffle (Tied (length counts)) reading acts places
+    → (answers next outcome (openedRow counts) (pick reading acts places) ≡ pick nothing (answers taken told (begun counts) acts) places)
+    × (final next (openedRow counts) (pick reading acts places) ≡ final next (openedRow counts) acts)

@@ -1,0 +1,5 @@
+pub mod Paper
+pub mod Acts
+pub mod Shuffle
+pub mod Tied
+pub mod Demands

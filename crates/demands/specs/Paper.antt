@@ -1,0 +1,155 @@
+-- A board from its accepted acts alone, newest first, with no state (01, Frames and registers; When a fault latches and lets go; Bleeding).
+-- Assumes nothing.
+use Prim.Native.Nat.{ℕ, _+_}
+use mathlib.Core.Bool.{Bool, false, cond, not, _&&_}
+use mathlib.Core.List.{List, [], _∷_, _++_}
+use mathlib.Core.Option.{Option}
+use lib.Dec.{ltb}
+use lib.ListN.{drop}
+use Rattle.settings.specs.declared.Settings.{Settings}
+use Rattle.settings.specs.Levels.{factory, ovLevel, ovRelease, uvLevel, uvRelease, ocdLevel, scdLevel}
+use Rattle.settings.specs.Bytes.{withByte, same}
+use Rattle.settings.specs.Faults.{Fault, SCD, OCD, OV, UV, OT, delay}
+use Rattle.marks.specs.Marks.{number}
+use Rattle.runs.specs.Run.{run, past}
+use Rattle.runs.specs.Kept.{kept}
+use Rattle.cells.specs.declared.Cell.{Cell}
+use Rattle.cells.specs.Each.{each, some, all}
+use Rattle.cells.specs.Cells.{flagNext, readingAt, noCells}
+use Rattle.latches.specs.declared.Latches.{Latches}
+use Rattle.latches.specs.Latches.{latches, latchNext, latchesByte}
+use Rattle.board.specs.declared.Board.{Board}
+use Rattle.board.specs.declared.Readings.{Readings}
+use Rattle.board.specs.Shunt.{shuntAbove}
+use Rattle.board.specs.Sample.{hot, attached}
+
+-- an accepted act of one board: a sample, a write to registers 6 to 10, a programming, a read
+pub data Entry : Type 0 where
+  sampled : Readings → List ℕ → Entry
+  wrote : ℕ → ℕ → Entry
+  programmed : Entry
+  asked : Entry
+
+abbrev pub History : Type 0
+History = List Entry
+
+-- ---- Frames and registers
+
+-- the staged settings: a write changes the byte of its register
+abbrev pub staged : History → Settings
+staged [] = factory
+staged (sampled x mv ∷ h) = staged h
+staged (wrote register v ∷ h) = withByte (staged h) register v
+staged (programmed ∷ h) = staged h
+staged (asked ∷ h) = staged h
+
+-- the working settings: at a programming staged becomes working
+abbrev pub working : History → Settings
+working [] = factory
+working (sampled x mv ∷ h) = working h
+working (wrote register v ∷ h) = working h
+working (programmed ∷ h) = staged h
+working (asked ∷ h) = working h
+
+-- the cycles spent: the accepted programmings at which staged and working differed
+abbrev pub spent : History → ℕ
+spent [] = 0
+spent (sampled x mv ∷ h) = spent h
+spent (wrote register v ∷ h) = spent h
+spent (programmed ∷ h) = cond (same (staged h) (working h)) (spent h) (spent h + 1)
+spent (asked ∷ h) = spent h
+
+-- ---- When a fault latches and lets go
+
+pub record Sample : Type 0 where
+  pub readings : Readings
+  pub cells : List ℕ
+
+abbrev pub sampleOf : Readings → List ℕ → Sample
+sampleOf x mv = record { readings = x; cells = mv }
+
+-- the accepted samples that a stretch may hold: back to the start or the last cycle spent
+abbrev pub since : History → List Sample
+since [] = []
+since (sampled x mv ∷ h) = sampleOf x mv ∷ since h
+since (wrote register v ∷ h) = since h
+since (programmed ∷ h) = cond (same (staged h) (working h)) (since h) []
+since (asked ∷ h) = since h
+
+-- the table's second column; OV and UV at the cell of a place, counted from 0
+abbrev pub holds : Fault → Settings → ℕ → Sample → Bool
+holds SCD s k x = shuntAbove (scdLevel s) (x .readings .shunt)
+holds OCD s k x = shuntAbove (ocdLevel s) (x .readings .shunt)
+holds OV s k x = ltb (ovLevel s) (readingAt (x .cells) k)
+holds UV s k x = ltb (readingAt (x .cells) k) (uvLevel s)
+holds OT s k x = hot (x .readings)
+
+-- the run of a condition at the newest sample; a spent cycle starts every run over, so the settings of a stretch are those that work now
+abbrev pub runOf : Fault → ℕ → History → Option ℕ
+runOf f k h = run (λ x. x .readings .elapsed) (holds f (working h) k) (since h)
+
+-- it has stood its delay
+abbrev pub stoodDelay : Fault → ℕ → History → Bool
+stoodDelay f k h = past (delay f (working h)) (runOf f k h)
+
+-- OV and UV keep a run for each of n cells, the others one
+abbrev pub places : Fault → ℕ → ℕ
+places SCD n = 1
+places OCD n = 1
+places OV n = n
+places UV n = n
+places OT n = 1
+
+-- for some one cell, with OV and UV
+abbrev pub stands : ℕ → Fault → History → Bool
+stands n f h = some (each 0 (places f n) (λ k. stoodDelay f k h))
+
+-- the table's last column, of n cells
+abbrev pub letsGo : ℕ → Fault → Settings → Sample → Bool
+letsGo n SCD s x = not (attached (x .readings)) && not (shuntAbove (scdLevel s) (x .readings .shunt))
+letsGo n OCD s x = not (attached (x .readings)) && not (shuntAbove (ocdLevel s) (x .readings .shunt))
+letsGo n OV s x = all (each 0 n (λ k. ltb (readingAt (x .cells) k) (ovRelease s)))
+letsGo n UV s x = all (each 0 n (λ k. ltb (uvRelease s) (readingAt (x .cells) k)))
+letsGo n OT s x = not (hot (x .readings))
+
+-- at each accepted sample an unlatched fault latches exactly if it stands, and a latched one unlatches exactly if it lets go
+abbrev pub latched : ℕ → Fault → History → Bool
+latched n f [] = false
+latched n f (sampled x mv ∷ h) = latchNext (latched n f h) (stands n f (sampled x mv ∷ h)) (letsGo n f (working h) (sampleOf x mv))
+latched n f (wrote register v ∷ h) = latched n f h
+latched n f (programmed ∷ h) = latched n f h
+latched n f (asked ∷ h) = latched n f h
+
+abbrev pub latchesAt : ℕ → History → Latches
+latchesAt n h = latches (λ f. latched n f h)
+
+-- ---- Bleeding
+
+-- a cell is flagged when its OV run has stood the delay, and loses its flag when it reads low
+abbrev pub flagged : ℕ → History → Bool
+flagged k [] = false
+flagged k (sampled x mv ∷ h) = flagNext (working h) (stoodDelay OV k (sampled x mv ∷ h)) (flagged k h) (readingAt mv k)
+flagged k (wrote register v ∷ h) = flagged k h
+flagged k (programmed ∷ h) = flagged k h
+flagged k (asked ∷ h) = flagged k h
+
+abbrev pub flagsAt : ℕ → History → List Bool
+flagsAt n h = each 0 n (λ k. flagged k h)
+
+-- ---- the declared record of a board of n cells with these accepted acts; past its cells it is as it started
+
+abbrev pub cellGiven : History → ℕ → Cell
+cellGiven h k = record { ov = kept (runOf OV k h); uv = kept (runOf UV k h) }
+
+abbrev pub given : ℕ → History → Board
+given n h =
+    record {
+      count = n;
+      latches = latchesByte (latchesAt n h);
+      cycles = spent h;
+      flags = number (flagsAt n h);
+      working = working h;
+      staged = staged h;
+      currents = record { ocd = kept (runOf OCD 0 h); scd = kept (runOf SCD 0 h) };
+      cells = each 0 n (cellGiven h) ++ drop n noCells;
+    }

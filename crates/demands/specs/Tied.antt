@@ -1,0 +1,46 @@
+-- Whom an act concerns, and which two acts may not change places.
+-- Assumes nothing.
+use Prim.Native.Nat.{ℕ}
+use mathlib.Core.Path.{_≡_}
+use mathlib.Core.Bool.{cond}
+use mathlib.Core.List.{List, [], _∷_, _++_}
+use lib.Dec.{eqb}
+use lib.ListN.{length}
+use Rattle.refusal.specs.Said.{Bar, bar, first}
+use Rattle.board.specs.Sample.{outside}
+use Rattle.frame.specs.Frame.{byte, boardOf, frameBars}
+use Rattle.stack.specs.Row.{placeOf}
+use Rattle.stack.specs.Frame.{framePlace}
+use Rattle.demands.specs.Acts.{Act, sample, frame, reading}
+
+-- one board, by its place in the row; the whole stack; or nobody, where the act is refused before a board is known
+pub data Who : Type 0 where
+  board : ℕ → Who
+  whole : Who
+  nobody : Who
+
+-- the refusals that come before a board is known, on a stack of m boards: 2; and 6, 7, 8, 2
+abbrev pub early : ℕ → Act → List Bar
+early m (sample n x mv) = bar 2 (outside 1 m n) ∷ []
+early m (frame bytes buffer) = frameBars bytes (length buffer) ++ (bar 2 (outside 1 m (boardOf (byte bytes 0))) ∷ [])
+early m reading = []
+
+abbrev pub who : ℕ → Act → Who
+who m (sample n x mv) = cond (eqb (first (early m (sample n x mv))) 0) (board (placeOf n)) nobody
+who m (frame bytes buffer) = cond (eqb (first (early m (frame bytes buffer))) 0) (board (framePlace bytes)) nobody
+who m reading = whole
+
+-- tied are two acts of one board, and an act of a board and a whole-stack reading
+abbrev pub Ties : Who → Who → Type 0
+Ties (board i) (board j) = i ≡ j
+Ties (board i) whole = Unit {0}
+Ties (board i) nobody = ⊥
+Ties whole (board j) = Unit {0}
+Ties whole whole = ⊥
+Ties whole nobody = ⊥
+Ties nobody (board j) = ⊥
+Ties nobody whole = ⊥
+Ties nobody nobody = ⊥
+
+abbrev pub Tied : ℕ → Act → Act → Type 0
+Tied m a b = Ties (who m a) (who m b)
