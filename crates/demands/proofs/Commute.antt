@@ -1,11 +1,11 @@
 -- Two acts that are not tied commute: each keeps its outcome, and the logs after both are the same.
 -- Assumes nothing.
 use Prim.Native.Nat.{ℕ}
-use mathlib.Core.Path.{_≡_, refl, sym, ap, ap₂, _∙_}
+use mathlib.Core.Path.{_≡_, refl, sym, ap, _∙_, subst}
 use mathlib.Core.Bool.{Bool, true, false, true≢false, cond, not, _&&_}
 use mathlib.Core.List.{List, [], _∷_, _++_}
 use lib.Dec.{eqb}
-use lib.ListN.{length, getD, set, drop, length-set, length-map}
+use lib.ListN.{length, set, drop, length-map}
 use lib.Seq.{getD-set-other, set-comm, set-getD}
 use Rattle.lists.proofs.Split.{both, not-yes}
 use Rattle.refusal.specs.Said.{Said, Bar, bar, accepts, refuses, first, judged, kept}
@@ -18,8 +18,8 @@ use Rattle.stack.specs.Row.{goodRow, placeOf, boardAt}
 use Rattle.stack.specs.Frame.{framePlace}
 use Rattle.demands.specs.Paper.{Entry, sampled, asked}
 use Rattle.demands.specs.Acts.{Act, sample, frame, reading, Outcome, bars}
-use Rattle.demands.specs.Tied.{Who, board, whole, nobody, early, who, Ties, Tied}
-use Rattle.demands.specs.Demands.{Log, log, logAt, joined, boardGiven, rowGiven, frameEntry, joins, taken, sampleSays, frameSays, told, nothing}
+use Rattle.demands.specs.Tied.{Who, board, whole, nobody, early, who, Ties, together, before-reading, behind-reading, Tied}
+use Rattle.demands.specs.Demands.{Log, log, logAt, joined, boardGiven, rowGiven, frameEntry, joins, taken, sampleSays, frameSays, told}
 use Rattle.demands.proofs.Clear.{clear}
 use Rattle.demands.proofs.Tells.{board-at}
 use Rattle.demands.proofs.Demanded.{countsOf, same-counts, goodOf, good-counts}
@@ -51,7 +51,7 @@ answerIn l (frame bytes buffer) =
     let refusals = late (boardGiven l) (frame bytes buffer) in
     let reply = frameSays (joined l (frameEntry bytes)) bytes in
     record { said = judged refusals reply; buffer = kept refusals buffer (reply ++ drop 4 buffer) }
-answerIn l reading = nothing
+answerIn l reading = record { said = accepts []; buffer = [] }
 
 abbrev lent : Act → List ℕ
 lent (sample n x mv) = []
@@ -73,26 +73,40 @@ answerFor m (board i) logs a = answerIn (logAt logs i) a
 answerFor m whole logs a = told logs reading
 answerFor m nobody logs a = refusedEarly m a
 
-commuteFor : (m : ℕ) (v w : Who) (logs : List Log) (a b : Act) → (Ties w v → ⊥)
-    → (answerFor m w (nextFor v logs a) b ≡ answerFor m w logs b) × (answerFor m v (nextFor w logs b) a ≡ answerFor m v logs a)
-    × (nextFor w (nextFor v logs a) b ≡ nextFor v (nextFor w logs b) a)
-commuteFor m (board i) (board j) s a b f =
-    let p = getD-set-other s i j (stepIn (logAt s i) a) (log 0 []) f in
-    let q = getD-set-other s j i (stepIn (logAt s j) b) (log 0 []) (λ e. f (sym e)) in (
-      ap (λ (l : Log). answerIn l b) p,
-      ap (λ (l : Log). answerIn l a) q,
-      ap (λ (l : Log). set (set s i (stepIn (logAt s i) a)) j (stepIn l b)) p
-          ∙ set-comm s i j (stepIn (logAt s i) a) (stepIn (logAt s j) b) (λ e. f (sym e))
-          ∙ ap (λ (l : Log). set (set s j (stepIn (logAt s j) b)) i (stepIn l a)) (sym q),
-    )
-commuteFor m (board i) whole s a b f = absurd (f tt)
-commuteFor m (board i) nobody s a b f = (refl, refl, refl)
-commuteFor m whole (board j) s a b f = absurd (f tt)
-commuteFor m whole whole s a b f = (refl, refl, refl)
-commuteFor m whole nobody s a b f = (refl, refl, refl)
-commuteFor m nobody (board j) s a b f = (refl, refl, refl)
-commuteFor m nobody whole s a b f = (refl, refl, refl)
-commuteFor m nobody nobody s a b f = (refl, refl, refl)
+flip : (v w : Who) → Ties v w → Ties w v
+flip v w together = together
+flip v w before-reading = behind-reading
+flip v w behind-reading = before-reading
+
+other-board : (i j : ℕ) → (Ties (board i) (board j) → ⊥) → i ≡ j → ⊥
+other-board i j f e = f (subst (λ (k : ℕ). Ties (board i) (board k)) e together)
+
+-- an act leaves the outcome of one that it is not tied to
+undisturbed : (m : ℕ) (v w : Who) (logs : List Log) (a b : Act) → (Ties v w → ⊥) → answerFor m w (nextFor v logs a) b ≡ answerFor m w logs b
+undisturbed m (board i) (board j) logs a b f =
+    ap (λ (l : Log). answerIn l b) (getD-set-other logs i j (stepIn (logAt logs i) a) (log 0 []) (λ e. other-board i j f (sym e)))
+undisturbed m (board i) whole logs a b f = absurd (f before-reading)
+undisturbed m (board i) nobody logs a b f = refl
+undisturbed m whole w logs a b f = refl
+undisturbed m nobody w logs a b f = refl
+
+-- and the two leave the same logs in either order
+either-order : (v w : Who) (logs : List Log) (a b : Act) → (Ties v w → ⊥) → nextFor w (nextFor v logs a) b ≡ nextFor v (nextFor w logs b) a
+either-order (board i) (board j) logs a b f =
+    let other = other-board i j f in
+    let p = getD-set-other logs i j (stepIn (logAt logs i) a) (log 0 []) (λ e. other (sym e)) in
+    let q = getD-set-other logs j i (stepIn (logAt logs j) b) (log 0 []) other in
+    ap (λ (l : Log). set (set logs i (stepIn (logAt logs i) a)) j (stepIn l b)) p
+    ∙ set-comm logs i j (stepIn (logAt logs i) a) (stepIn (logAt logs j) b) other
+    ∙ ap (λ (l : Log). set (set logs j (stepIn (logAt logs j) b)) i (stepIn l a)) (sym q)
+either-order (board i) whole logs a b f = refl
+either-order (board i) nobody logs a b f = refl
+either-order whole (board j) logs a b f = refl
+either-order whole whole logs a b f = refl
+either-order whole nobody logs a b f = refl
+either-order nobody (board j) logs a b f = refl
+either-order nobody whole logs a b f = refl
+either-order nobody nobody logs a b f = refl
 
 -- ---- refusals in two parts: early ones, and then those once the board is known
 
@@ -218,15 +232,17 @@ module _ (counts : List ℕ) (good : goodOf counts ≡ true) where
     agrees (frame bytes buffer) = frame-agrees bytes buffer (eqb (first (early m (frame bytes buffer))) 0) refl
     agrees reading = (refl, refl)
 
-  pub commute : (logs : List Log) (a b : Act) → Good logs → (Tied m b a → ⊥)
+  -- two acts that are not tied, the first before the second
+  pub commute : (logs : List Log) (a b : Act) → Good logs → (Tied m a b → ⊥)
       → (told (taken logs a) b ≡ told logs b) × (told (taken logs b) a ≡ told logs a) × (taken (taken logs a) b ≡ taken (taken logs b) a)
   commute logs a b g f =
-      let c = commuteFor m (who m a) (who m b) logs a b f in
+      let v = who m a in
+      let w = who m b in
       let p = agrees logs g a in
       let q = agrees logs g b in
       let p′ = agrees (taken logs b) (keeps logs b g) a in
       let q′ = agrees (taken logs a) (keeps logs a g) b in (
-        q′ .1 ∙ ap (λ (z : List Log). answerFor m (who m b) z b) (p .0) ∙ c .0 ∙ sym (q .1),
-        p′ .1 ∙ ap (λ (z : List Log). answerFor m (who m a) z a) (q .0) ∙ c .1 ∙ sym (p .1),
-        q′ .0 ∙ ap (λ (z : List Log). nextFor (who m b) z b) (p .0) ∙ c .2 ∙ ap (λ (z : List Log). nextFor (who m a) z a) (sym (q .0)) ∙ sym (p′ .0),
+        q′ .1 ∙ ap (λ (z : List Log). answerFor m w z b) (p .0) ∙ undisturbed m v w logs a b f ∙ sym (q .1),
+        p′ .1 ∙ ap (λ (z : List Log). answerFor m v z a) (q .0) ∙ undisturbed m w v logs b a (λ t. f (flip w v t)) ∙ sym (p .1),
+        q′ .0 ∙ ap (λ (z : List Log). nextFor w z b) (p .0) ∙ either-order v w logs a b f ∙ ap (λ (z : List Log). nextFor v z a) (sym (q .0)) ∙ sym (p′ .0),
       )

@@ -1,11 +1,11 @@
 -- Demand 2: what the library does with any acts after any opening is what the paper tells of them.
 -- Assumes nothing.
-use Prim.Native.Nat.{ℕ, _-_, _≤_}
+use Prim.Native.Nat.{ℕ, _-_}
 use mathlib.Core.Path.{_≡_, refl, ap, ap₂, sym, _∙_}
 use mathlib.Core.Bool.{Bool, true, false, true≢false, cond, not, _&&_, _||_}
-use mathlib.Core.List.{List, [], _∷_, _++_, map}
+use mathlib.Core.List.{List, [], _∷_, map}
 use lib.Dec.{eqb}
-use lib.ListN.{length, set, take, replicate, length-map}
+use lib.ListN.{length, replicate, length-map}
 use lib.Seq.{take-at, map-set-same}
 use Rattle.lists.specs.Every.{every}
 use Rattle.lists.proofs.Split.{both}
@@ -13,7 +13,7 @@ use Rattle.refusal.specs.Said.{Bar, bar, first, kept}
 use Rattle.board.specs.declared.Board.{Board}
 use Rattle.board.specs.Sample.{fresh, outside, badBoard}
 use Rattle.stack.specs.Row.{badCount, goodRow, placeOf}
-use Rattle.stack.specs.Open.{goodCounts, openBars, opened, freshRow, openOf}
+use Rattle.stack.specs.Open.{goodCounts, opened, freshRow, openOf}
 use Rattle.stack.specs.Frame.{framePlace}
 use Rattle.stack.proofs.Counts.{within}
 use Rattle.demands.specs.Paper.{Entry, sampled}

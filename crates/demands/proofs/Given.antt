@@ -1,16 +1,14 @@
 -- What a board keeps is what the paper gives of its accepted acts: at the start, and one act on.
 -- Assumes nothing.
-use Prim.Native.Nat.{ℕ, zero, suc, _+_, _<_, _≤_, min}
+use Prim.Native.Nat.{ℕ, _+_, _<_, _≤_}
 use native.Mathlib.Omega.{arith}
 use mathlib.Core.Path.{_≡_, refl, ap, ap₂, sym, _∙_}
-use mathlib.Core.Bool.{Bool, true, false, cond, not, _&&_, _||_, or-false}
+use mathlib.Core.Bool.{Bool, true, false, cond, or-false}
 use mathlib.Core.List.{List, [], _∷_, _++_, dropLast}
-use mathlib.Core.Option.{Option, some, none}
-use lib.Dec.{ltb, leb, leb·zero}
+use lib.Dec.{leb·zero}
 use lib.ListN.{length, drop}
-use Rattle.lists.proofs.Split.{split}
 use Rattle.settings.specs.declared.Settings.{Settings}
-use Rattle.settings.specs.Levels.{ovRelease, uvRelease}
+use Rattle.settings.specs.Levels.{ovRelease}
 use Rattle.settings.specs.Bytes.{same}
 use Rattle.settings.proofs.Laws.{same-yes}
 use Rattle.settings.specs.Faults.{Fault, SCD, OCD, OV, UV, OT, delay}
@@ -21,12 +19,11 @@ use Rattle.runs.specs.Kept.{kept, runNext, stood}
 use Rattle.runs.proofs.Laws.{kept-run, stood-delay}
 use Rattle.cells.specs.declared.Cell.{Cell}
 use Rattle.cells.specs.declared.Swept.{Swept}
-use Rattle.cells.specs.Each.{each, some as someOf, all}
+use Rattle.cells.specs.Each.{each, some as someOf}
 use Rattle.cells.proofs.Each.{each-length, each-place}
 use Rattle.cells.specs.Bleed.{bled}
-use Rattle.cells.specs.Cells.{cellBy, cellAt, readingAt, cellCount, noCells, limitsOf, nextAt, ovStoodAt, uvStoodAt, flaggedAt, flagBy, sweepBy}
-use Rattle.latches.specs.declared.Latches.{Latches}
-use Rattle.latches.specs.Latches.{latch, latches, latchNext, latchesByte, latchesOf}
+use Rattle.cells.specs.Cells.{cellBy, cellAt, readingAt, cellCount, noCells, limitsOf, nextAt, flaggedAt, flagBy, sweepBy}
+use Rattle.latches.specs.Latches.{latches, latchNext, latchesByte}
 use Rattle.latches.proofs.Packed.{latches-kept}
 use Rattle.board.specs.declared.Board.{Board}
 use Rattle.board.specs.declared.Currents.{Currents}
@@ -35,7 +32,7 @@ use Rattle.board.specs.Sample as board
 use Rattle.board.specs.Sample.{fresh, hot, currentsNext, latchesNext, sweptAt, latchesAfter, boardNext}
 use Rattle.registers.specs.Registers as registers
 use Rattle.registers.specs.Registers.{staging}
-use Rattle.demands.specs.Paper.{Entry, sampled, wrote, programmed, asked, History, staged, working, spent, Sample, sampleOf, since, holds, runOf, stoodDelay, places, stands, letsGo, latched, latchesAt, flagged, flagsAt, cellGiven, given}
+use Rattle.demands.specs.Paper.{sampled, wrote, programmed, asked, History, staged, working, spent, Sample, sampleOf, since, holds, runOf, stoodDelay, stands, letsGo, latched, latchesAt, flagged, flagsAt, cellGiven, given}
 use Rattle.demands.proofs.Lists.{each-same, each-behind, each-before, each-one, number-none}
 
 -- ---- the start

@@ -3,6 +3,7 @@ pub mod Given
 pub mod Clear
 pub mod Tells
 pub mod Demanded
-pub mod Shuffled
 pub mod Commute
 pub mod Order
+pub mod Cycles
+pub mod Turns

@@ -1,24 +1,94 @@
 -- Demand 3: acts that are not tied may change places.
 -- Assumes nothing.
 use Prim.Native.Nat.{ℕ}
-use mathlib.Core.Path.{_≡_, refl, sym, ap, _∙_}
-use mathlib.Core.Bool.{Bool, true}
-use mathlib.Core.List.{List}
+use mathlib.Core.Path.{_≡_, refl, sym, ap, ap₂, _∙_, subst}
+use mathlib.Core.Bool.{true}
+use mathlib.Core.List.{List, [], _∷_, _++_, map, head-eq-of-cons-eq, tail-eq-of-cons-eq}
 use lib.ListN.{length}
-use Rattle.board.specs.declared.Board.{Board}
-use Rattle.demands.specs.Acts.{Act, reading, Outcome, next, outcome, openedRow, final, answers}
-use Rattle.demands.specs.Shuffle.{pick, Shuffle}
+use Rattle.demands.specs.Acts.{Act, Outcome, final, answers}
+use Rattle.demands.specs.Shuffle.{Free, Shuffle}
 use Rattle.demands.specs.Tied.{Tied}
-use Rattle.demands.specs.Demands.{Log, begun, rowGiven, taken, told, opens, nothing, Demand3}
+use Rattle.demands.specs.Demands.{Log, begun, rowGiven, taken, told, Answered, answered, actsOf, TiedIn, Demand3}
 use Rattle.demands.proofs.Demanded.{goodOf, begun-counts, opens-good, demand2}
-use Rattle.demands.proofs.Shuffled.{shuffle}
 use Rattle.demands.proofs.Commute.{Good, keeps, commute}
 
+acts-answered : (logs : List Log) (acts : List Act) → actsOf (answered logs acts) ≡ acts
+acts-answered logs [] = refl
+acts-answered logs (a ∷ acts) = ap (λ (l : List Act). a ∷ l) (acts-answered (taken logs a) acts)
+
+gets-answered : (logs : List Log) (acts : List Act) → answers taken told logs acts ≡ map (λ p. p .gets) (answered logs acts)
+gets-answered logs [] = refl
+gets-answered logs (a ∷ acts) = ap (λ (l : List Outcome). told logs a ∷ l) (gets-answered (taken logs a) acts)
+
+none-is-some : {A : Type 0} (a : A) (l : List A) → [] ≡ a ∷ l → ⊥
+none-is-some {A} a l e = subst {A = List A} (λ k. isNone k) e tt
+  where
+    isNone : List A → Type 0
+    isNone [] = Unit {0}
+    isNone (b ∷ k) = ⊥
+
+module _ (counts : List ℕ) (good : goodOf counts ≡ true) where
+  abbrev m : ℕ
+  m = length counts
+
+  -- an act that is tied to none in front of it may be taken first: it gets what it got, and so does every other act behind it
+  record First (logs : List Log) (acts : List Act) (p : Answered) (others : List Answered) : Type 0 where
+    itself : p .gets ≡ told logs (p .act)
+    rest : answered (taken logs (p .act)) (actsOf others) ≡ others
+    end : final taken (taken logs (p .act)) (actsOf others) ≡ final taken logs acts
+
+  first : (logs : List Log) → Good counts good logs → (acts : List Act) (before : List Answered) (p : Answered) (after : List Answered)
+      → answered logs acts ≡ before ++ (p ∷ after) → Free (TiedIn m) p before → First logs acts p (before ++ after)
+  first logs g [] [] p after e f = absurd (none-is-some p after e)
+  first logs g [] (q ∷ before) p after e f = absurd (none-is-some q (before ++ (p ∷ after)) e)
+  first logs g (a ∷ acts) [] p after e f =
+      let h = head-eq-of-cons-eq e in
+      let t = tail-eq-of-cons-eq e in
+      let is-a : p .act ≡ a = sym (ap (λ (z : Answered). z .act) h) in
+      let are : actsOf after ≡ acts = ap actsOf (sym t) ∙ acts-answered (taken logs a) acts in
+      record {
+        itself = sym (ap (λ (z : Answered). z .gets) h) ∙ ap (told logs) (sym is-a);
+        rest = ap₂ (λ (b : Act) (l : List Act). answered (taken logs b) l) is-a are ∙ t;
+        end = ap₂ (λ (b : Act) (l : List Act). final taken (taken logs b) l) is-a are;
+      }
+  first logs g (a ∷ acts) (q ∷ before) p after e f =
+      let h = head-eq-of-cons-eq e in
+      let b = p .act in
+      let others = before ++ after in
+      let is-a : q .act ≡ a = sym (ap (λ (z : Answered). z .act) h) in
+      let k = first (taken logs a) (keeps counts good logs a g) acts before p after (tail-eq-of-cons-eq e) (f .1) in
+      let c = commute counts good logs a b g (λ t. f .0 (subst (λ (z : Act). Tied m z b) (sym is-a) t)) in
+      let then : answered (taken (taken logs b) a) (actsOf others) ≡ others = ap (λ (s : List Log). answered s (actsOf others)) (sym (c .2)) ∙ k .rest in
+      let first-is : _≡_ {A = Answered} (record { act = a; gets = told (taken logs b) a }) q = (λ i. record { act = a; gets = c .1 i }) ∙ h in
+      record {
+        itself = k .itself ∙ c .0;
+        rest = ap (λ (z : Act). answered (taken logs b) (z ∷ actsOf others)) is-a ∙ ap₂ (λ (z : Answered) (l : List Answered). z ∷ l) first-is then;
+        end =
+            ap (λ (z : Act). final taken (taken logs b) (z ∷ actsOf others)) is-a
+            ∙ ap (λ (s : List Log). final taken s (actsOf others)) (sym (c .2))
+            ∙ k .end;
+      }
+
+  shuffled-so : (logs : List Log) → Good counts good logs → (acts : List Act) (shuffled : List Answered) → Shuffle (TiedIn m) (answered logs acts) shuffled
+      → (answered logs (actsOf shuffled) ≡ shuffled) × (final taken logs (actsOf shuffled) ≡ final taken logs acts)
+  shuffled-so logs g [] [] w = (refl, refl)
+  shuffled-so logs g (a ∷ acts) [] w = absurd (none-is-some _ _ (sym w))
+  shuffled-so logs g acts (p ∷ shuffled) (before, after, e, f, w) =
+      let k = first logs g acts before p after e f in
+      let others = before ++ after in
+      let left = subst (λ (l : List Answered). Shuffle (TiedIn m) l shuffled) (sym (k .rest)) w in
+      let then = shuffled-so (taken logs (p .act)) (keeps counts good logs (p .act) g) (actsOf others) shuffled left in (
+        ap₂ (λ (o : Outcome) (l : List Answered). record { act = p .act; gets = o } ∷ l) (sym (k .itself)) (then .0),
+        then .1 ∙ k .end,
+      )
+
 pub demand3 : Demand3
-demand3 counts e acts places w =
+demand3 counts e acts shuffled w =
     let fine = opens-good counts e in
     let good : goodOf counts ≡ true = rw (fine .0, fine .1) in
-    let kept = shuffle taken told (Tied (length counts)) reading nothing (Good counts good) (keeps counts good) (commute counts good) (begun counts) acts places (begun-counts counts) w in
-    let first = demand2 counts e acts in
-    let second = demand2 counts e (pick reading acts places) in
-    (second .0 ∙ kept .0, second .1 ∙ ap rowGiven (kept .1) ∙ sym (first .1))
+    let so = shuffled-so counts good (begun counts) (begun-counts counts) acts shuffled w in
+    let first-list = demand2 counts e acts in
+    let second-list = demand2 counts e (actsOf shuffled) in (
+      second-list .0 ∙ gets-answered (begun counts) (actsOf shuffled) ∙ ap (λ (l : List Answered). map (λ p. p .gets) l) (so .0),
+      second-list .1 ∙ ap rowGiven (so .1) ∙ sym (first-list .1),
+    )

@@ -1,6 +1,6 @@
 -- One act on a row that the paper gives: the library's outcome is the one told, and its row the one given after it.
 -- Assumes nothing.
-use Prim.Native.Nat.{ℕ, zero, suc, _<_, _≤_}
+use Prim.Native.Nat.{ℕ, zero, suc, _≤_}
 use native.Mathlib.Omega.{arith}
 use mathlib.Core.Path.{_≡_, refl, ap, ap₂, sym, _∙_}
 use mathlib.Core.Bool.{Bool, true, false, true≢false, cond, not}
@@ -8,35 +8,34 @@ use mathlib.Core.List.{List, [], _∷_, _++_, map}
 use lib.Dec.{ltb, eqb}
 use lib.ListN.{length, getD, set, drop, List·getD-map}
 use borrow.Author.Tests.{ltb-true, ltb-false, eqb-true, not-false}
-use Rattle.lists.proofs.Split.{split, not-yes}
+use Rattle.lists.proofs.Split.{split}
 use Rattle.settings.specs.Bytes.{byteOf}
-use Rattle.refusal.specs.Said.{Bar, bar, accepts, first, judged, kept}
-use Rattle.cells.specs.Each.{each}
+use Rattle.refusal.specs.Said.{Bar, bar, accepts, first}
 use Rattle.latches.specs.declared.Latches.{Latches}
 use Rattle.latches.specs.Latches.{anyLatch, chgOn, dsgOn, register0}
 use Rattle.latches.proofs.Packed.{latches-kept}
 use Rattle.board.specs.declared.Board.{Board}
 use Rattle.board.specs.declared.Readings.{Readings}
-use Rattle.board.specs.Sample.{fresh, badBoard, outside, outOfRange, readingBars, latchesAfter, sweptAt, boardNext, sampleValues}
-use Rattle.frame.specs.Frame.{byte, boardOf, writes, frameBars}
+use Rattle.board.specs.Sample.{badBoard, outside, outOfRange, readingBars, boardNext, sampleValues}
+use Rattle.frame.specs.Frame.{byte, boardOf, writes}
 use Rattle.frame.specs.Reply.{replyBytes}
 use Rattle.frame.specs.Check.{checkOf}
 use Rattle.registers.specs.Registers as registers
-use Rattle.registers.specs.Registers.{programs, staging, accessBars, boardAfter, readValue, replyValue}
+use Rattle.registers.specs.Registers.{programs, staging, accessBars, boardAfter, replyValue}
 use Rattle.reading.specs.declared.Summary.{Summary}
 use Rattle.reading.specs.declared.Whole.{Whole}
 use Rattle.reading.specs.Reading.{summaryOf, readOf, wholeSaid}
 use Rattle.stack.specs.Row.{goodRow, noBoard, placeOf, boardAt}
-use Rattle.stack.specs.Sample.{sampleRowBars, sampleAnswer, sampleRow}
-use Rattle.stack.specs.Frame.{framePlace, frameBoard, boardFramed, frameReply, frameRowBars, frameAnswer, frameRow, frameBuffer}
+use Rattle.stack.specs.Sample.{sampleRowBars, sampleRow}
+use Rattle.stack.specs.Frame.{framePlace, frameBoard, boardFramed, frameReply, frameRowBars, frameRow, frameBuffer}
 use Rattle.stack.specs.Read.{viewSaid, readingOf}
 use Rattle.stack.proofs.Counts.{within}
 use Rattle.stack.proofs.Ways.{board-good, has-none}
 use Rattle.stack.proofs.Laws.{sample-said, frame-said}
 use Rattle.stack.proofs.Scanned.{whole-said}
-use Rattle.demands.specs.Paper.{Entry, sampled, wrote, programmed, asked, History, working, spent, latchesAt, given}
-use Rattle.demands.specs.Acts.{Act, sample, frame, reading, Outcome, bars, outcome, next}
-use Rattle.demands.specs.Demands.{Log, log, logAt, joined, boardGiven, rowGiven, frameEntry, joins, taken, sampleSays, readSays, frameSays, summaryGiven, readingSays, told}
+use Rattle.demands.specs.Paper.{sampled, wrote, programmed, asked, History, working, spent, latchesAt, given}
+use Rattle.demands.specs.Acts.{Act, sample, frame, reading, outcome, next}
+use Rattle.demands.specs.Demands.{Log, log, logAt, joined, boardGiven, rowGiven, frameEntry, joins, taken, sampleSays, readSays, frameSays, summaryGiven, told}
 use Rattle.demands.proofs.Given.{given-start, latches-are, bled-are, given-sampled, given-wrote, given-asked, given-programmed}
 use Rattle.demands.proofs.Clear.{clear, judged-same, kept-same}
 
@@ -132,8 +131,9 @@ module _ (logs : List Log) (bytes buffer : List ℕ) where
   abbrev frame-row : List Bar
   frame-row = frameRowBars (rowGiven logs) bytes buffer
 
-  -- an accepted frame is to a board of at most ten cells
-  frame-fits : eqb (first frame-row) 0 ≡ true → of-frame .cells ≤ 10
+  -- an accepted frame is to a board of at most ten cells, whose record gives no refusal
+  pub frame-fits : eqb (first frame-row) 0 ≡ true
+      → (of-frame .cells ≤ 10) × (eqb (first (accessBars (boardGiven of-frame) (writes (byte bytes 0)) (byte bytes 1) (byte bytes 2))) 0 ≡ true)
   frame-fits accepted =
       let row = rowGiven logs in
       let n = boardOf (byte bytes 0) in
@@ -147,14 +147,15 @@ module _ (logs : List Log) (bytes buffer : List ℕ) where
       let c7 = clear b7 (b8 ∷ b2 ∷ late) refl (c6 .1) in
       let c8 = clear b8 (b2 ∷ late) refl (c7 .1) in
       let c2 = clear b2 late refl (c8 .1) in
-      few-cells logs n (c1 .0) (c2 .0)
+      let here = ap (λ (b : Board). first (accessBars b (writes (byte bytes 0)) (byte bytes 1) (byte bytes 2))) (board-at logs (framePlace bytes)) in
+      (few-cells logs n (c1 .0) (c2 .0), ap (λ (k : ℕ). eqb k 0) (sym here) ∙ c2 .1)
 
   frame-leaves : eqb (first frame-row) 0 ≡ true → boardFramed (rowGiven logs) bytes ≡ boardGiven (joined of-frame (frameEntry bytes))
   unfolding boardAfter
   frame-leaves accepted =
       let write = writes (byte bytes 0) in
       ap (λ (b : Board). boardAfter b write (byte bytes 1) (byte bytes 2)) (board-at logs (framePlace bytes))
-      ∙ accessed write (eqb (byte bytes 1) 11) (of-frame .cells) (frame-fits accepted) (of-frame .acts) (byte bytes 1) (byte bytes 2)
+      ∙ accessed write (eqb (byte bytes 1) 11) (of-frame .cells) (frame-fits accepted .0) (of-frame .acts) (byte bytes 1) (byte bytes 2)
 
   frame-values : eqb (first frame-row) 0 ≡ true → frameReply (rowGiven logs) bytes ≡ frameSays (joined of-frame (frameEntry bytes)) bytes
   frame-values accepted =

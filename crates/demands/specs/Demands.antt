@@ -6,7 +6,7 @@ use mathlib.Core.Bool.{Bool, true, cond}
 use mathlib.Core.List.{List, [], _∷_, _++_, map}
 use lib.Dec.{eqb}
 use lib.ListN.{length, getD, set, drop}
-use Rattle.refusal.specs.Said.{Said, accepts, first, judged, kept}
+use Rattle.refusal.specs.Said.{accepts, first, judged, kept}
 use Rattle.settings.specs.Bytes.{byteOf}
 use Rattle.marks.specs.Marks.{number}
 use Rattle.cells.specs.Bleed.{bled}
@@ -22,7 +22,7 @@ use Rattle.stack.specs.Open.{openBars}
 use Rattle.stack.specs.Frame.{framePlace}
 use Rattle.demands.specs.Paper.{Entry, sampled, wrote, programmed, asked, History, working, spent, latchesAt, flagsAt, given}
 use Rattle.demands.specs.Acts.{Act, sample, frame, reading, Outcome, bars, outcome, next, openedRow, final, answers}
-use Rattle.demands.specs.Shuffle.{pick, Shuffle}
+use Rattle.demands.specs.Shuffle.{Shuffle}
 use Rattle.demands.specs.Tied.{Tied}
 
 -- ---- what is known of each board: its cell count and its accepted acts
@@ -119,12 +119,24 @@ Demand2 = (counts : List ℕ) → opens counts ≡ true → (acts : List Act)
 
 -- ---- demand 3
 
--- the outcome of no act, which no place of a shuffle picks
-abbrev pub nothing : Outcome
-nothing = record { said = accepts []; buffer = [] }
+-- an act of the first list, and what the paper tells of it there
+pub record Answered : Type 0 where
+  pub act : Act
+  pub gets : Outcome
 
--- however acts that are not tied change places, each keeps the outcome that the paper tells of it, and the row at the end is the same
+abbrev pub answered : List Log → List Act → List Answered
+answered logs [] = []
+answered logs (a ∷ acts) = record { act = a; gets = told logs a } ∷ answered (taken logs a) acts
+
+abbrev pub actsOf : List Answered → List Act
+actsOf l = map (λ p. p .act) l
+
+abbrev pub TiedIn : ℕ → Answered → Answered → Type 0
+TiedIn m p q = Tied m (p .act) (q .act)
+
+-- however the acts are shuffled, each gets what the paper told of it in the first list, and the row at the end is the same
 abbrev pub Demand3 : Type 0
-Demand3 = (counts : List ℕ) → opens counts ≡ true → (acts : List Act) (places : List ℕ) → Shuffle (Tied (length counts)) reading acts places
-    → (answers next outcome (openedRow counts) (pick reading acts places) ≡ pick nothing (answers taken told (begun counts) acts) places)
-    × (final next (openedRow counts) (pick reading acts places) ≡ final next (openedRow counts) acts)
+Demand3 = (counts : List ℕ) → opens counts ≡ true → (acts : List Act) (shuffled : List Answered)
+    → Shuffle (TiedIn (length counts)) (answered (begun counts) acts) shuffled
+    → (answers next outcome (openedRow counts) (actsOf shuffled) ≡ map (λ p. p .gets) shuffled)
+    × (final next (openedRow counts) (actsOf shuffled) ≡ final next (openedRow counts) acts)

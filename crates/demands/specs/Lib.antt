@@ -3,3 +3,5 @@ pub mod Acts
 pub mod Shuffle
 pub mod Tied
 pub mod Demands
+pub mod Count
+pub mod Turns

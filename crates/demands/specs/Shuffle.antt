@@ -1,20 +1,14 @@
--- A shuffle of a list of acts, by places.
+-- A shuffle of a list (01, demand 3): its entries are taken out one after another, each past entries that it is not tied to.
 -- Assumes nothing.
-use Prim.Native.Nat.{ℕ, _<_}
 use mathlib.Core.Path.{_≡_}
-use mathlib.Core.Logic.{_≢_}
-use mathlib.Core.List.{List, map}
-use lib.ListN.{length, getD}
+use mathlib.Core.List.{List, [], _∷_, _++_}
 
--- the entries of `xs` at the places `ps`, in that order (`d` where there is no such place)
-abbrev pub pick : {A : Type 0} → A → List A → List ℕ → List A
-pick d xs ps = map (λ i. getD xs i d) ps
+-- an entry is tied to none of these, which stand in front of it
+abbrev pub Free : {A : Type 0} → (A → A → Type 0) → A → List A → Type 0
+Free Tied a [] = Unit {0}
+Free Tied a (b ∷ before) = (Tied b a → ⊥) × Free Tied a before
 
--- entry u of `ps` is the place in `xs` of the act that stands at u in the shuffled list: `ps` has each place of `xs` once,
--- and of two tied acts the one that stood first still stands first
-pub record Shuffle {A : Type 0} (Tied : A → A → Type 0) (d : A) (xs : List A) (ps : List ℕ) : Type 0 where
-  pub inside : (u : ℕ) → u < length ps → getD ps u 0 < length xs
-  pub every : (i : ℕ) → i < length xs → (u : ℕ) × (u < length ps) × (getD ps u 0 ≡ i)
-  pub apart : (u v : ℕ) → u < v → v < length ps → getD ps u 0 ≢ getD ps v 0
-  pub kept : (u v : ℕ) → u < v → v < length ps
-      → Tied (getD xs (getD ps u 0) d) (getD xs (getD ps v 0) d) → getD ps u 0 < getD ps v 0
+-- the first of the shuffled list stood behind entries that it may pass, and the others are a shuffle of what is left
+abbrev pub Shuffle : {A : Type 0} → (A → A → Type 0) → List A → List A → Type 0
+Shuffle Tied xs [] = xs ≡ []
+Shuffle {A} Tied xs (a ∷ others) = (before : List A) × (after : List A) × (xs ≡ before ++ (a ∷ after)) × Free Tied a before × Shuffle Tied (before ++ after) others

@@ -1,7 +1,6 @@
 -- Whom an act concerns, and which two acts may not change places.
 -- Assumes nothing.
 use Prim.Native.Nat.{ℕ}
-use mathlib.Core.Path.{_≡_}
 use mathlib.Core.Bool.{cond}
 use mathlib.Core.List.{List, [], _∷_, _++_}
 use lib.Dec.{eqb}
@@ -30,17 +29,11 @@ who m (sample n x mv) = cond (eqb (first (early m (sample n x mv))) 0) (board (p
 who m (frame bytes buffer) = cond (eqb (first (early m (frame bytes buffer))) 0) (board (framePlace bytes)) nobody
 who m reading = whole
 
--- tied are two acts of one board, and an act of a board and a whole-stack reading
-abbrev pub Ties : Who → Who → Type 0
-Ties (board i) (board j) = i ≡ j
-Ties (board i) whole = Unit {0}
-Ties (board i) nobody = ⊥
-Ties whole (board j) = Unit {0}
-Ties whole whole = ⊥
-Ties whole nobody = ⊥
-Ties nobody (board j) = ⊥
-Ties nobody whole = ⊥
-Ties nobody nobody = ⊥
+-- tied are two acts of one board, and an act of a board and a whole-stack reading, whichever comes first
+pub data Ties : Who → Who → Type 0 where
+  together : {i : ℕ} → Ties (board i) (board i)
+  before-reading : {i : ℕ} → Ties (board i) whole
+  behind-reading : {i : ℕ} → Ties whole (board i)
 
 abbrev pub Tied : ℕ → Act → Act → Type 0
 Tied m a b = Ties (who m a) (who m b)
