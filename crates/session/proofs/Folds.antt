@@ -27,12 +27,18 @@ use Rattle.session.proofs.Alike.{line-clip, stack-append, output-append
 abbrev pub Begun : ℕ → ℕ → ℕ → Type 0
 Begun room at wrote = ((at ≡ 0) × (wrote ≡ 0)) ⊎ ((0 < at) × (32 ≤ room))
 
+-- a block is fed up to at
+pub record Sofar (c : Cutter) (s : Stack) (block old new : List ℕ) (c′ : Cutter) (s′ : Stack) (at wrote : ℕ) : Type 0 where
+  pub within : at ≤ length block
+  pub fed : Fold c s (take at block) old new c′ s′ wrote
+  pub begun : Begun (length old) at wrote
+
 pub fold-none : (c : Cutter) (s : Stack) (old : List ℕ) → length (c .bytes) ≡ most → Fold c s [] old old c s 0
 unfolding ended left stackAfter outputOf
 fold-none c s old long =
     record { keeps = sym (held-clip c long); stack = refl; text = record { after = refl; whole = refl }; inside = omega arith }
 
-emptied-holds : (c c′ : Cutter) → c′ ≡ emptiedOf c → held c′ ≡ []
+pub emptied-holds : (c c′ : Cutter) → c′ ≡ emptiedOf c → held c′ ≡ []
 unfolding held emptiedOf
 emptied-holds c c′ e = rw e
 
@@ -40,7 +46,7 @@ emptied-holds c c′ e = rw e
 module _ (c : Cutter) (s : Stack) (block old : List ℕ) (at : ℕ) (mid : List ℕ) (c′ : Cutter) (s′ : Stack) (w : ℕ) (f : Fold c s (take at block) old mid c′ s′ w) (e : ℕ) (end : e ≡ at + length (upTo (drop at block))) where
   -- within the block: it is answered, and its newline used
   pub fold-line : (line : Line) (acted : Acted) (new : List ℕ) (c″ : Cutter) (w′ : ℕ) → e < length block → line ≡ lineOf (held c′ ++ part at e block)
-      → acted ≡ actOf s′ line → Printed (acted .told) w mid new w′ → length mid ≡ length old → w + 32 ≤ length mid → c″ ≡ emptiedOf c′
+      → acted ≡ actOf s′ line → Printed (acted .told) w mid new w′ → length mid ≡ length old → w + 32 ≤ length mid → held c″ ≡ []
       → Fold c s (take (e + 1) block) old new c″ (acted .stack) w′
   unfolding stackAfter outputOf clip
   fold-line line acted new c″ w′ l p q t same room empty =
@@ -51,7 +57,7 @@ module _ (c : Cutter) (s : Stack) (block old : List ℕ) (at : ℕ) (mid : List 
       let done : acted ≡ stepOf (stackAfter s lines) (before ++ part at e block) = q ∙ rw (read, f .stack) in
       let put : Put w (textOf (acted .told)) mid new w′ = rw (placed-all (length mid) w (acted .told) room) at (t .line) in
       record {
-        keeps = rw (left-line (held c) block at e end l) (emptied-holds c′ c″ empty);
+        keeps = rw (left-line (held c) block at e end l) empty;
         stack = rw (ended-line (held c) block at e end l, stack-append s lines ((before ++ part at e block) ∷ []), done);
         text =
             rw (ended-line (held c) block at e end l, output-append s lines ((before ++ part at e block) ∷ []), ← done, append-nil (textOf (acted .told)))

@@ -45,9 +45,12 @@ readingsOf numbers minus =
       load = numberAt numbers 2;
     }
 
--- the cells are the numbers from 5 on
+-- the cells are the numbers from 5 on; no line has more than 16
 abbrev pub cellCount : ℕ → ℕ
-cellCount count = min (count - 5) 95
+cellCount count = min (count - 5) 16
+
+unfoldable pub cellPlaces : List ℕ → List ℕ
+cellPlaces numbers = take 16 (drop 5 numbers)
 
 abbrev pub cellsOf : List ℕ → ℕ → List ℕ
 cellsOf numbers count = take (cellCount count) (drop 5 numbers)
@@ -60,8 +63,15 @@ countsOf numbers count = take (min count 100) numbers
 unfoldable pub bytesOf : List ℕ → List ℕ
 bytesOf numbers = map (λ n. n % 256) (take 16 numbers)
 
+abbrev pub byteCount : ℕ → ℕ
+byteCount count = min count 16
+
 abbrev pub frameOf : List ℕ → ℕ → List ℕ
-frameOf bytes count = take (min count 16) bytes
+frameOf bytes count = take (byteCount count) bytes
+
+-- the bench lends 4 bytes for replies
+abbrev pub noBytes : List ℕ
+noBytes = replicate 4 0
 
 -- ---- what is told: a refusal's number, or the values of an accepted act
 abbrev pub openingTold : Opening → Told
@@ -96,10 +106,9 @@ samples s numbers minus count =
     let sampled = sampledOf s (numberAt numbers 0) (readingsOf numbers minus) (cellsOf numbers count) in
     record { stack = sampled .stack; told = sampleTold (sampled .answer) }
 
--- the bench lends 4 bytes for replies
 unfoldable pub frames : Stack → List ℕ → ℕ → Acted
 frames s bytes count =
-    let framed = framedOf s (frameOf bytes count) (replicate 4 0) in
+    let framed = framedOf s (frameOf bytes count) noBytes in
     record { stack = framed .stack; told = replyTold (framed .answer) }
 
 unfoldable pub reads : Stack → Acted

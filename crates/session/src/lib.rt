@@ -1,12 +1,14 @@
 // A session of the bench: blocks of input in, the text of the answers out (01, The bench program).
 ghost use mathlib.Core.Path.{_≡_};
-ghost use Prim.Native.Nat.{min};
+ghost use Prim.Native.Nat.{_≤_, min};
 ghost use mathlib.Core.List.{_++_};
 ghost use Rattle.lines.specs.Line.{lineOf};
 ghost use Rattle.cutter.specs.Kept.{held};
-ghost use Rattle.session.specs.Acts.{shuntOf, readingsOf, cellCount, bytesOf, openingTold, sampleTold, replyTold, viewTold, opens, samples, frames, reads, actOf};
+ghost use Rattle.session.specs.Acts.{shuntOf, readingsOf, cellCount, cellPlaces, byteCount, bytesOf, noBytes, openingTold, sampleTold, replyTold, viewTold, opens, samples, frames, reads, actOf};
+ghost use Rattle.session.specs.Turns.{boardIn, readingsIn, cellsIn, cellCountIn, bytesIn, byteCountIn, isOpen, isSample, isFrame, sampledTold, sampledRow, framedTold, framedRow, viewedTold, askedTold, askedRow, rowTold, rowAfter, lineTold, tightAt, stopAt, turnOf, paceAfter, outAfter, lineDone, runDone, ranIn, ranInOut, paceAt, ranOf, ranOut};
 ghost use Rattle.session.specs.Session.{Run, lacking};
 use board::Answer;
+use board::Board;
 use board::Readings;
 use cutter::Cutter;
 use frame::Reply;
@@ -29,6 +31,31 @@ pub struct Fed {
     pub stack: Stack,
     pub used: usize,
     pub wrote: usize,
+}
+
+// Where a run of lines is: how many bytes of the block are used and how many written, the room for those, and whether it goes on.
+struct Pace {
+    at: usize,
+    wrote: usize,
+    room: usize,
+    going: bool,
+}
+
+// A line to answer, and where the run is behind it.
+struct Turn {
+    line: Line,
+    pace: Pace,
+}
+
+struct RanRow {
+    boards: [Board; 16],
+    pace: Pace,
+}
+
+// A stack after a run, and where the run ended.
+struct Ran {
+    stack: Stack,
+    pace: Pace,
 }
 
 // ---- a line as an act
@@ -75,7 +102,20 @@ fn cell_count(count: usize) -> usize
     if count < 5 {
         return 0;
     }
-    at_most(count - 5, 95)
+    at_most(count - 5, 16)
+}
+
+// The places of the cells, 16 at most.
+fn cells_of(numbers: [u32; 100]) -> [u32; 16]
+    ensures { λ r. ⌜ r ≡ cellPlaces numbers ⌝ }
+{
+    let mut cells = [0; 16];
+    let mut i = 0;
+    while i < 16 {
+        cells[i] = numbers[5 + i];
+        i += 1;
+    }
+    cells
 }
 
 // The bytes of a frame, 16 at most.
@@ -226,6 +266,289 @@ fn act(s: Stack, line: Line) -> Acted
     }
 }
 
+// ---- the acts in place, on a lent row
+
+fn board_in(d: Turn) -> u32
+    ensures { λ r. ⌜ r ≡ boardIn d ⌝ }
+{
+    let line = d.line;
+    line.numbers[0]
+}
+
+fn readings_in(d: Turn) -> Readings
+    ensures { λ r. ⌜ r ≡ readingsIn d ⌝ }
+{
+    let line = d.line;
+    let numbers = line.numbers;
+    readings_of(numbers, line.minus)
+}
+
+fn cells_in(d: Turn) -> [u32; 16]
+    ensures { λ r. ⌜ r ≡ cellsIn d ⌝ }
+{
+    let numbers = d.line.numbers;
+    cells_of(numbers)
+}
+
+fn cell_count_in(d: Turn) -> usize
+    ensures { λ r. ⌜ r ≡ cellCountIn d ⌝ }
+{
+    cell_count(d.line.count)
+}
+
+fn sample_row(row: &mut [Board], d: Turn) -> Told
+    ensures { λ r. ⌜ (r ≡ sampledTold (now (row .entry)) d) × (now (row .exit) ≡ sampledRow (now (row .entry)) d) ⌝ }
+{
+    let board = board_in(d);
+    let x = readings_in(d);
+    let cells = cells_in(d);
+    let n = cell_count_in(d);
+    let answer = stack::sample_stack(row, board, x, &cells[..n]);
+    sample_told(answer)
+}
+
+fn bytes_in(d: Turn) -> [u8; 16]
+    ensures { λ r. ⌜ r ≡ bytesIn d ⌝ }
+{
+    let numbers = d.line.numbers;
+    bytes_of(numbers)
+}
+
+fn byte_count_in(d: Turn) -> usize
+    ensures { λ r. ⌜ r ≡ byteCountIn d ⌝ }
+{
+    at_most(d.line.count, 16)
+}
+
+// The bench lends four bytes for a reply.
+fn no_bytes() -> [u8; 4]
+    ensures { λ r. ⌜ r ≡ noBytes ⌝ }
+{
+    [0; 4]
+}
+
+fn frame_row(row: &mut [Board], d: Turn) -> Told
+    ensures { λ r. ⌜ (r ≡ framedTold (now (row .entry)) d) × (now (row .exit) ≡ framedRow (now (row .entry)) d) ⌝ }
+{
+    let bytes = bytes_in(d);
+    let n = byte_count_in(d);
+    let mut reply = no_bytes();
+    let answer = stack::frame_stack(row, &bytes[..n], &mut reply);
+    reply_told(answer)
+}
+
+fn read_row(row: &mut [Board], d: Turn) -> Told
+    ensures { λ r. ⌜ (r ≡ viewedTold (now (row .entry)) d) × (now (row .exit) ≡ now (row .entry)) ⌝ }
+{
+    let view = stack::read_stack(row);
+    view_told(view)
+}
+
+fn is_sample(d: Turn) -> bool
+    ensures { λ r. ⌜ r ≡ isSample (d .line .kind) ⌝ }
+{
+    let line = d.line;
+    let kind = line.kind;
+    match kind {
+        Kind::Open => false,
+        Kind::Sample => true,
+        Kind::Frame => false,
+        Kind::Read => false,
+        Kind::Malformed => false,
+    }
+}
+
+fn is_frame(d: Turn) -> bool
+    ensures { λ r. ⌜ r ≡ isFrame (d .line .kind) ⌝ }
+{
+    let line = d.line;
+    let kind = line.kind;
+    match kind {
+        Kind::Open => false,
+        Kind::Sample => false,
+        Kind::Frame => true,
+        Kind::Read => false,
+        Kind::Malformed => false,
+    }
+}
+
+// What is no sample and no frame changes no board, and only a reading is told.
+fn ask_row(row: &mut [Board], d: Turn) -> Told
+    ensures { λ r. ⌜ (r ≡ askedTold (now (row .entry)) d) × (now (row .exit) ≡ askedRow (now (row .entry)) d) ⌝ }
+{
+    if is_frame(d) {
+        return frame_row(row, d);
+    }
+    read_row(row, d)
+}
+
+fn act_row(row: &mut [Board], d: Turn) -> Told
+    ensures { λ r. ⌜ (r ≡ rowTold (now (row .entry)) d) × (now (row .exit) ≡ rowAfter (now (row .entry)) d) ⌝ }
+{
+    if is_sample(d) {
+        return sample_row(row, d);
+    }
+    ask_row(row, d)
+}
+
+// ---- a run of lines in place
+
+fn is_open(kind: Kind) -> bool
+    ensures { λ r. ⌜ r ≡ isOpen kind ⌝ }
+{
+    match kind {
+        Kind::Open => true,
+        Kind::Sample => false,
+        Kind::Frame => false,
+        Kind::Read => false,
+        Kind::Malformed => false,
+    }
+}
+
+fn pace_at(at: usize, wrote: usize, room: usize) -> Pace
+    ensures { λ r. ⌜ r ≡ paceAt at wrote room ⌝ }
+{
+    Pace {
+        at: at,
+        wrote: wrote,
+        room: room,
+        going: true,
+    }
+}
+
+// Whether 32 bytes, the most that a text takes, are no longer free.
+fn tight(p: Pace) -> bool
+    ensures { λ r. ⌜ r ≡ tightAt p ⌝ }
+{
+    if p.room < 32 {
+        return true;
+    }
+    p.room - 32 < p.wrote
+}
+
+fn stop_at(p: Pace) -> Turn
+    ensures { λ r. ⌜ r ≡ stopAt p ⌝ }
+{
+    let mut last = p;
+    last.going = false;
+    let line = Line {
+        kind: Kind::Malformed,
+        minus: false,
+        count: 0,
+        numbers: [0; 100],
+    };
+    Turn {
+        line: line,
+        pace: last,
+    }
+}
+
+// The next line of the block. A run stops where none ends, where out has no room for its text, and in front of an opening, which makes another row.
+fn take_line(p: Pace, block: &[u8]) -> Turn
+    ensures { λ r. ⌜ r ≡ turnOf p (now (block .entry)) ⌝ }
+{
+    if tight(p) {
+        return stop_at(p);
+    }
+    let at = p.at;
+    let end = cutter::line_end(block, at);
+    if block.len() <= end {
+        return stop_at(p);
+    }
+    let line = lines::line_of(&block[at..end]);
+    let kind = line.kind;
+    if is_open(kind) {
+        return stop_at(p);
+    }
+    Turn {
+        line: line,
+        pace: pace_at(end + 1, p.wrote, p.room),
+    }
+}
+
+// A malformed line gets 12.
+fn line_told(kind: Kind, told: Told) -> Told
+    ensures { λ r. ⌜ r ≡ lineTold kind told ⌝ }
+{
+    match kind {
+        Kind::Open => told,
+        Kind::Sample => told,
+        Kind::Frame => told,
+        Kind::Read => told,
+        Kind::Malformed => Told::Refused(12),
+    }
+}
+
+fn put_line(out: &mut [u8], d: Turn, told: Told) -> Pace
+    ensures { λ r. ⌜ (r ≡ paceAfter (now (out .entry)) d told) × (now (out .exit) ≡ outAfter (now (out .entry)) d told) ⌝ }
+{
+    let line = d.line;
+    let kind = line.kind;
+    let mut next = d.pace;
+    if next.going {
+        next.wrote = text::put_told(out, next.wrote, line_told(kind, told));
+    }
+    next
+}
+
+// A line answered: taken from the block, acted on the row, and its text put.
+fn line_in(row: &mut [Board], p: Pace, block: &[u8], out: &mut [u8]) -> Pace
+    ensures { λ r. ⌜ (r ≡ lineDone (now (row .entry)) p (now (block .entry)) (now (out .entry)) .pace) × ((now (row .exit) ≡ lineDone (now (row .entry)) p (now (block .entry)) (now (out .entry)) .row) × (now (out .exit) ≡ lineDone (now (row .entry)) p (now (block .entry)) (now (out .entry)) .out)) ⌝ }
+{
+    let d = take_line(p, block);
+    let told = act_row(row, d);
+    put_line(out, d, told)
+}
+
+fn goes_on(p: Pace) -> bool
+    ensures { λ r. ⌜ r ≡ p .going ⌝ }
+{
+    p.going
+}
+
+fn run_row(row: &mut [Board], p: Pace, block: &[u8], out: &mut [u8]) -> Pace
+    ensures { λ r. ⌜ (r ≡ runDone (now (row .entry)) p (now (block .entry)) (now (out .entry)) .pace) × ((now (row .exit) ≡ runDone (now (row .entry)) p (now (block .entry)) (now (out .entry)) .row) × (now (out .exit) ≡ runDone (now (row .entry)) p (now (block .entry)) (now (out .entry)) .out)) ⌝ }
+{
+    let mut next = p;
+    while goes_on(next) {
+        next = line_in(row, next, block, out);
+    }
+    next
+}
+
+// The first n records are lent as the row.
+fn run_in(boards: [Board; 16], n: usize, p: Pace, block: &[u8], out: &mut [u8]) -> RanRow
+    requires { ⌜ n ≤ 16 ⌝ }
+    ensures { λ r. ⌜ (r ≡ ranIn boards n p (now (block .entry)) (now (out .entry))) × (now (out .exit) ≡ ranInOut boards n p (now (block .entry)) (now (out .entry))) ⌝ }
+{
+    let mut row = boards;
+    let pace = run_row(&mut row[..n], p, block, out);
+    RanRow {
+        boards: row,
+        pace: pace,
+    }
+}
+
+// A run on a stack, from a line on that has no kept beginning.
+fn run_lines(s: Stack, p: Pace, block: &[u8], out: &mut [u8]) -> Ran
+    ensures { λ r. ⌜ (r ≡ ranOf s p (now (block .entry)) (now (out .entry))) × (now (out .exit) ≡ ranOut s p (now (block .entry)) (now (out .entry))) ⌝ }
+{
+    let n = s.count;
+    if 16 < n {
+        return Ran { stack: s, pace: p };
+    }
+    let boards = s.boards;
+    let r = run_in(boards, n, p, block, out);
+    let after = r.boards;
+    let pace = r.pace;
+    let mut next = s;
+    next.boards = after;
+    Ran {
+        stack: next,
+        pace: pace,
+    }
+}
+
 // ---- lines out of blocks
 
 // The line that is kept.
@@ -248,6 +571,7 @@ fn whole_line(c: Cutter, s: &[u8]) -> Line
 }
 
 // The lines that end in the block are answered one after the other, until it is used up or out has no room for one more text.
+// The first line, which may have a kept beginning, and every opening are answered by value, and the run of lines behind each in place.
 pub fn feed(cutter: Cutter, stack: Stack, block: &[u8], out: &mut [u8]) -> Fed
     ensures { λ r. ⌜ Run cutter stack (now (block .entry)) (now (out .entry)) (now (out .exit)) r ⌝ }
 {
@@ -277,10 +601,13 @@ pub fn feed(cutter: Cutter, stack: Stack, block: &[u8], out: &mut [u8]) -> Fed
         let acted = act(s, whole_line(c, &block[at..end]));
         let told = acted.told;
         let next = acted.stack;
-        wrote = text::put_told(out, wrote, told);
-        s = next;
+        let put = text::put_told(out, wrote, told);
         c = cutter::emptied(c);
-        at = end + 1;
+        let ran = run_lines(next, pace_at(end + 1, put, out.len()), block, out);
+        let after = ran.stack;
+        s = after;
+        at = ran.pace.at;
+        wrote = ran.pace.wrote;
     }
     Fed {
         cutter: c,
