@@ -10,6 +10,7 @@ use lib.Seq.{take-all, take-take}
 use borrow.Author.Tests.{ltb-true, ltb-false}
 use borrow.Table.Steps.{cases}
 use Rattle.cutter.specs.Lines.{ended, left, lastLine, linesOf}
+use Rattle.cutter.proofs.Pieces.{ended-none, left-none, ended-byte, left-byte}
 use Rattle.cutter.specs.Kept.{most, clip, endedIn, leftIn}
 use Rattle.cutter.proofs.Blocks.{ended-append, left-append}
 
@@ -41,14 +42,14 @@ more-alike : (p q s : List ℕ) → clip p ≡ clip q → clip (p ++ s) ≡ clip
 more-alike p q s e = sym (clip-append p s) ∙ ap (λ (l : List ℕ). clip (l ++ s)) e ∙ clip-append q s
 
 pub left-alike : (p q s : List ℕ) → clip p ≡ clip q → clip (left p s) ≡ clip (left q s)
-unfolding left
-left-alike p q [] e = e
+left-alike p q [] e = rw (left-none p, left-none q) e
 left-alike p q (b ∷ s) e =
-    cases (eqb b 10) (λ t. rw t) λ t. rw t (left-alike (p ++ (b ∷ [])) (q ++ (b ∷ [])) s (more-alike p q (b ∷ []) e))
+    rw (left-byte p b s, left-byte q b s)
+    (cases (eqb b 10) (λ t. rw t) λ t. rw t (left-alike (p ++ (b ∷ [])) (q ++ (b ∷ [])) s (more-alike p q (b ∷ []) e)))
 
 pub left-flatten : (p q : List ℕ) (parts : List (List ℕ)) → clip p ≡ clip q → clip (leftIn p parts) ≡ clip (left q (flatten parts))
-unfolding left leftIn flatten
-left-flatten p q [] e = e
+unfolding leftIn flatten
+left-flatten p q [] e = rw (left-none q) e
 left-flatten p q (s ∷ parts) e =
     left-flatten (clip (left p s)) (left q s) parts (clip-clip (left p s) ∙ left-alike p q s e) ∙ ap clip (sym (left-append q s (flatten parts)))
 
@@ -63,11 +64,11 @@ module _ {A : Type 0} (read : List ℕ → A) (over : (p q : List ℕ) → 200 <
   read-alike p q e = sym (read-clip p) ∙ ap read e ∙ read-clip q
 
   pub ended-alike : (p q s : List ℕ) → clip p ≡ clip q → map read (ended p s) ≡ map read (ended q s)
-  unfolding ended
-  ended-alike p q [] e = refl
+  ended-alike p q [] e = rw (ended-none p, ended-none q)
   ended-alike p q (b ∷ s) e =
-      cases (eqb b 10) (λ t. rw (t, read-alike p q e))
-      λ t. rw t (ended-alike (p ++ (b ∷ [])) (q ++ (b ∷ [])) s (more-alike p q (b ∷ []) e))
+      rw (ended-byte p b s, ended-byte q b s)
+      (cases (eqb b 10) (λ t. rw (t, read-alike p q e))
+      λ t. rw t (ended-alike (p ++ (b ∷ [])) (q ++ (b ∷ [])) s (more-alike p q (b ∷ []) e)))
 
   last-alike : (p q : List ℕ) → clip p ≡ clip q → map read (lastLine p) ≡ map read (lastLine q)
   unfolding clip lastLine
@@ -77,8 +78,8 @@ module _ {A : Type 0} (read : List ℕ → A) (over : (p q : List ℕ) → 200 <
   last-alike (b ∷ p) (d ∷ q) e = ap (λ (a : A). a ∷ []) (read-alike (b ∷ p) (d ∷ q) e)
 
   ended-flatten : (p q : List ℕ) (parts : List (List ℕ)) → clip p ≡ clip q → map read (endedIn p parts) ≡ map read (ended q (flatten parts))
-  unfolding ended endedIn flatten
-  ended-flatten p q [] e = refl
+  unfolding endedIn flatten
+  ended-flatten p q [] e = rw (ended-none q)
   ended-flatten p q (s ∷ parts) e =
       rw (map-append read (ended p s) (endedIn (clip (left p s)) parts), ended-append q s (flatten parts), map-append read (ended q s) (ended (left q s) (flatten parts)), ended-alike p q s e, ended-flatten (clip (left p s)) (left q s) parts (clip-clip (left p s) ∙ left-alike p q s e))
 

@@ -11,47 +11,49 @@ use lib.ListN.{length, getD, take, drop, length-drop, drop-of-length-le, take-ap
 use lib.Seq.{take-all, take-add, drop-cons}
 use borrow.Author.Tests.{eqb-true, lt-ltb}
 use borrow.Table.Steps.{cases}
-use Rattle.cutter.specs.Lines.{ended, left, lastLine, upTo}
+use Rattle.cutter.specs.Lines.{before, ended, left, lastLine, upTo}
+use Rattle.cutter.proofs.Pieces.{ended-none, left-none, ended-byte, left-byte, ended-newline, left-newline}
 use Rattle.cutter.proofs.Blocks.{ended-append, left-append}
 
 -- ---- a turn of the search, and its end
 
 pub end-at : (s : List ℕ) (i : ℕ) → i < length s → upTo (drop i s) ≡ cond (eqb (getD s i 0) 10) [] (getD s i 0 ∷ upTo (drop (i + 1) s))
-unfolding upTo
+unfolding before
 end-at s i h = rw (drop-cons s i 0 h, add-one i)
 
 pub end-none : (s : List ℕ) (i : ℕ) → length s ≤ i → upTo (drop i s) ≡ []
-unfolding upTo
+unfolding before
 end-none s i h = rw (drop-of-length-le s h)
 
 -- ---- the bytes before the first newline
 
 line-take : (t : List ℕ) → take (length (upTo t)) t ≡ upTo t
-unfolding upTo
+unfolding before
 line-take [] = refl
 line-take (b ∷ t) = cases (eqb b 10) (λ e. rw e) λ e. rw e (ap (λ (l : List ℕ). b ∷ l) (line-take t))
 
 line-le : (t : List ℕ) → length (upTo t) ≤ length t
-unfolding upTo
+unfolding before
 line-le [] = omega arith
 line-le (b ∷ t) = cases (eqb b 10) (λ e. rw e (omega arith)) λ e. rw e (omega (arith, line-le t))
 
 -- no line ends in them
 ended-free : (p t : List ℕ) → ended p (upTo t) ≡ []
-unfolding ended upTo
-ended-free p [] = refl
-ended-free p (b ∷ t) = cases (eqb b 10) (λ e. rw e) λ e. rw (e, e) (ended-free (p ++ (b ∷ [])) t)
+unfolding before
+ended-free p [] = ended-none p
+ended-free p (b ∷ t) =
+    cases (eqb b 10) (λ e. rw (e, ended-none p)) λ e. rw (e, ended-byte p b (upTo t), e) (ended-free (p ++ (b ∷ [])) t)
 
 left-free : (p t : List ℕ) → left p (upTo t) ≡ p ++ upTo t
-unfolding left upTo
-left-free p [] = sym (append-nil p)
+unfolding before
+left-free p [] = left-none p ∙ sym (append-nil p)
 left-free p (b ∷ t) =
-    cases (eqb b 10) (λ e. rw (e, append-nil p))
-    λ e. rw (e, e) (left-free (p ++ (b ∷ [])) t ∙ append-assoc p (b ∷ []) (upTo t))
+    cases (eqb b 10) (λ e. rw (e, left-none p, append-nil p))
+    λ e. rw (e, left-byte p b (upTo t), e) (left-free (p ++ (b ∷ [])) t ∙ append-assoc p (b ∷ []) (upTo t))
 
 -- and what follows them is a newline
 newline-next : (t : List ℕ) → length (upTo t) < length t → take (length (upTo t) + 1) t ≡ upTo t ++ (10 ∷ [])
-unfolding upTo
+unfolding before
 newline-next [] h = absurd (omega arith)
 newline-next (b ∷ t) h =
     cases (eqb b 10) (λ e. rw (e, eqb-true b 10 e))
@@ -69,7 +71,7 @@ module _ (h s : List ℕ) (at e : ℕ) (end : e ≡ at + length (upTo (drop at s
   pub end-within : at ≤ length s → e ≤ length s
   end-within l = let few = rw (length-drop at s) at (line-le (drop at s)) in omega arith
 
-  line-part : part at e s ≡ upTo (drop at s)
+  pub line-part : part at e s ≡ upTo (drop at s)
   line-part = let len : e - at ≡ length (upTo (drop at s)) = omega arith in rw len (line-take (drop at s))
 
   -- with its newline it makes one line more, and nothing is left
@@ -79,13 +81,11 @@ module _ (h s : List ℕ) (at e : ℕ) (end : e ≡ at + length (upTo (drop at s
       rw (line-part, sum, take-add at (length (upTo (drop at s)) + 1) s, newline-next (drop at s) (rw (length-drop at s) (omega arith)))
 
   pub ended-line : e < length s → ended h (take (e + 1) s) ≡ ended h (take at s) ++ ((left h (take at s) ++ part at e s) ∷ [])
-  unfolding ended
   ended-line l =
-      rw (to-newline l, line-part, ended-append h (take at s) (upTo (drop at s) ++ (10 ∷ [])), ended-append (left h (take at s)) (upTo (drop at s)) (10 ∷ []), ended-free (left h (take at s)) (drop at s), left-free (left h (take at s)) (drop at s))
+      rw (to-newline l, line-part, ended-append h (take at s) (upTo (drop at s) ++ (10 ∷ [])), ended-append (left h (take at s)) (upTo (drop at s)) (10 ∷ []), ended-free (left h (take at s)) (drop at s), left-free (left h (take at s)) (drop at s), ended-newline)
 
   pub left-line : e < length s → left h (take (e + 1) s) ≡ []
-  unfolding left
-  left-line l = rw (to-newline l, left-append h (take at s) (part at e s ++ (10 ∷ [])), left-append (left h (take at s)) (part at e s) (10 ∷ []))
+  left-line l = rw (to-newline l, left-append h (take at s) (part at e s ++ (10 ∷ [])), left-append (left h (take at s)) (part at e s) (10 ∷ []), left-newline)
 
   -- without one the rest of the block makes no line, and is left
   to-rest : length s ≤ e → part at (length s) s ≡ drop at s

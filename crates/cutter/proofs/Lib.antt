@@ -1,3 +1,4 @@
+pub mod Pieces
 pub mod Blocks
 pub mod Clips
 pub mod Keeping

@@ -57,6 +57,7 @@ use Rattle.reading.proofs.read_all.Reads as reading-read-all
 use Rattle.stack.proofs.open_stack.Reads as stack-open-stack
 use Rattle.held.proofs.sample_held.Reads as held-sample-held
 use Rattle.held.proofs.read_held.Reads as held-read-held
+use Rattle.lines.proofs.line_at.Reads as lines-line-at
 use Rattle.lines.proofs.line_of.Reads as lines-line-of
 use Rattle.cutter.proofs.new_cutter.Reads as cutter-new-cutter
 use Rattle.cutter.proofs.emptied.Reads as cutter-emptied
@@ -215,6 +216,9 @@ pub held-read-held-one : (κs : _) (a : _) (r t : _) (s u : _) → held-read-hel
 held-read-held-one κs a r t s u = agree
 
 -- ---- lines
+pub lines-line-at-one : (κs : _) (a : _) (r t : _) (s u : _) → lines-line-at.Learnt κs a r s → lines-line-at.Learnt κs a t u → r ≡ t
+lines-line-at-one κs a r t s u = agree
+
 pub lines-line-of-one : (κs : _) (a : _) (r t : _) (s u : _) → lines-line-of.Learnt κs a r s → lines-line-of.Learnt κs a t u → r ≡ t
 lines-line-of-one κs a r t s u = agree
 

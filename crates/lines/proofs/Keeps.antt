@@ -5,8 +5,8 @@ use native.Mathlib.Omega.{arith}
 use mathlib.Core.Path.{_≡_, refl, sym}
 use mathlib.Core.Bool.{Bool, true, false, true≢false, _&&_}
 use mathlib.Core.List.{List, [], _∷_, map}
-use lib.Dec.{eqb, ltb, leb}
-use lib.ListN.{length, getD, drop, set, replicate}
+use lib.Dec.{leb}
+use lib.ListN.{length, getD, set, replicate}
 use lib.Seq.{sets, length-sets}
 use borrow.Author.Tests.{eqb-true, leb-true}
 use Rattle.lists.specs.Every.{every}
@@ -15,28 +15,17 @@ use Rattle.lines.specs.declared.Kind.{Kind}
 use Rattle.lines.specs.declared.Kind.the-variants.{Open, Sample, Frame, Read, Malformed}
 use Rattle.lines.specs.declared.Rules.{Rules}
 use Rattle.lines.specs.declared.Line.{Line}
-use Rattle.lines.specs.Line.{digit, begun, value, isNumber, minus, bare, size, isField, kindOf, rulesOf, areFields, fits, anyMinus, blank, lineWith, malformed, shaped, words, wordsLine, lineOf}
+use Rattle.lines.specs.Line.{words, isDigit, startsWell, isNumber, negative, unsigned, sizeOf, isField, kindOf, rulesOf, isShunt, allFields, obeys, anyNegative, blank, lineWith, malformed, said, wordsSay, lineOf}
 use Rattle.lines.proofs.Fields.{row-limits}
 
 -- ---- no number is over the largest of its kind
 
-number-small : (largest : ℕ) (w : List ℕ) → isNumber largest w ≡ true → value w ≤ largest
-unfolding isNumber
-number-small largest w e =
-    let worth = both (begun w) (every digit w && leb (value w) largest) e .1 in
-    leb-true (value w) largest (both (every digit w) (leb (value w) largest) worth .1)
-
-bare-plain : (w : List ℕ) → minus w ≡ false → bare w ≡ w
-unfolding minus bare
-bare-plain [] e = refl
-bare-plain (b ∷ w) e = rw e
-
-field-small : (largest : ℕ) (signed : Bool) (w : List ℕ) → isField largest signed w ≡ true → size w ≤ largest
-unfolding isField
+field-small : (largest : ℕ) (signed : Bool) (w : List ℕ) → isField largest signed w ≡ true → sizeOf w ≤ largest
+unfolding isField isNumber
 field-small largest signed w e =
-    split (minus w)
-    (λ t. number-small largest (bare w) (both (isNumber largest (bare w)) _ (both signed _ (rw t at e) .1) .0))
-    (λ t. rw (bare-plain w t) (number-small largest w (rw t at e)))
+    let number = both (isNumber largest (unsigned w)) _ e .0 in
+    let few = both (startsWell (unsigned w)) (every isDigit (unsigned w) && leb (sizeOf w) largest) number .1 in
+    leb-true (sizeOf w) largest (both (every isDigit (unsigned w)) (leb (sizeOf w) largest) few .1)
 
 set-small : (most : ℕ) (xs : List ℕ) (n v : ℕ) → ((i : ℕ) → getD xs i 0 ≤ most) → v ≤ most → (i : ℕ) → getD (set xs n v) i 0 ≤ most
 set-small most [] n v f h i = f i
@@ -45,13 +34,13 @@ set-small most (x ∷ xs) zero v f h (suc i) = f (suc i)
 set-small most (x ∷ xs) (suc n) v f h zero = f zero
 set-small most (x ∷ xs) (suc n) v f h (suc i) = set-small most xs n v (λ j. f (suc j)) h i
 
-fields-small : (r : Rules) (n at : ℕ) (ws : List (List ℕ)) (xs : List ℕ) → areFields r n ws ≡ true → ((i : ℕ) → getD xs i 0 ≤ r .largest)
-    → (i : ℕ) → getD (sets xs at (map size ws)) i 0 ≤ r .largest
-unfolding areFields
+fields-small : (r : Rules) (n at : ℕ) (ws : List (List ℕ)) (xs : List ℕ) → allFields r n ws ≡ true → ((i : ℕ) → getD xs i 0 ≤ r .largest)
+    → (i : ℕ) → getD (sets xs at (map sizeOf ws)) i 0 ≤ r .largest
+unfolding allFields
 fields-small r n at [] xs e f = f
 fields-small r n at (w ∷ ws) xs e f =
-    let parts = both (isField (r .largest) (eqb n (r .signed)) w) (areFields r (n + 1) ws) e in
-    fields-small r (n + 1) (suc at) ws (set xs at (size w)) (parts .1) (set-small (r .largest) xs at (size w) f (field-small _ _ w (parts .0)))
+    let parts = both (isField (r .largest) (isShunt r n) w) (allFields r (n + 1) ws) e in
+    fields-small r (n + 1) (suc at) ws (set xs at (sizeOf w)) (parts .1) (set-small (r .largest) xs at (sizeOf w) f (field-small _ _ w (parts .0)))
 
 zeros-small : (n most i : ℕ) → getD (replicate n 0) i 0 ≤ most
 zeros-small zero most i = omega arith
@@ -60,16 +49,16 @@ zeros-small (suc n) most (suc i) = zeros-small n most i
 
 -- ---- a minus sign stands only in the signed place, which only a sample has
 
-sign-place : (r : Rules) (n : ℕ) (ws : List (List ℕ)) → areFields r n ws ≡ true → anyMinus ws ≡ true → r .signed < n + length ws
-unfolding areFields anyMinus isField
-sign-place r n [] e m = absurd (true≢false (sym m))
-sign-place r n (w ∷ ws) e m =
-    let parts = both (isField (r .largest) (eqb n (r .signed)) w) (areFields r (n + 1) ws) e in
-    split (minus w)
-    (λ t. omega (arith, eqb-true n (r .signed) (both (eqb n (r .signed)) _ (rw t at (parts .0)) .0)))
-    (λ t. omega (arith, sign-place r (n + 1) ws (parts .1) (rw t at m)))
+sign-head : (r : Rules) (n : ℕ) (ws : List (List ℕ)) → allFields r n ws ≡ true → anyNegative ws ≡ true → 1 ≤ r .head
+unfolding allFields anyNegative isField
+sign-head r n [] e m = absurd (true≢false (sym m))
+sign-head r n (w ∷ ws) e m =
+    let parts = both (isField (r .largest) (isShunt r n) w) (allFields r (n + 1) ws) e in
+    split (negative w)
+    (λ t. omega (arith, eqb-true (n + 1) (r .head) (both (isShunt r n) _ (rw t at (both (isNumber (r .largest) (unsigned w)) _ (parts .0) .1)) .0)))
+    (λ t. sign-head r (n + 1) ws (parts .1) (rw t at m))
 
-sign-kind : (k : Kind) → rulesOf k .signed < rulesOf k .most → k ≡ Sample
+sign-kind : (k : Kind) → 1 ≤ rulesOf k .head → k ≡ Sample
 sign-kind Open h = absurd (omega arith)
 sign-kind Sample h = refl
 sign-kind Frame h = absurd (omega arith)
@@ -79,37 +68,43 @@ sign-kind Malformed h = absurd (omega arith)
 -- ---- every line
 
 pub record Keeps (l : Line) : Type 0 where
-  pub fewest : rulesOf (l .kind) .fewest ≤ l .count
+  pub fewest : rulesOf (l .kind) .head ≤ l .count
   pub most : l .count ≤ rulesOf (l .kind) .most
   pub largest : (i : ℕ) → getD (l .numbers) i 0 ≤ rulesOf (l .kind) .largest
-  pub places : length (l .numbers) ≡ 100
+  pub places : length (l .numbers) ≡ 21
   pub signed : l .minus ≡ true → l .kind ≡ Sample
 
-kept : (k : Kind) (ws : List (List ℕ)) → fits (rulesOf k) ws ≡ true → Keeps (lineWith k ws)
-unfolding fits blank
+kept : (k : Kind) (ws : List (List ℕ)) → obeys (rulesOf k) ws ≡ true → Keeps (lineWith k ws)
+unfolding obeys blank
 kept k ws e =
     let r = rulesOf k in
-    let parts = both (areFields r 0 ws) (leb (r .fewest) (length ws) && leb (length ws) (r .most)) e in
-    let counts = both (leb (r .fewest) (length ws)) (leb (length ws) (r .most)) (parts .1) in
-    let many = leb-true (length ws) (r .most) (counts .1) in
+    let parts = both (leb (r .head) (length ws)) (leb (length ws) (r .most) && allFields r 0 ws) e in
+    let rest = both (leb (length ws) (r .most)) (allFields r 0 ws) (parts .1) in
     record {
-      fewest = leb-true (r .fewest) (length ws) (counts .0);
-      most = many;
-      largest = fields-small r 0 0 ws (replicate 100 0) (parts .0) (zeros-small 100 (r .largest));
-      places = length-sets (replicate 100 0) 0 (map size ws);
-      signed = λ m. sign-kind k (omega (arith, sign-place r 0 ws (parts .0) m));
+      fewest = leb-true (r .head) (length ws) (parts .0);
+      most = leb-true (length ws) (r .most) (rest .0);
+      largest = fields-small r 0 0 ws (replicate 21 0) (rest .1) (zeros-small 21 (r .largest));
+      places = length-sets (replicate 21 0) 0 (map sizeOf ws);
+      signed = λ m. sign-kind k (sign-head r 0 ws (rest .1) m);
     }
 
 -- a malformed line keeps the last row
+said-keeps : (k : Kind) (ws : List (List ℕ)) → Keeps (said k ws)
+unfolding said malformed obeys allFields
+said-keeps k ws = split (obeys (rulesOf k) ws) (λ t. rw t (kept k ws t)) (λ t. rw t (kept Malformed [] refl))
+
+malformed-keeps : Keeps malformed
+unfolding malformed obeys allFields
+malformed-keeps = kept Malformed [] refl
+
+words-keep : (ws : List (List ℕ)) → Keeps (wordsSay ws)
+unfolding wordsSay
+words-keep [] = malformed-keeps
+words-keep (w ∷ ws) = said-keeps (kindOf w) ws
+
 pub keeps : (s : List ℕ) → Keeps (lineOf s)
-unfolding lineOf wordsLine shaped malformed fits areFields
-keeps s =
-    let k = kindOf (getD (words s) 0 []) in
-    let ws = drop 1 (words s) in
-    let bad : Keeps (lineWith Malformed []) = kept Malformed [] refl in
-    split (ltb 200 (length s))
-    (λ t. rw t bad)
-    (λ t. rw t (split (fits (rulesOf k) ws) (λ u. rw u (kept k ws u)) (λ u. rw u bad)))
+unfolding lineOf
+keeps s = split (leb (length s) 200) (λ t. rw t (words-keep (words s))) (λ t. rw t malformed-keeps)
 
 module _ (s : List ℕ) where
   -- the five fields in front of the cells, and at most 16 of these
@@ -130,8 +125,5 @@ module _ (s : List ℕ) where
   minus-sample = keeps s .signed
 
   -- of every kind
-  pub count-places : lineOf s .count ≤ length (lineOf s .numbers)
-  count-places = rw (keeps s .places) (omega (arith, keeps s .most, row-limits (lineOf s .kind)))
-
   pub number-size : (i : ℕ) → getD (lineOf s .numbers) i 0 ≤ 2147483647
   number-size i = omega (arith, keeps s .largest i, row-limits (lineOf s .kind))

@@ -11,7 +11,8 @@ use Rattle.lists.specs.Every.{every}
 use Rattle.lines.specs.declared.Kind.{Kind}
 use Rattle.lines.specs.declared.Kind.the-variants.{Open, Sample, Frame, Read, Malformed}
 use Rattle.lines.specs.declared.Line.{Line}
-use Rattle.lines.specs.Line.{words, begun, valueFrom, isNumber, minus, bare, isField, letter, kindOf, areFields, fits, anyMinus, blank, malformed, shaped, wordsLine, lineOf}
+use Rattle.cutter.specs.Lines.{pieces}
+use Rattle.lines.specs.Line.{worth, startsWell, isNumber, negative, unsigned, isField, letter, kindOf, allFields, obeys, anyNegative, blank, malformed, said, wordsSay, lineOf}
 
 -- the bytes of what is typed, and the same n times over
 abbrev typed : String → List ℕ
@@ -28,8 +29,8 @@ pub record Says : Type 0 where
   pub minus : Bool
   pub numbers : List ℕ
 
-abbrev pub said : Line → Says
-said l = record { kind = l .kind; minus = l .minus; numbers = take (l .count) (l .numbers) }
+abbrev pub heard : Line → Says
+heard l = record { kind = l .kind; minus = l .minus; numbers = take (l .count) (l .numbers) }
 
 -- a line, and what it says
 pub record Edge : Type 0 where
@@ -58,8 +59,8 @@ edges =
     ∷ bad (typed "O 05")
     ∷ is (typed "O 2147483647") Open (2147483647 ∷ [])
     ∷ bad (typed "O 2147483648")
-    -- 200 bytes, and 201
-    ∷ is (typed "O 10" ++ times 98 " 5") Open (10 ∷ replicate 98 5)
+    -- 200 bytes, of whose 99 numbers 21 are kept, and 201
+    ∷ is (typed "O 10" ++ times 98 " 5") Open (10 ∷ replicate 20 5)
     ∷ bad (typed "O" ++ times 100 " 5")
     ∷ charging (typed "S 1 1 0 0 -1 5") (1 ∷ 1 ∷ 0 ∷ 0 ∷ 1 ∷ 5 ∷ [])
     ∷ bad (typed "S 1 1 0 0 -0 5")
@@ -73,6 +74,6 @@ edges =
     ∷ bad (typed "F" ++ times 17 " 5")
     ∷ []
 
-pub edges-right : map (λ e. said (lineOf (e .line))) edges ≡ map (λ e. e .says) edges
-unfolding words begun valueFrom isNumber minus bare isField letter kindOf areFields fits anyMinus blank malformed shaped wordsLine lineOf every
+pub edges-right : map (λ e. heard (lineOf (e .line))) edges ≡ map (λ e. e .says) edges
+unfolding pieces worth startsWell isNumber negative unsigned isField letter kindOf allFields obeys anyNegative blank malformed said wordsSay lineOf every
 edges-right = refl

@@ -1,8 +1,9 @@
 // A line of the bench: its bytes taken apart into a letter and numbers, or malformed (01, The bench program).
 ghost use mathlib.Core.Path.{_≡_};
-ghost use lib.ListN.{getD, drop};
-ghost use Rattle.lines.specs.Line.{letter, rulesOf, begun, blank, malformed, words, wordsLine, lineOf};
-ghost use Rattle.lines.specs.Field.{word, numberAt, fieldAt};
+ghost use Prim.Native.Nat.{_≤_, _-_};
+ghost use lib.ListN.{getD};
+ghost use Rattle.lines.specs.Line.{isDigit, letter, rulesOf, blank, malformed, lineOf};
+ghost use Rattle.lines.specs.Field.{isEnd, wordAt, numberAt, fieldAt, digitsFrom, Told, foundAt};
 
 pub enum Kind {
     Open,
@@ -12,20 +13,25 @@ pub enum Kind {
     Malformed,
 }
 
-// What may follow a letter: how few numbers, how many, how large, and the place of the one that may be negative.
+// What follows a letter: how many fields must stand, how many may, and how large their numbers may be.
 struct Rules {
-    fewest: usize,
+    head: usize,
     most: usize,
     largest: u32,
-    signed: usize,
 }
 
-// As many numbers as count says, with zeros behind them; minus says that the shunt is negative.
+// As many numbers as count says, the first 21 of them kept, with zeros behind them; minus says that the shunt is negative.
 pub struct Line {
     pub kind: Kind,
     pub minus: bool,
     pub count: usize,
-    pub numbers: [u32; 100],
+    pub numbers: [u32; 21],
+}
+
+// A line, and the place where it ends: that of its newline, or the end of the bytes.
+pub struct Found {
+    pub line: Line,
+    pub end: usize,
 }
 
 // A number with or without its minus sign, and the place behind it.
@@ -51,105 +57,121 @@ fn kind_of(b: u8) -> Kind
 fn rules_of(k: Kind) -> Rules
     ensures { λ r. ⌜ r ≡ rulesOf k ⌝ }
 {
+    let largest = 2147483647;
     match k {
         Kind::Open => Rules {
-            fewest: 0,
+            head: 0,
             most: 100,
-            largest: 2147483647,
-            signed: 100,
+            largest: largest,
         },
         Kind::Sample => Rules {
-            fewest: 5,
+            head: 5,
             most: 21,
-            largest: 2147483647,
-            signed: 4,
+            largest: largest,
         },
         Kind::Frame => Rules {
-            fewest: 0,
+            head: 0,
             most: 16,
             largest: 255,
-            signed: 100,
         },
         Kind::Read => Rules {
-            fewest: 0,
+            head: 0,
             most: 0,
-            largest: 0,
-            signed: 100,
+            largest: largest,
         },
         Kind::Malformed => Rules {
-            fewest: 0,
+            head: 0,
             most: 0,
-            largest: 0,
-            signed: 100,
+            largest: largest,
         },
     }
 }
 
-// The byte at a place; behind the last one a space, since the end of the line ends a word too.
+// ---- bytes
+
+// The byte at a place; behind the last one a newline, since the end of the bytes ends a line too.
 fn byte_at(s: &[u8], at: usize) -> u8
-    ensures { λ r. ⌜ r ≡ getD (now (s .entry)) at 32 ⌝ }
+    ensures { λ r. ⌜ r ≡ getD (now (s .entry)) at 10 ⌝ }
 {
     if at < s.len() {
         return s[at];
     }
-    b' '
+    10
 }
 
-// Whether a number can begin here: with a digit other than 0, or with a 0 that is alone in its word.
-fn begins(s: &[u8], at: usize) -> bool
-    ensures { λ r. ⌜ r ≡ begun (word (drop at (now (s .entry)))) ⌝ }
+fn is_digit(b: u8) -> bool
+    ensures { λ r. ⌜ r ≡ isDigit b ⌝ }
 {
-    let first = byte_at(s, at);
-    if first == b' ' {
-        return false;
-    }
-    if first != b'0' {
-        return true;
-    }
-    byte_at(s, at + 1) == b' '
+    (b'0' <= b) & (b <= b'9')
 }
 
-// The number whose digits begin here, read once up to the end of its word.
-fn number_at(s: &[u8], at: usize, largest: u32, minus: bool) -> Field
-    ensures { λ r. ⌜ r ≡ numberAt largest minus at (word (drop at (now (s .entry)))) ⌝ }
+// A space ends a word, and so does the end of the line.
+fn is_end(b: u8) -> bool
+    ensures { λ r. ⌜ r ≡ isEnd b ⌝ }
 {
-    if !begins(s, at) {
-        return Field::Bad;
-    }
+    (b == b' ') | (b == 10)
+}
+
+// ---- fields
+
+// The number whose first digits are worth v: the rest of its word, read once.
+fn digits_from(s: &[u8], at: usize, largest: u32, minus: bool, v: u32) -> Field
+    requires { ⌜ v ≤ largest ⌝ }
+    ensures { λ r. ⌜ r ≡ digitsFrom largest minus at v (wordAt (now (s .entry)) at) ⌝ }
+{
     // ten times the largest number and a digit more still fit
     let top = largest as u64;
-    let mut v: u64 = 0;
+    let mut sum = v as u64;
     let mut i = at;
     loop {
         let b = byte_at(s, i);
-        if b == b' ' {
-            if minus & (v == 0) {
+        if is_digit(b) {
+            let more = sum * 10 + (b - b'0') as u64;
+            if top < more {
                 return Field::Bad;
             }
-            return Field::Good {
-                minus: minus,
-                size: v as u32,
-                next: i,
-            };
-        }
-        if b < b'0' {
+            sum = more;
+            i += 1;
+        } else {
+            if is_end(b) {
+                return Field::Good {
+                    minus: minus,
+                    size: sum as u32,
+                    next: i,
+                };
+            }
             return Field::Bad;
         }
-        if b'9' < b {
-            return Field::Bad;
-        }
-        let w = v * 10 + (b as u64 - 48);
-        if top < w {
-            return Field::Bad;
-        }
-        v = w;
-        i += 1;
     }
+}
+
+// The number that begins here. A 0 is alone in its word, and has no minus sign.
+fn number_at(s: &[u8], at: usize, largest: u32, minus: bool) -> Field
+    requires { ⌜ 9 ≤ largest ⌝ }
+    ensures { λ r. ⌜ r ≡ numberAt largest minus at (wordAt (now (s .entry)) at) ⌝ }
+{
+    let first = byte_at(s, at);
+    if is_digit(first) {
+        if first != b'0' {
+            return digits_from(s, at + 1, largest, minus, (first - b'0') as u32);
+        }
+        let alone = is_end(byte_at(s, at + 1));
+        if minus | !alone {
+            return Field::Bad;
+        }
+        return Field::Good {
+            minus: false,
+            size: 0,
+            next: at + 1,
+        };
+    }
+    Field::Bad
 }
 
 // The field that begins here; a minus sign only where one may stand.
 fn field_at(s: &[u8], at: usize, largest: u32, signed: bool) -> Field
-    ensures { λ r. ⌜ r ≡ fieldAt largest signed at (word (drop at (now (s .entry)))) ⌝ }
+    requires { ⌜ 9 ≤ largest ⌝ }
+    ensures { λ r. ⌜ r ≡ fieldAt largest signed at (wordAt (now (s .entry)) at) ⌝ }
 {
     if byte_at(s, at) != b'-' {
         return number_at(s, at, largest, false);
@@ -160,11 +182,13 @@ fn field_at(s: &[u8], at: usize, largest: u32, signed: bool) -> Field
     Field::Bad
 }
 
+// ---- lines
+
 // The places for the numbers, with none in them.
-fn no_numbers() -> [u32; 100]
+fn no_numbers() -> [u32; 21]
     ensures { λ r. ⌜ r ≡ blank ⌝ }
 {
-    [0; 100]
+    [0; 21]
 }
 
 // A malformed line says nothing else.
@@ -179,56 +203,89 @@ fn malformed_line() -> Line
     }
 }
 
-// The line by its words. Its first byte is the letter; before each turn, at is where a space has to stand.
-fn words_line(s: &[u8]) -> Line
-    ensures { λ r. ⌜ r ≡ wordsLine (words (now (s .entry))) ⌝ }
+// A malformed line, read up to this place.
+fn malformed_at(at: usize) -> Found
+    ensures { λ r. ⌜ r ≡ record { line = malformed; end = at } ⌝ }
 {
-    let kind = kind_of(byte_at(s, 0));
+    Found {
+        line: malformed_line(),
+        end: at,
+    }
+}
+
+// The line by its words: a letter, and behind each space a field, up to the newline.
+fn words_at(s: &[u8], start: usize) -> Found
+    ensures { λ r. ⌜ Told (now (s .entry)) start r ⌝ }
+{
+    let first = byte_at(s, start);
+    if first == 10 {
+        return malformed_at(start);
+    }
+    let kind = kind_of(first);
     let rules = rules_of(kind);
     let mut numbers = no_numbers();
     let mut minus = false;
     let mut n = 0;
-    let mut at = 1;
-    while at < s.len() {
-        if s[at] != b' ' {
-            return malformed_line();
+    let mut at = start + 1;
+    loop {
+        let b = byte_at(s, at);
+        if b != b' ' {
+            if (b != 10) | (n < rules.head) {
+                return malformed_at(at);
+            }
+            return Found {
+                line: Line {
+                    kind: kind,
+                    minus: minus,
+                    count: n,
+                    numbers: numbers,
+                },
+                end: at,
+            };
         }
         if rules.most <= n {
-            return malformed_line();
+            return malformed_at(at);
         }
-        match field_at(s, at + 1, rules.largest, n == rules.signed) {
+        match field_at(s, at + 1, rules.largest, n + 1 == rules.head) {
             Field::Bad => {
-                return malformed_line();
+                return malformed_at(at);
             }
             Field::Good {
                 minus: m,
                 size,
                 next,
             } => {
-                numbers[n] = size;
+                if n < 21 {
+                    numbers[n] = size;
+                }
                 minus = minus | m;
                 n += 1;
                 at = next;
             }
         }
     }
-    if n < rules.fewest {
-        return malformed_line();
-    }
-    Line {
-        kind: kind,
-        minus: minus,
-        count: n,
-        numbers: numbers,
-    }
 }
 
-// What a line says; one of more than 200 bytes is not read at all.
+// The line that begins here; one of more than 200 bytes is malformed, whatever they are.
+pub fn line_at(s: &[u8], at: usize) -> Found
+    ensures { λ r. ⌜ r ≡ foundAt (now (s .entry)) at ⌝ }
+{
+    let mut found = words_at(s, at);
+    let end = cutter::line_end(s, found.end);
+    if 200 < end - at {
+        return malformed_at(end);
+    }
+    found.end = end;
+    found
+}
+
+// What all the bytes say as one line; with a newline among them they are none.
 pub fn line_of(s: &[u8]) -> Line
     ensures { λ r. ⌜ r ≡ lineOf (now (s .entry)) ⌝ }
 {
-    if 200 < s.len() {
+    let found = line_at(s, 0);
+    if found.end < s.len() {
         return malformed_line();
     }
-    words_line(s)
+    found.line
 }

@@ -6,7 +6,7 @@ use mathlib.Core.Path.{_≡_, refl, sym, ap, _∙_}
 use mathlib.Core.List.{List, [], _∷_, _++_, map, append-assoc}
 use lib.ListN.{length, take, length-take}
 use lib.Seq.{take-take, take-length}
-use borrow.Author.Tests.{lt-ltb}
+use borrow.Author.Tests.{lt-leb}
 use Rattle.lines.specs.Line.{lineOf}
 use Rattle.text.specs.Text.{textOf}
 use Rattle.stack.specs.declared.Stack.{Stack}
@@ -18,7 +18,7 @@ use Rattle.session.specs.Session.{stepOf, stackAfter, outputOf}
 -- all lines over 200 bytes are read alike
 pub over-alike : (p q : List ℕ) → 200 < length p → 200 < length q → lineOf p ≡ lineOf q
 unfolding lineOf
-over-alike p q h k = rw (lt-ltb 200 (length p) h, lt-ltb 200 (length q) k)
+over-alike p q h k = rw (lt-leb (length p) 200 h, lt-leb (length q) 200 k)
 
 -- so what is kept of a line is enough to read it
 pub line-clip : (p : List ℕ) → lineOf (clip p) ≡ lineOf p

@@ -16,6 +16,7 @@ use Rattle.cutter.specs.declared.Cutter.{Cutter}
 use Rattle.cutter.specs.Lines.{ended, left, upTo}
 use Rattle.cutter.specs.Kept.{most, clip, held, emptiedOf}
 use Rattle.cutter.proofs.Clips.{clip-append}
+use Rattle.cutter.proofs.Pieces.{ended-none, left-none}
 use Rattle.cutter.proofs.Ends.{part, ended-line, left-line, ended-rest, left-rest}
 use Rattle.cutter.proofs.Keeping.{held-clip}
 use Rattle.session.specs.declared.Acted.{Acted}
@@ -34,9 +35,14 @@ pub record Sofar (c : Cutter) (s : Stack) (block old new : List ℕ) (c′ : Cut
   pub begun : Begun (length old) at wrote
 
 pub fold-none : (c : Cutter) (s : Stack) (old : List ℕ) → length (c .bytes) ≡ most → Fold c s [] old old c s 0
-unfolding ended left stackAfter outputOf
+unfolding stackAfter outputOf
 fold-none c s old long =
-    record { keeps = sym (held-clip c long); stack = refl; text = record { after = refl; whole = refl }; inside = omega arith }
+    record {
+      keeps = rw (left-none (held c)) (sym (held-clip c long));
+      stack = rw (ended-none (held c));
+      text = rw (ended-none (held c)) (record { after = refl; whole = refl });
+      inside = omega arith;
+    }
 
 pub emptied-holds : (c c′ : Cutter) → c′ ≡ emptiedOf c → held c′ ≡ []
 unfolding held emptiedOf

@@ -10,8 +10,9 @@ use lib.Seq.{take-all}
 use Rattle.text.proofs.Puts.{put-take}
 use Rattle.stack.specs.declared.Stack.{Stack}
 use Rattle.cutter.specs.declared.Cutter.{Cutter}
-use Rattle.cutter.specs.Lines.{ended, left, lastLine}
+use Rattle.cutter.specs.Lines.{ended, lastLine}
 use Rattle.cutter.specs.Kept.{clip, held}
+use Rattle.cutter.proofs.Pieces.{ended-none, left-none, ended-newline}
 use Rattle.session.specs.declared.Fed.{Fed}
 use Rattle.session.specs.Session.{stackAfter, outputOf, Run, lacking}
 use Rattle.session.proofs.Alike.{none-held}
@@ -27,7 +28,7 @@ lacking-one (b ∷ p) h = refl
 
 -- nothing is fed where nothing is kept
 pub run-none : (c : Cutter) (s : Stack) (old : List ℕ) → length (held c) ≡ 0 → Run c s (lacking (held c)) old old (record { cutter = c; stack = s; used = 0; wrote = 0 })
-unfolding ended left clip stackAfter outputOf
+unfolding clip stackAfter outputOf
 run-none c s old e =
     rw (lacking-none (held c) e)
     (record {
@@ -35,14 +36,14 @@ run-none c s old e =
       goes = λ room some. some;
       idle = λ short. refl;
       stops = inl refl;
-      fed = record { keeps = rw (none-held (held c) e); stack = refl; text = record { after = refl; whole = refl }; inside = omega arith };
+      fed = record { keeps = rw (none-held (held c) e, left-none []); stack = rw (ended-none (held c)); text = rw (ended-none (held c)) (record { after = refl; whole = refl }); inside = omega arith };
     })
 
 -- the lines that end in what the last line lacks are the last line, if there is one
 pub ended-lacking : (p : List ℕ) → ended p (lacking p) ≡ lastLine p
-unfolding ended lacking lastLine
-ended-lacking [] = refl
-ended-lacking (b ∷ p) = refl
+unfolding lacking lastLine
+ended-lacking [] = ended-none []
+ended-lacking (b ∷ p) = ended-newline (b ∷ p)
 
 lacking-short : (p : List ℕ) → length (lacking p) ≤ 1
 unfolding lacking

@@ -7,3 +7,4 @@ pub mod Runs
 pub mod Lasts
 pub mod Blocks
 pub mod Known
+pub mod Many

@@ -57,7 +57,7 @@ act-row s d h o = by (d .line .kind) refl
     by Malformed e = rw (e, with-same s)
 
 -- ---- the places of the cells are sixteen
-pub sixteen : (numbers : List ℕ) → length numbers ≡ 100 → length (take 16 (drop 5 numbers)) ≡ 16
+pub sixteen : (numbers : List ℕ) → length numbers ≡ 21 → length (take 16 (drop 5 numbers)) ≡ 16
 sixteen numbers e = length-take-le 16 (drop 5 numbers) (rw (length-drop 5 numbers) (omega arith))
 
 -- ---- a stack that the machine holds has sixteen records

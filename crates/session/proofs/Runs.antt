@@ -17,6 +17,7 @@ use Rattle.text.proofs.Puts.{put-same}
 use Rattle.board.specs.declared.Board.{Board}
 use Rattle.stack.specs.declared.Stack.{Stack}
 use Rattle.held.specs.Held.{heldRow, withRow}
+use Rattle.cutter.proofs.Ends.{line-part}
 use Rattle.cutter.specs.declared.Cutter.{Cutter}
 use Rattle.cutter.specs.Kept.{held}
 use Rattle.session.specs.declared.Acted.{Acted}
@@ -129,7 +130,7 @@ module _ (c : Cutter) (s : Stack) (block old : List ℕ) (c′ : Cutter) (s₁ :
     unfolding goOn
     fed h =
         fold-line c s block old (st .pace .at) (st .out) c′ (withRow s₁ (st .row)) (st .pace .wrote) (g .so .fed) (endFrom block (st .pace .at)) refl
-        (lineFrom block (st .pace .at)) acted (sets (st .out) (st .pace .wrote) text) c′ (st .pace .wrote + length text) l (rw none) acts
+        (lineFrom block (st .pace .at)) acted (sets (st .out) (st .pace .wrote) text) c′ (st .pace .wrote + length text) l (rw (none, line-part (held c) block (st .pace .at) (endFrom block (st .pace .at)) refl)) acts
         (record { line = record { after = refl; whole = refl }; inside = λ k. h }) same (omega (arith, room, g .room, same)) none
 
     after-line : Good (after st d) ⊎ Lost (after st d)

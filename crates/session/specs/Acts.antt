@@ -27,7 +27,7 @@ use Rattle.text.specs.declared.Told.{Told}
 use Rattle.text.specs.declared.Told.the-variants as told
 use Rattle.session.specs.declared.Acted.{Acted}
 
--- a line has its numbers in front of a list of 100, with zeros behind them; number i, from 0
+-- a line has its first 21 numbers, with zeros behind them; number i, from 0
 abbrev pub numberAt : List ℕ → ℕ → ℕ
 numberAt numbers i = getD numbers i 0
 
@@ -56,8 +56,9 @@ abbrev pub cellsOf : List ℕ → ℕ → List ℕ
 cellsOf numbers count = take (cellCount count) (drop 5 numbers)
 
 -- ---- O with cell counts, F with bytes
+-- an opening of more than 21 counts is refused for being of more than 16 (the law many-refused), whatever they are
 abbrev pub countsOf : List ℕ → ℕ → List ℕ
-countsOf numbers count = take (min count 100) numbers
+countsOf numbers count = take (min count 21) numbers
 
 -- 16 bytes, of which a frame has as many as the line has numbers; none is over 255
 unfoldable pub bytesOf : List ℕ → List ℕ

@@ -116,7 +116,7 @@ tightAt p = ltb (p .room) (p .wrote + 32)
 unfoldable pub stopAt : Pace → Turn
 stopAt p =
     record {
-      line = record { kind = Malformed; minus = false; count = 0; numbers = replicate 100 0 };
+      line = record { kind = Malformed; minus = false; count = 0; numbers = replicate 21 0 };
       pace = record { at = p .at; wrote = p .wrote; room = p .room; going = false };
     }
 
@@ -125,7 +125,7 @@ abbrev pub endFrom : List ℕ → ℕ → ℕ
 endFrom block at = at + length (upTo (drop at block))
 
 abbrev pub lineFrom : List ℕ → ℕ → Line
-lineFrom block at = lineOf (take (endFrom block at - at) (drop at block))
+lineFrom block at = lineOf (upTo (drop at block))
 
 -- the run goes on behind that newline
 unfoldable pub goOn : Pace → List ℕ → Turn

@@ -84,7 +84,7 @@ fn shunt_of(minus: bool, size: u32) -> i32
     if minus { 0 - top } else { top }
 }
 
-fn readings_of(numbers: [u32; 100], minus: bool) -> Readings
+fn readings_of(numbers: [u32; 21], minus: bool) -> Readings
     ensures { λ r. ⌜ r ≡ readingsOf numbers minus ⌝ }
 {
     Readings {
@@ -106,7 +106,7 @@ fn cell_count(count: usize) -> usize
 }
 
 // The places of the cells, 16 at most.
-fn cells_of(numbers: [u32; 100]) -> [u32; 16]
+fn cells_of(numbers: [u32; 21]) -> [u32; 16]
     ensures { λ r. ⌜ r ≡ cellPlaces numbers ⌝ }
 {
     let mut cells = [0; 16];
@@ -119,7 +119,7 @@ fn cells_of(numbers: [u32; 100]) -> [u32; 16]
 }
 
 // The bytes of a frame, 16 at most.
-fn bytes_of(numbers: [u32; 100]) -> [u8; 16]
+fn bytes_of(numbers: [u32; 21]) -> [u8; 16]
     ensures { λ r. ⌜ r ≡ bytesOf numbers ⌝ }
 {
     let mut bytes = [0; 16];
@@ -190,10 +190,10 @@ fn view_told(v: View) -> Told
 // ---- the acts
 
 // A good opening replaces the stack, a refused one leaves it.
-fn open_line(s: Stack, numbers: [u32; 100], count: usize) -> Acted
+fn open_line(s: Stack, numbers: [u32; 21], count: usize) -> Acted
     ensures { λ r. ⌜ r ≡ opens s numbers count ⌝ }
 {
-    let end = at_most(count, 100);
+    let end = at_most(count, 21);
     let start = stack::open_stack(&numbers[..end]);
     let answer = start.answer;
     let opened = start.stack;
@@ -210,7 +210,7 @@ fn open_line(s: Stack, numbers: [u32; 100], count: usize) -> Acted
     }
 }
 
-fn sample_line(s: Stack, numbers: [u32; 100], minus: bool, count: usize) -> Acted
+fn sample_line(s: Stack, numbers: [u32; 21], minus: bool, count: usize) -> Acted
     ensures { λ r. ⌜ r ≡ samples s numbers minus count ⌝ }
 {
     let x = readings_of(numbers, minus);
@@ -435,7 +435,7 @@ fn stop_at(p: Pace) -> Turn
         kind: Kind::Malformed,
         minus: false,
         count: 0,
-        numbers: [0; 100],
+        numbers: [0; 21],
     };
     Turn {
         line: line,
@@ -451,11 +451,12 @@ fn take_line(p: Pace, block: &[u8]) -> Turn
         return stop_at(p);
     }
     let at = p.at;
-    let end = cutter::line_end(block, at);
+    let found = lines::line_at(block, at);
+    let end = found.end;
     if block.len() <= end {
         return stop_at(p);
     }
-    let line = lines::line_of(&block[at..end]);
+    let line = found.line;
     let kind = line.kind;
     if is_open(kind) {
         return stop_at(p);

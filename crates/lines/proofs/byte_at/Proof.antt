@@ -1,4 +1,4 @@
--- `byte_at`: within the line its byte, behind the end a space.
+-- `byte_at`: within the bytes the one at the place, behind the end a newline.
 -- Assumes nothing.
 use mathlib.Core.Path.{sym}
 use lib.ListN.{List·getD-eq-default}
@@ -11,10 +11,10 @@ shared-slice-read-result : tie.Need-shared-slice-read-result
 shared-slice-read-result c = search needs
 
 returns : tie.Need-returns
-returns c = byte-any (c .before .before .args .s .now) _ 0 32 (c .before .if1 .taken)
+returns c = byte-any (c .before .before .args .s .now) _ 0 10 (c .before .if1 .taken)
 
 returns-2 : tie.Need-returns-2
-returns-2 c = sym (List·getD-eq-default (c .before .args .s .now) 32 (c .if1 .left))
+returns-2 c = sym (List·getD-eq-default (c .before .args .s .now) 10 (c .if1 .left))
 
 pub byte-at-spec : {M : Type 1} → statement M
 byte-at-spec = tie.close (tie.spec shared-slice-read-result returns returns-2)

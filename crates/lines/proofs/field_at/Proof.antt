@@ -1,4 +1,4 @@
--- `field_at`: by its first byte, the minus sign or a digit.
+-- `field_at`: by its first byte, the minus sign or another.
 -- Assumes nothing.
 use native.Mathlib.Omega.{arith}
 use borrow.Author.Tests.{eq-eqb, ne-eqb}
@@ -17,7 +17,8 @@ number-at-requires c κs = search needs
 returns : tie.Need-returns
 returns c =
     let b = c .before .before in
-    rw (field-in _ _ _ (b .before .before .args .at) (b .byte-at .ensures), ne-eqb _ _ (c .before .if1 .taken)) (c .number-at .ensures)
+    let a = b .before .before .args in
+    rw (field-in _ _ (a .s .now) (a .at) (b .byte-at .ensures), ne-eqb _ _ (c .before .if1 .taken)) (c .number-at .ensures)
 
 add-number-at : tie.Need-add-number-at
 add-number-at c =
@@ -31,12 +32,14 @@ number-at-requires-2 c κs = search needs
 returns-2 : tie.Need-returns-2
 returns-2 c =
     let b = c .before .before .before in
-    rw (field-in _ _ _ (b .before .before .args .at) (b .byte-at .ensures), eq-eqb _ _ (c .before .before .if1 .left), c .before .if2 .taken) (c .number-at2 .ensures)
+    let a = b .before .before .args in
+    rw (field-in _ _ (a .s .now) (a .at) (b .byte-at .ensures), eq-eqb _ _ (c .before .before .if1 .left), c .before .if2 .taken) (c .number-at2 .ensures)
 
 returns-3 : tie.Need-returns-3
 returns-3 c =
     let b = c .before .before in
-    rw (field-in _ _ _ (b .before .before .args .at) (b .byte-at .ensures), eq-eqb _ _ (c .before .if1 .left), c .if2 .left)
+    let a = b .before .before .args in
+    rw (field-in _ _ (a .s .now) (a .at) (b .byte-at .ensures), eq-eqb _ _ (c .before .if1 .left), c .if2 .left)
 
 pub field-at-spec : {M : Type 1} → statement M
 field-at-spec =

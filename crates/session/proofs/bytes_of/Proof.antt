@@ -13,7 +13,7 @@ use Rattle.session.proofs.bytes_of.Statement.{statement}
 use Rattle.session.proofs.bytes_of.Tie as tie
 
 abbrev Inv-loop : tie.InvT-loop
-Inv-loop numbers bytes₀ i₀ bytes i = (i ≤ 16) × (length numbers ≡ 100) × (bytes ≡ filled 0 16 (map (λ n. n % 256) (take 16 numbers)) i)
+Inv-loop numbers bytes₀ i₀ bytes i = (i ≤ 16) × (length numbers ≡ 21) × (bytes ≡ filled 0 16 (map (λ n. n % 256) (take 16 numbers)) i)
 
 abbrev μ-loop : tie.MeasureT-loop
 μ-loop numbers bytes₀ i₀ bytes i = 16 - i

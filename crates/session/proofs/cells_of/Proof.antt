@@ -14,7 +14,7 @@ use Rattle.session.proofs.cells_of.Statement.{statement}
 use Rattle.session.proofs.cells_of.Tie as tie
 
 abbrev Inv-loop : tie.InvT-loop
-Inv-loop numbers cells₀ i₀ cells i = (i ≤ 16) × (length numbers ≡ 100) × (cells ≡ filled 0 16 (take 16 (drop 5 numbers)) i)
+Inv-loop numbers cells₀ i₀ cells i = (i ≤ 16) × (length numbers ≡ 21) × (cells ≡ filled 0 16 (take 16 (drop 5 numbers)) i)
 
 abbrev μ-loop : tie.MeasureT-loop
 μ-loop numbers cells₀ i₀ cells i = 16 - i

@@ -15,7 +15,7 @@ array-share-prefix-numbers c = search needs
 slice-aggregate-open-stack : tie.Need-slice-aggregate-open-stack
 slice-aggregate-open-stack c =
     let numbers = c .before .before .args .t2 in
-    let long : length numbers ≡ 100 = search needs in
+    let long : length numbers ≡ 21 = search needs in
     rw (length-take (c .before .at-most .result) numbers) (omega arith)
 
 open-stack-requires : tie.Need-open-stack-requires

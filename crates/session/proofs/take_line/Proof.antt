@@ -1,6 +1,9 @@
 -- `session::take_line` meets its contract: the three stops, and the next line.
 -- Assumes nothing.
 use borrow.Author.Tests.{le-leb, lt-leb}
+use mathlib.Core.Path.{ap}
+use Rattle.lines.specs.declared.Found.{Found}
+use Rattle.lines.specs.Field.{foundAt}
 use Rattle.session.specs.Turns.{turnOf, goOn}
 use borrow.Author.Needs.{needs}
 use Rattle.session.proofs.take_line.Statement.{statement}
@@ -16,29 +19,18 @@ returns : tie.Need-returns
 unfolding turnOf
 returns c = rw (c .stop-at .ensures, ← (c .before .before .tight .ensures), c .before .if1 .taken)
 
-line-end-requires : tie.Need-line-end-requires
-line-end-requires c κs = search needs
+line-at-requires : tie.Need-line-at-requires
+line-at-requires c κs = search needs
 
 stop-at-requires-2 : tie.Need-stop-at-requires-2
 stop-at-requires-2 c κs = search needs
 
 returns-2 : tie.Need-returns-2
-unfolding turnOf
+unfolding turnOf foundAt
 returns-2 c =
-    let e = c .before .before in
-    rw (c .stop-at2 .ensures, ← (e .before .before .tight .ensures), e .before .if1 .left, ← (e .line-end .ensures), le-leb _ _ (c .before .if2 .taken))
-
-sub-line-of : tie.Need-sub-line-of
-sub-line-of c = search needs
-
-part-line-of-start : tie.Need-part-line-of-start
-part-line-of-start c = search needs
-
-part-line-of-end : tie.Need-part-line-of-end
-part-line-of-end c = search needs
-
-line-of-requires : tie.Need-line-of-requires
-line-of-requires c κs = search needs
+    let l = c .before .before in
+    let end = ap (λ (f : Found). f .end) (l .line-at .ensures) in
+    rw (c .stop-at2 .ensures, ← (l .before .before .tight .ensures), l .before .if1 .left, ← end, le-leb _ _ (c .before .if2 .taken))
 
 is-open-requires : tie.Need-is-open-requires
 is-open-requires c κs = search needs
@@ -47,11 +39,13 @@ stop-at-requires-3 : tie.Need-stop-at-requires-3
 stop-at-requires-3 c κs = search needs
 
 returns-3 : tie.Need-returns-3
-unfolding turnOf
+unfolding turnOf foundAt
 returns-3 c =
-    let l = c .before .before .before in
-    let e = l .before .before .before in
-    rw (c .stop-at3 .ensures, ← (e .before .before .tight .ensures), e .before .if1 .left, ← (e .line-end .ensures), lt-leb _ _ (l .before .before .if2 .left), ← (l .line-of .ensures), ← (c .before .before .is-open .ensures), c .before .if3 .taken)
+    let o = c .before .before in
+    let l = o .before .before .before in
+    let end = ap (λ (f : Found). f .end) (l .line-at .ensures) in
+    let line = ap (λ (f : Found). f .line) (l .line-at .ensures) in
+    rw (c .stop-at3 .ensures, ← (l .before .before .tight .ensures), l .before .if1 .left, ← end, lt-leb _ _ (o .before .before .if2 .left), ← line, ← (o .is-open .ensures), c .before .if3 .taken)
 
 add-pace-at : tie.Need-add-pace-at
 add-pace-at c = search needs
@@ -60,11 +54,13 @@ pace-at-requires : tie.Need-pace-at-requires
 pace-at-requires c κs = search needs
 
 returns-4 : tie.Need-returns-4
-unfolding turnOf goOn
+unfolding turnOf goOn foundAt
 returns-4 c =
-    let l = c .before .before .before in
-    let e = l .before .before .before in
-    rw (c .pace-at .ensures, ← (e .before .before .tight .ensures), e .before .if1 .left, ← (e .line-end .ensures), lt-leb _ _ (l .before .before .if2 .left), ← (l .line-of .ensures), ← (c .before .before .is-open .ensures), c .before .if3 .left)
+    let o = c .before .before in
+    let l = o .before .before .before in
+    let end = ap (λ (f : Found). f .end) (l .line-at .ensures) in
+    let line = ap (λ (f : Found). f .line) (l .line-at .ensures) in
+    rw (c .pace-at .ensures, ← (l .before .before .tight .ensures), l .before .if1 .left, ← end, lt-leb _ _ (o .before .before .if2 .left), ← line, ← (o .is-open .ensures), c .before .if3 .left)
 
 pub take-line-spec : {M : Type 1} → statement M
 take-line-spec =
@@ -73,13 +69,9 @@ take-line-spec =
     tight-requires
     stop-at-requires
     returns
-    line-end-requires
+    line-at-requires
     stop-at-requires-2
     returns-2
-    sub-line-of
-    part-line-of-start
-    part-line-of-end
-    line-of-requires
     is-open-requires
     stop-at-requires-3
     returns-3
