@@ -4,6 +4,8 @@ pub mod Clear
 pub mod Tells
 pub mod Demanded
 pub mod Commute
+pub mod Places
 pub mod Order
+pub mod Examples
 pub mod Cycles
 pub mod Turns

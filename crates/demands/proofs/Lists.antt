@@ -1,14 +1,15 @@
--- Lists by places: two rules that agree, one value throughout, and what stands behind.
+-- Lists by places: two rules that agree, one value throughout, what stands behind, and a test that holds at each place.
 -- Assumes nothing.
 use Prim.Native.Nat.{ℕ, zero, suc, _+_, _<_, _≤_}
 use native.Mathlib.Nat.{not-suc-le-zero, le-of-suc-le-suc}
 use native.Mathlib.Omega.{arith}
 use mathlib.Core.Path.{_≡_, refl, ap, ap₂, _∙_}
-use mathlib.Core.Bool.{false}
+use mathlib.Core.Bool.{Bool, true, false, _&&_}
 use mathlib.Core.List.{List, _∷_, _++_}
 use lib.ListN.{length, getD, drop, replicate, List·getD-append}
 use Rattle.marks.specs.Marks.{number}
-use Rattle.cells.specs.Each.{each}
+use Rattle.lists.proofs.Split.{both}
+use Rattle.cells.specs.Each.{each, all}
 use Rattle.cells.proofs.Each.{each-length, each-place}
 
 -- two rules that agree at every place
@@ -37,6 +38,24 @@ unfolding each
 each-one i zero m v p = refl
 each-one i (suc n) zero v p = absurd (not-suc-le-zero p)
 each-one {A} i (suc n) (suc m) v p = ap (λ (l : List A). v ∷ l) (each-one (suc i) n m v (le-of-suc-le-suc p))
+
+-- a test that holds at each of n places
+all-from : (i n : ℕ) (f : ℕ → Bool) → all (each i n f) ≡ true → (k : ℕ) → k < n → f (i + k) ≡ true
+unfolding each
+all-from i zero f e k p = absurd (not-suc-le-zero p)
+all-from i (suc n) f e zero p = ap f (omega arith) ∙ both (f i) (all (each (suc i) n f)) e .0
+all-from i (suc n) f e (suc k) p = ap f (omega arith) ∙ all-from (suc i) n f (both (f i) (all (each (suc i) n f)) e .1) k (le-of-suc-le-suc p)
+
+pub all-at : (n : ℕ) (f : ℕ → Bool) → all (each 0 n f) ≡ true → (k : ℕ) → k < n → f k ≡ true
+all-at n f e k p = ap f (omega arith) ∙ all-from 0 n f e k p
+
+all-on : (i n : ℕ) (f : ℕ → Bool) → ((k : ℕ) → k < i + n → f k ≡ true) → all (each i n f) ≡ true
+unfolding each
+all-on i zero f h = refl
+all-on i (suc n) f h = rw (h i (omega arith)) (all-on (suc i) n f (λ k p. h k (omega arith)))
+
+pub all-yes : (n : ℕ) (f : ℕ → Bool) → ((k : ℕ) → k < n → f k ≡ true) → all (each 0 n f) ≡ true
+all-yes n f h = all-on 0 n f (λ k p. h k (omega arith))
 
 -- no cell at all is 0
 pub number-none : (i n : ℕ) → number (each i n (λ k. false)) ≡ 0
