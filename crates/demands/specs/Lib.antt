@@ -1,4 +1,5 @@
 pub mod Paper
+pub mod Marked
 pub mod Acts
 pub mod Shuffle
 pub mod Tied
