@@ -2,7 +2,7 @@
 -- Assumes nothing.
 use Prim.Native.Nat.{ℕ}
 use mathlib.Core.Path.{_≡_, refl, sym, ap, _∙_}
-use mathlib.Core.Bool.{Bool, true, false, true≢false, cond, not, _&&_}
+use mathlib.Core.Bool.{Bool, true, false, true≢false, cond, not}
 use mathlib.Core.List.{List, [], _∷_, _++_}
 use lib.Dec.{eqb}
 use lib.ListN.{length, set, drop, length-map}
@@ -19,9 +19,10 @@ use Rattle.stack.specs.Row.{goodRow, placeOf, boardAt}
 use Rattle.stack.specs.Frame.{framePlace}
 use Rattle.demands.specs.Paper.{Entry, sampled, asked}
 use Rattle.demands.specs.Acts.{Act, sample, frame, reading, Outcome, bars}
+use Rattle.demands.specs.Table.{lent}
 use Rattle.demands.specs.Tied.{Who, board, whole, nobody, early, who, ties, tied}
 use Rattle.demands.specs.Demands.{Log, log, logAt, joined, boardGiven, rowGiven, frameEntry, joins, taken, sampleSays, frameSays, told}
-use Rattle.demands.proofs.Clear.{clear}
+use Rattle.demands.proofs.Clear.{clear, numbered}
 use Rattle.demands.proofs.Tells.{board-at}
 use Rattle.demands.proofs.Demanded.{countsOf, same-counts, goodOf, good-counts}
 
@@ -53,11 +54,6 @@ answerIn l (frame bytes buffer) =
     let reply = frameSays (joined l (frameEntry bytes)) bytes in
     record { said = judged refusals reply; buffer = kept refusals buffer (reply ++ drop 4 buffer) }
 answerIn l reading = record { said = accepts []; buffer = [] }
-
-abbrev lent : Act → List ℕ
-lent (sample n x mv) = []
-lent (frame bytes buffer) = buffer
-lent reading = []
 
 abbrev refusedEarly : ℕ → Act → Outcome
 refusedEarly m a = record { said = refuses (first (early m a)); buffer = lent a }
@@ -117,10 +113,6 @@ either-order nobody nobody logs a b f = refl
 
 -- ---- refusals in two parts: early ones, and then those once the board is known
 
-abbrev numbers : List Bar → Bool
-numbers [] = true
-numbers (b ∷ l) = not (eqb (b .number) 0) && numbers l
-
 first-early : (es ls : List Bar) → eqb (first es) 0 ≡ false → first (es ++ ls) ≡ first es
 first-early [] ls e = absurd (true≢false e)
 first-early (b ∷ es) ls e = by (b .when) (first-early es ls) e
@@ -130,10 +122,10 @@ first-early (b ∷ es) ls e = by (b .when) (first-early es ls) e
     by true rest e = refl
     by false rest e = rest e
 
-first-late : (es ls : List Bar) → numbers es ≡ true → eqb (first es) 0 ≡ true → first (es ++ ls) ≡ first ls
+first-late : (es ls : List Bar) → numbered es ≡ true → eqb (first es) 0 ≡ true → first (es ++ ls) ≡ first ls
 first-late [] ls n e = refl
 first-late (b ∷ es) ls n e =
-    let m = both (not (eqb (b .number) 0)) (numbers es) n in
+    let m = both (not (eqb (b .number) 0)) (numbered es) n in
     let c = clear b es (not-yes (eqb (b .number) 0) (m .0)) e in
     ap (λ (t : Bool). cond t (b .number) (first (es ++ ls))) (c .0) ∙ first-late es ls (m .1) (c .1)
 
@@ -146,7 +138,7 @@ set-kept true logs at l = refl
 set-kept false logs at l = sym (set-getD logs at (log 0 []))
 
 -- refusals `bs` that come to the early ones `es` and the late ones `ls`
-module _ (bs es ls : List Bar) (parts : first bs ≡ first (es ++ ls)) (n : numbers es ≡ true) where
+module _ (bs es ls : List Bar) (parts : first bs ≡ first (es ++ ls)) (n : numbered es ≡ true) where
   kept-late : {A : Type 0} (old new : A) → eqb (first es) 0 ≡ true → kept bs old new ≡ kept ls old new
   kept-late {A} old new e = ap (λ (k : ℕ). cond {A = A} (eqb k 0) new old) (parts ∙ first-late es ls n e)
 

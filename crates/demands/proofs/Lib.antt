@@ -1,6 +1,7 @@
 pub mod Lists
 pub mod Given
 pub mod Clear
+pub mod Table
 pub mod Tells
 pub mod Demanded
 pub mod Commute

@@ -1,19 +1,18 @@
 -- A shuffle by places is one by taking out, and so one by swaps of neighbours; and the test tells just the shuffles.
 -- Assumes nothing.
-use Prim.Native.Nat.{ℕ, zero, suc, _+_, _-_, _<_, _≤_}
+use Prim.Native.Nat.{ℕ, zero, suc, _+_, _<_}
 use native.Mathlib.Nat.{not-suc-le-zero, le-of-suc-le-suc}
 use native.Mathlib.Omega.{arith}
 use mathlib.Core.Path.{_≡_, refl, sym, ap, ap₂, _∙_, subst}
-use mathlib.Core.Bool.{Bool, true, false, true≢false, cond, not, _&&_, _||_}
+use mathlib.Core.Bool.{Bool, true, false, cond}
 use mathlib.Core.List.{List, [], _∷_, _++_, map}
 use lib.Dec.{ltb, eqb, leb·suc-suc}
 use lib.ListN.{length, getD, take, drop, length-map, List·getD-map}
 use lib.Seq.{split-at}
-use borrow.Author.Tests.{ltb-true, ltb-false, lt-ltb, le-ltb, eqb-true, eqb-false, eq-eqb, ne-eqb}
-use Rattle.lists.proofs.Split.{split, both}
+use borrow.Author.Tests.{ltb-true, lt-ltb, eqb-true, eqb-false, eq-eqb, ne-eqb}
+use Rattle.lists.proofs.Split.{split}
 use Rattle.marks.specs.Marks.{bit}
-use Rattle.cells.specs.Each.{each, all}
-use Rattle.demands.specs.Shuffle.{picked, times, turn, Shuffle, inside, keepsTurn, shuffles, Free, TakenOut, Swaps, as-it-is, swap}
+use Rattle.demands.specs.Shuffle.{picked, times, turn, Shuffle, Free, TakenOut, Swaps, as-it-is, swap}
 
 -- ---- a list without the entry at a place: where another place is in it, and where it was
 

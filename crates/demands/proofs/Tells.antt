@@ -10,7 +10,7 @@ use lib.ListN.{length, getD, set, drop, List·getD-map}
 use borrow.Author.Tests.{ltb-true, ltb-false, eqb-true, not-false}
 use Rattle.lists.proofs.Split.{split}
 use Rattle.settings.specs.Bytes.{byteOf}
-use Rattle.refusal.specs.Said.{Bar, bar, accepts, first}
+use Rattle.refusal.specs.Said.{Bar, bar, accepts, first, judged}
 use Rattle.latches.specs.declared.Latches.{Latches}
 use Rattle.latches.specs.Latches.{anyLatch, chgOn, dsgOn, register0}
 use Rattle.latches.proofs.Packed.{latches-kept}
@@ -23,20 +23,19 @@ use Rattle.frame.specs.Check.{checkOf}
 use Rattle.registers.specs.Registers as registers
 use Rattle.registers.specs.Registers.{programs, staging, accessBars, boardAfter, replyValue}
 use Rattle.reading.specs.declared.Summary.{Summary}
-use Rattle.reading.specs.declared.Whole.{Whole}
 use Rattle.reading.specs.Reading.{summaryOf, readOf, wholeSaid}
 use Rattle.stack.specs.Row.{goodRow, noBoard, placeOf, boardAt}
 use Rattle.stack.specs.Sample.{sampleRowBars, sampleRow}
 use Rattle.stack.specs.Frame.{framePlace, frameBoard, boardFramed, frameReply, frameRowBars, frameRow, frameBuffer}
-use Rattle.stack.specs.Read.{viewSaid, readingOf}
+use Rattle.stack.specs.Read.{readBars}
 use Rattle.stack.proofs.Counts.{within}
 use Rattle.stack.proofs.Ways.{board-good, has-none}
 use Rattle.stack.proofs.Laws.{sample-said, frame-said}
-use Rattle.stack.proofs.Scanned.{whole-said}
 use Rattle.demands.specs.Paper.{sampled, wrote, programmed, asked, History, working, spent, latchesAt, given}
 use Rattle.demands.specs.Acts.{Act, sample, frame, reading, outcome, next}
 use Rattle.demands.specs.Demands.{Log, log, logAt, joined, boardGiven, rowGiven, frameEntry, joins, taken, sampleSays, readSays, frameSays, summaryGiven, told}
 use Rattle.demands.proofs.Given.{given-start, latches-are, bled-are, given-sampled, given-wrote, given-asked, given-programmed}
+use Rattle.demands.proofs.Table.{reading-judged}
 use Rattle.demands.proofs.Clear.{clear, judged-same, kept-same}
 
 -- ---- the record at a place, and a record stored
@@ -194,14 +193,12 @@ summaries-are : (logs : List Log) → map summaryOf (rowGiven logs) ≡ map summ
 summaries-are [] = refl
 summaries-are (l ∷ logs) = ap₂ (λ (s : Summary) (north : List Summary). s ∷ north) (summary-is l) (summaries-are logs)
 
--- a good row is read
-reading-said : (row : List Board) → goodRow row ≡ true → viewSaid (readingOf row) ≡ accepts (wholeSaid (readOf (map summaryOf row)))
-unfolding readingOf
-reading-said row good = rw good (ap (λ (w : Whole). accepts (wholeSaid w)) (whole-said (readOf (map summaryOf row))))
-
 reading-told : (logs : List Log) → goodRow (rowGiven logs) ≡ true → outcome (rowGiven logs) reading ≡ told logs reading
 reading-told logs good =
-    let said = reading-said (rowGiven logs) good ∙ ap (λ (boards : List Summary). accepts (wholeSaid (readOf boards))) (summaries-are logs) in
+    let row = rowGiven logs in
+    let vs = wholeSaid (readOf (map summaryOf row)) in
+    let read : judged (readBars row) vs ≡ accepts vs = rw good in
+    let said = reading-judged row ∙ read ∙ ap (λ (boards : List Summary). accepts (wholeSaid (readOf boards))) (summaries-are logs) in
     λ i. record { said = said i; buffer = [] }
 
 -- ---- any act

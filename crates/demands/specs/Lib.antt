@@ -1,6 +1,7 @@
 pub mod Paper
 pub mod Marked
 pub mod Acts
+pub mod Table
 pub mod Shuffle
 pub mod Tied
 pub mod Demands
