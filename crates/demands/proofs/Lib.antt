@@ -10,3 +10,4 @@ pub mod Order
 pub mod Examples
 pub mod Cycles
 pub mod Turns
+pub mod Mechanic

@@ -1,15 +1,15 @@
--- Lists by places: two rules that agree, one value throughout, what stands behind, and a test that holds at each place.
+-- Lists by places: two rules that agree, one value throughout, what stands behind, and tests that hold at each place or at some.
 -- Assumes nothing.
 use Prim.Native.Nat.{ℕ, zero, suc, _+_, _<_, _≤_}
 use native.Mathlib.Nat.{not-suc-le-zero, le-of-suc-le-suc}
 use native.Mathlib.Omega.{arith}
-use mathlib.Core.Path.{_≡_, refl, ap, ap₂, _∙_}
-use mathlib.Core.Bool.{Bool, true, false}
+use mathlib.Core.Path.{_≡_, refl, sym, ap, ap₂, _∙_}
+use mathlib.Core.Bool.{Bool, true, false, true≢false}
 use mathlib.Core.List.{List, _∷_, _++_}
 use lib.ListN.{length, getD, drop, replicate, List·getD-append}
 use Rattle.marks.specs.Marks.{number}
-use Rattle.lists.proofs.Split.{both}
-use Rattle.cells.specs.Each.{each, all}
+use Rattle.lists.proofs.Split.{split, both}
+use Rattle.cells.specs.Each.{each, some, all}
 use Rattle.cells.proofs.Each.{each-length, each-place}
 
 -- two rules that agree at every place
@@ -56,6 +56,28 @@ all-on i (suc n) f h = rw (h i (omega arith)) (all-on (suc i) n f (λ k p. h k (
 
 pub all-yes : (n : ℕ) (f : ℕ → Bool) → ((k : ℕ) → k < n → f k ≡ true) → all (each 0 n f) ≡ true
 all-yes n f h = all-on 0 n f (λ k p. h k (omega arith))
+
+-- and one that holds at some
+some-from : (i n : ℕ) (f : ℕ → Bool) → some (each i n f) ≡ true → (k : ℕ) × (k < i + n) × (f k ≡ true)
+unfolding each
+some-from i zero f e = absurd (true≢false (sym e))
+some-from i (suc n) f e =
+    split (f i)
+    (λ h. (i, omega arith, h))
+    (λ h. let later = some-from (suc i) n f (rw h at e) in (later .0, omega (arith, later .1), later .2))
+
+pub some-at : (n : ℕ) (f : ℕ → Bool) → some (each 0 n f) ≡ true → (k : ℕ) × (k < n) × (f k ≡ true)
+some-at n f e = let there = some-from 0 n f e in (there .0, omega (arith, there .1), there .2)
+
+some-on : (i n : ℕ) (f : ℕ → Bool) (k : ℕ) → k < n → f (i + k) ≡ true → some (each i n f) ≡ true
+unfolding each
+some-on i zero f k p h = absurd (not-suc-le-zero p)
+some-on i (suc n) f zero p h = let here : f i ≡ true = ap f (omega arith) ∙ h in rw here
+some-on i (suc n) f (suc k) p h =
+    split (f i) (λ e. rw e) (λ e. rw e (some-on (suc i) n f k (le-of-suc-le-suc p) (ap f (omega arith) ∙ h)))
+
+pub some-yes : (n : ℕ) (f : ℕ → Bool) (k : ℕ) → k < n → f k ≡ true → some (each 0 n f) ≡ true
+some-yes n f k p h = some-on 0 n f k p (ap f (omega arith) ∙ h)
 
 -- no cell at all is 0
 pub number-none : (i n : ℕ) → number (each i n (λ k. false)) ≡ 0

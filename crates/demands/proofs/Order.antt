@@ -9,7 +9,7 @@ use Rattle.demands.specs.Acts.{Act, reading, Outcome, outcome, next, ope
 use Rattle.demands.specs.Shuffle.{picked, Shuffle, Free, TakenOut}
 use Rattle.demands.specs.Tied.{tied}
 use Rattle.demands.specs.Demands.{Log, begun, rowGiven, taken, told, opens, nothing, Demand3}
-use Rattle.demands.proofs.Demanded.{goodOf, begun-counts, opens-good, demand2}
+use Rattle.demands.proofs.Demanded.{goodOf, begun-counts, opens-fine, demand2}
 use Rattle.demands.proofs.Places.{picked-map, shuffle-map, taken-out}
 use Rattle.demands.proofs.Commute.{Good, keeps, commute}
 
@@ -106,9 +106,7 @@ module _ (counts : List ℕ) (good : goodOf counts ≡ true) where
 pub by-taking-out : (counts : List ℕ) → opens counts ≡ true → (acts : List Act) (shuffled : List Answered) → TakenOut (tiedIn (length counts)) (answered (begun counts) acts) shuffled
     → (answers next outcome (openedRow counts) (actsOf shuffled) ≡ getsOf shuffled) × (final next (openedRow counts) (actsOf shuffled) ≡ final next (openedRow counts) acts)
 by-taking-out counts e acts shuffled w =
-    let fine = opens-good counts e in
-    let good : goodOf counts ≡ true = rw (fine .0, fine .1) in
-    let so = shuffled-so counts good (begun counts) (begun-counts counts) acts shuffled w in
+    let so = shuffled-so counts (opens-fine counts e) (begun counts) (begun-counts counts) acts shuffled w in
     let first-list = demand2 counts e acts in
     let second-list = demand2 counts e (actsOf shuffled) in (
       second-list .0 ∙ gets-answered (begun counts) (actsOf shuffled) ∙ ap getsOf (so .0),

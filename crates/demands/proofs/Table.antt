@@ -51,7 +51,7 @@ is-none (b ∷ rows) h = rw (h .0) (is-none rows (h .1))
 
 -- ---- what is judged goes by the table
 
-judged-number : (rows : List Bar) (vs : List ℕ) → judged rows vs .number ≡ first rows
+pub judged-number : (rows : List Bar) (vs : List ℕ) → judged rows vs .number ≡ first rows
 judged-number rows vs = split (eqb (first rows) 0) (λ e. rw e (sym (eqb-true (first rows) 0 e))) (λ e. rw e)
 
 judged-refuses : (rows : List Bar) (vs : List ℕ) (n : ℕ) → 0 < n → first rows ≡ n → judged rows vs ≡ refuses n
@@ -68,7 +68,7 @@ table rows vs u =
     }
 
 -- where it refuses, what is kept is the old
-stays : {A : Type 0} (rows : List Bar) (vs : List ℕ) (n : ℕ) → 0 < n → judged rows vs ≡ refuses n → (old new : A) → kept rows old new ≡ old
+pub stays : {A : Type 0} (rows : List Bar) (vs : List ℕ) (n : ℕ) → 0 < n → judged rows vs ≡ refuses n → (old new : A) → kept rows old new ≡ old
 stays rows vs n p e old new =
     let number-is : first rows ≡ n = sym (judged-number rows vs) ∙ ap (λ (s : Said). s .number) e in
     rw (number-is, ne-eqb n 0 (λ z. omega arith))
@@ -79,12 +79,12 @@ pub reading-judged : (row : List Board) → viewSaid (readingOf row) ≡ judged 
 unfolding readingOf
 reading-judged row = split (goodRow row) (λ e. rw e (ap (λ (w : Whole). accepts (wholeSaid w)) (whole-said (readOf (map summaryOf row))))) (λ e. rw e)
 
-abbrev values : List Board → Act → List ℕ
+abbrev pub values : List Board → Act → List ℕ
 values row (sample n x mv) = sampleValues (boardAt row (placeOf n)) x mv
 values row (frame bytes buffer) = frameReply row bytes
 values row reading = wholeSaid (readOf (map summaryOf row))
 
-act-judged : (row : List Board) (a : Act) → outcome row a .said ≡ judged (bars row a) (values row a)
+pub act-judged : (row : List Board) (a : Act) → outcome row a .said ≡ judged (bars row a) (values row a)
 act-judged row (sample n x mv) = sample-said row n x mv
 act-judged row (frame bytes buffer) = frame-said row bytes buffer
 act-judged row reading = reading-judged row

@@ -1,12 +1,13 @@
 -- One act on a row that the paper gives: the library's outcome is the one told, and its row the one given after it.
 -- Assumes nothing.
-use Prim.Native.Nat.{ℕ, zero, suc, _≤_}
+use Prim.Native.Nat.{ℕ, zero, suc, _<_, _≤_}
 use native.Mathlib.Omega.{arith}
-use mathlib.Core.Path.{_≡_, refl, ap, ap₂, sym, _∙_}
+use mathlib.Core.Path.{_≡_, refl, ap, ap₂, sym, _∙_, subst}
 use mathlib.Core.Bool.{Bool, true, false, true≢false, cond, not}
 use mathlib.Core.List.{List, [], _∷_, _++_, map}
 use lib.Dec.{ltb, eqb}
-use lib.ListN.{length, getD, set, drop, List·getD-map}
+use lib.ListN.{length, getD, set, drop, length-map, List·getD-map}
+use lib.Seq.{getD-set-same}
 use borrow.Author.Tests.{ltb-true, ltb-false, eqb-true, not-false}
 use Rattle.lists.proofs.Split.{split}
 use Rattle.settings.specs.Bytes.{byteOf}
@@ -48,16 +49,25 @@ row-set [] at l = refl
 row-set (m ∷ logs) zero l = refl
 row-set (m ∷ logs) (suc at) l = ap (λ (row : List Board). boardGiven m ∷ row) (row-set logs at l)
 
--- a board that a good row has is one of at most ten cells
-few-cells : (logs : List Log) (n : ℕ) → not (goodRow (rowGiven logs)) ≡ false → noBoard (rowGiven logs) n ≡ false → logAt logs (placeOf n) .cells ≤ 10
-few-cells logs n g b =
-    let row = rowGiven logs in
-    let good : goodRow row ≡ true = not-false (goodRow row) g in
-    split (ltb (placeOf n) (length row))
-    (λ e.
-    let fine : badBoard (boardAt row (placeOf n)) ≡ false = board-good row good (placeOf n) (ltb-true (placeOf n) (length row) e) in
-    within 5 10 (logAt logs (placeOf n) .cells) (rw (board-at logs (placeOf n)) at (ap not fine)) .1)
-    (λ e. absurd (true≢false (sym (has-none row good n (ltb-false (placeOf n) (length row) e)) ∙ b)))
+-- a board that a good row has is in its place, and one of at most ten cells
+module _ (logs : List Log) (n : ℕ) (g : not (goodRow (rowGiven logs)) ≡ false) (b : noBoard (rowGiven logs) n ≡ false) where
+  good-row : goodRow (rowGiven logs) ≡ true
+  good-row = not-false (goodRow (rowGiven logs)) g
+
+  in-row : placeOf n < length (rowGiven logs)
+  in-row =
+      let row = rowGiven logs in
+      split (ltb (placeOf n) (length row))
+      (λ e. ltb-true (placeOf n) (length row) e)
+      (λ e. absurd (true≢false (sym (has-none row good-row n (ltb-false (placeOf n) (length row) e)) ∙ b)))
+
+  in-logs : placeOf n < length logs
+  in-logs = subst (λ (k : ℕ). placeOf n < k) (length-map logs boardGiven) in-row
+
+  few-cells : logAt logs (placeOf n) .cells ≤ 10
+  few-cells =
+      let fine : badBoard (boardAt (rowGiven logs) (placeOf n)) ≡ false = board-good (rowGiven logs) good-row (placeOf n) in-row in
+      within 5 10 (logAt logs (placeOf n) .cells) (rw (board-at logs (placeOf n)) at (ap not fine)) .1
 
 -- ---- a sample
 
@@ -68,16 +78,29 @@ module _ (logs : List Log) (n : ℕ) (x : Readings) (mv : List ℕ) where
   abbrev sample-row : List Bar
   sample-row = sampleRowBars (rowGiven logs) n x mv
 
-  -- an accepted sample has as many cells as its board, which has at most ten
+  -- an accepted sample is of a board of the row, in a good row, and readable there
+  sample-clear : eqb (first sample-row) 0 ≡ true
+      → (not (goodRow (rowGiven logs)) ≡ false) × (noBoard (rowGiven logs) n ≡ false) × (eqb (first (readingBars (boardAt (rowGiven logs) (placeOf n)) x mv)) 0 ≡ true)
+  sample-clear accepted =
+      let row = rowGiven logs in
+      let c1 = clear (bar 1 (not (goodRow row))) (bar 2 (noBoard row n) ∷ readingBars (boardAt row (placeOf n)) x mv) refl accepted in
+      let c2 = clear (bar 2 (noBoard row n)) (readingBars (boardAt row (placeOf n)) x mv) refl (c1 .1) in
+      (c1 .0, c2 .0, c2 .1)
+
+  -- it has as many cells as its board, which has at most ten
   sample-fits : eqb (first sample-row) 0 ≡ true → (of-sample .cells ≤ 10) × (length mv ≡ of-sample .cells)
   sample-fits accepted =
-      let row = rowGiven logs in
-      let b = boardAt row (placeOf n) in
-      let c1 = clear (bar 1 (not (goodRow row))) (bar 2 (noBoard row n) ∷ readingBars b x mv) refl accepted in
-      let c2 = clear (bar 2 (noBoard row n)) (readingBars b x mv) refl (c1 .1) in
-      let c3 = clear (bar 3 (not (eqb (length mv) (b .count)))) (bar 4 (outside 1 100000 (x .elapsed)) ∷ bar 5 (outOfRange x mv) ∷ []) refl (c2 .1) in
+      let b = boardAt (rowGiven logs) (placeOf n) in
+      let c = sample-clear accepted in
+      let c3 = clear (bar 3 (not (eqb (length mv) (b .count)))) (bar 4 (outside 1 100000 (x .elapsed)) ∷ bar 5 (outOfRange x mv) ∷ []) refl (c .2) in
       let long : length mv ≡ b .count = eqb-true (length mv) (b .count) (not-false (eqb (length mv) (b .count)) (c3 .0)) in
-      (few-cells logs n (c1 .0) (c2 .0), long ∙ ap (λ (r : Board). r .count) (board-at logs (placeOf n)))
+      (few-cells logs n (c .0) (c .1), long ∙ ap (λ (r : Board). r .count) (board-at logs (placeOf n)))
+
+  -- and joins its board's log
+  pub sample-joins : eqb (first sample-row) 0 ≡ true → logAt (taken logs (sample n x mv)) (placeOf n) ≡ joined of-sample (sampled x mv)
+  sample-joins accepted =
+      let c = sample-clear accepted in
+      rw accepted (getD-set-same logs (placeOf n) (joined of-sample (sampled x mv)) (log 0 []) (in-logs logs n (c .0) (c .1)))
 
   sample-leaves : eqb (first sample-row) 0 ≡ true → boardNext (boardAt (rowGiven logs) (placeOf n)) x mv ≡ boardGiven (joined of-sample (sampled x mv))
   sample-leaves accepted =

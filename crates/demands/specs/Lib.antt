@@ -8,3 +8,4 @@ pub mod Demands
 pub mod Examples
 pub mod Count
 pub mod Turns
+pub mod Mechanic
