@@ -4,14 +4,15 @@ use Prim.Native.Nat.{ℕ, _+_, _<_, _≤_}
 use native.Mathlib.Omega.{arith}
 use mathlib.Core.Path.{_≡_, refl, sym, ap, _∙_, subst}
 use mathlib.Core.Logic.{_↔_}
-use mathlib.Core.Bool.{Bool, true, false, true≢false, cond, not}
+use mathlib.Core.Bool.{Bool, true, false, true≢false, cond, not, _&&_, _||_}
 use mathlib.Core.List.{List, [], _∷_, map}
 use mathlib.Core.Option.{Option, some, none}
-use lib.Dec.{leb, eqb}
-use lib.ListN.{getD, List·getD-map}
-use lib.Seq.{map-set-same}
+use lib.Dec.{eqb}
+use lib.ListN.{getD, set, List·getD-map}
+use lib.Seq.{map-set-same, set-getD}
 use borrow.Author.Tests.{leb-true, le-leb, eq-eqb, ne-eqb}
-use Rattle.refusal.specs.Said.{Said, Bar, accepts, refuses, first, judged, kept}
+use Rattle.refusal.specs.Said.{Said, Bar, accepts, refuses, first}
+use Rattle.lists.proofs.Split.{split}
 use Rattle.settings.specs.Bytes.{same}
 use Rattle.settings.specs.Faults.{Fault, SCD, OCD, OV, UV, OT, delay}
 use Rattle.settings.proofs.Laws.{same-yes}
@@ -20,21 +21,21 @@ use Rattle.latches.specs.Latches.{latch, latches, latchesOf, latchNext}
 use Rattle.latches.proofs.Packed.{latches-kept}
 use Rattle.board.specs.declared.Board.{Board}
 use Rattle.board.specs.declared.Readings.{Readings}
+use Rattle.board.specs.Sample.{fresh}
 use Rattle.frame.specs.Frame.{byte, writes}
-use Rattle.frame.specs.Reply.{replyBytes}
-use Rattle.stack.specs.Row.{goodRow, placeOf, boardAt}
-use Rattle.stack.specs.Frame.{framePlace}
-use Rattle.demands.specs.Paper.{sampled, wrote, programmed, asked, History, staged, working, spent, Sample, sampleOf, since, holds, runOf, stoodDelay, places, stands, letsGo, latched, latchesAt}
-use Rattle.demands.specs.Acts.{Act, sample, frame, reading, Outcome, bars, outcome, next, openedRow, final}
-use Rattle.demands.specs.Table.{Demand1, lent}
-use Rattle.demands.specs.Demands.{Log, log, begun, logAt, joined, rowGiven, frameEntry, joins, taken, frameSays, told, opens}
+use Rattle.registers.specs.Registers.{boardAfter}
+use Rattle.stack.specs.Row.{goodRow, placeOf}
+use Rattle.stack.specs.Frame.{framePlace, frameRow}
+use Rattle.demands.specs.Paper.{sampled, wrote, programmed, asked, History, staged, working, Sample, sampleOf, since, holds, runOf, stoodDelay, places, stands, letsGo, latched, latchesAt}
+use Rattle.demands.specs.Acts.{Act, sample, frame, reading, Outcome, bars, outcome, next, final}
+use Rattle.demands.specs.Demands.{Log, log, begun, logAt, joined, rowGiven, frameEntry, joins, taken, frameSays}
 use Rattle.demands.specs.Mechanic.{Runs, Stood, isLatched, Accepted, Answers, Mechanic}
 use Rattle.demands.proofs.Lists.{some-at, some-yes}
 use Rattle.demands.proofs.Table.{judged-number, stays, values, act-judged, demand1}
 use Rattle.demands.proofs.Tells.{board-at, sample-joins, tells, gives}
 use Rattle.demands.proofs.Demanded.{demand2, final-good}
 use Rattle.demands.proofs.Cycles.{spent-counts}
-use Rattle.demands.proofs.Turns.{never-latched}
+use Rattle.demands.proofs.Turns.{never-latched, calm-never}
 
 -- ---- runs
 
@@ -104,6 +105,22 @@ frame-leaves : (n : ℕ) (f : Fault) (write programs : Bool) (register v : ℕ) 
 frame-leaves n f true true register v h = refl
 frame-leaves n f true false register v h = refl
 frame-leaves n f false programs register v h = refl
+
+-- a refusal is given only if a row of its number holds
+abbrev holdsOf : ℕ → List Bar → Bool
+holdsOf n [] = false
+holdsOf n (b ∷ rows) = (eqb (b .number) n && b .when) || holdsOf n rows
+
+given-holds : (n : ℕ) (rows : List Bar) → 0 < n → first rows ≡ n → holdsOf n rows ≡ true
+given-holds n [] p e = absurd (omega arith)
+given-holds n (b ∷ rows) p e =
+    split (b .when)
+    (λ h. let is : b .number ≡ n = rw h at e in rw (h, eq-eqb (b .number) n is))
+    (λ h. rw h (later (eqb (b .number) n) (given-holds n rows p (rw h at e))))
+  where
+    later : (t : Bool) → holdsOf n rows ≡ true → ((t && false) || holdsOf n rows) ≡ true
+    later true r = r
+    later false r = r
 
 module _ (logs : List Log) (good : goodRow (rowGiven logs) ≡ true) where
   abbrev row : List Board
@@ -176,6 +193,23 @@ module _ (logs : List Log) (good : goodRow (rowGiven logs) ≡ true) where
     replied : outcome row (frame bytes buffer) .said ≡ accepts (frameSays (joined (logAt logs (framePlace bytes)) (frameEntry bytes)) bytes)
     replied = ap (λ (o : Outcome). o .said) (tells logs good (frame bytes buffer)) ∙ rw (clear-of (frame bytes buffer) taken-in)
 
+  module _ (bytes buffer : List ℕ) (w : writes (byte bytes 0) ≡ true) (r : byte bytes 1 ≡ 11) where
+    abbrev m : Log
+    m = logAt logs (framePlace bytes)
+
+    equal-leaves : same (staged (m .acts)) (working (m .acts)) ≡ true → next row (frame bytes buffer) ≡ row
+    unfolding frameRow boardAfter
+    equal-leaves e =
+        split (eqb (first (bars row (frame bytes buffer))) 0)
+        (λ c. rw (c, w, r, board-at logs (framePlace bytes), e) (ap (set row (framePlace bytes)) (sym (board-at logs (framePlace bytes))) ∙ set-getD row (framePlace bytes) (fresh 0)))
+        (λ c. rw c)
+
+    never-eleven : same (staged (m .acts)) (working (m .acts)) ≡ true → outcome row (frame bytes buffer) .said ≡ refuses 11 → ⊥
+    never-eleven e s =
+        let rows = bars row (frame bytes buffer) in
+        let eleven : first rows ≡ 11 = sym (judged-number rows (values row (frame bytes buffer))) ∙ ap (λ (a : Said). a .number) (sym (act-judged row (frame bytes buffer)) ∙ s) in
+        true≢false (sym (rw (w, r, board-at logs (framePlace bytes), e) at (given-holds 11 rows (omega arith) eleven)))
+
   refused-leaves : (a : Act) (n : ℕ) → 0 < n → outcome row a .said ≡ refuses n → taken logs a ≡ logs
   refused-leaves (sample k x mv) n p e =
       let a = sample k x mv in
@@ -192,9 +226,11 @@ module _ (logs : List Log) (good : goodRow (rowGiven logs) ≡ true) where
         lets-go = lets-go-when;
         frames-leave = frames-leave-it;
         no-pooling = λ f at u. let l = logAt logs at in latched-in f logs at ∙ never-latched (l .cells) f (l .acts) u;
+        calm = λ f at c. let l = logAt logs at in latched-in f logs at ∙ calm-never (l .cells) f (l .acts) c;
         reads-working = λ bytes buffer a w low high.
             replied bytes buffer a ∙ rw (w, ne-eqb (byte bytes 1) 0 (λ z. omega arith), ne-eqb (byte bytes 1) 11 (λ z. omega arith));
         reads-cycles = λ bytes buffer a w is. replied bytes buffer a ∙ rw (w, is) (rw (spent-counts (logAt logs (framePlace bytes) .acts)));
+        equal-programming = λ bytes buffer w r e. (equal-leaves bytes buffer w r e, never-eleven bytes buffer w r e);
         refused = λ a n p e. let same = demand1 row .unchanged a n p e in (same .0, same .1, refused-leaves a n p e);
         reading-accepted = ap (λ (o : Outcome). o .said .number) (tells logs good reading);
       }

@@ -5,7 +5,7 @@ use mathlib.Core.Path.{_≡_}
 use mathlib.Core.Logic.{_↔_}
 use mathlib.Core.Bool.{Bool, true, false}
 use mathlib.Core.List.{List, _∷_}
-use mathlib.Core.Option.{Option, some, none}
+use mathlib.Core.Option.{some, none}
 use Rattle.refusal.specs.Said.{accepts, refuses}
 use Rattle.settings.specs.Bytes.{byteOf, same}
 use Rattle.settings.specs.Faults.{Fault, OV, delay}
@@ -17,11 +17,11 @@ use Rattle.frame.specs.Frame.{byte, writes}
 use Rattle.frame.specs.Reply.{replyBytes}
 use Rattle.stack.specs.Row.{placeOf, boardAt}
 use Rattle.stack.specs.Frame.{framePlace}
-use Rattle.demands.specs.Paper.{Entry, sampled, programmed, History, staged, working, sampleOf, since, holds, runOf, places, letsGo, latched}
+use Rattle.demands.specs.Paper.{sampled, programmed, History, staged, working, sampleOf, holds, runOf, places, letsGo, latched}
 use Rattle.demands.specs.Acts.{Act, sample, frame, reading, outcome, next, openedRow, final}
 use Rattle.demands.specs.Table.{lent}
 use Rattle.demands.specs.Count.{differed, howMany}
-use Rattle.demands.specs.Turns.{Under}
+use Rattle.demands.specs.Turns.{Under, Calm}
 use Rattle.demands.specs.Demands.{Log, begun, logAt, taken, opens}
 
 -- ---- runs
@@ -66,6 +66,8 @@ pub record Answers (row : List Board) (logs : List Log) : Type 0 where
   pub frames-leave : (f : Fault) (bytes buffer : List ℕ) (at : ℕ) → isLatched f (next row (frame bytes buffer)) at ≡ isLatched f row at
   -- a fault that no one cell has stood at any time is not latched, however the cells take turns
   pub no-pooling : (f : Fault) (at : ℕ) → let l = logAt logs at in Under (l .cells) f (l .acts) → isLatched f row at ≡ false
+  -- nor is one whose condition never held, whatever was programmed
+  pub calm : (f : Fault) (at : ℕ) → let l = logAt logs at in Calm f (l .acts) → isLatched f row at ≡ false
   -- a read of registers 6 to 10 gives the working byte
   pub reads-working : (bytes buffer : List ℕ) → let l = logAt logs (framePlace bytes) in
       Accepted row (frame bytes buffer) → writes (byte bytes 0) ≡ false → 6 ≤ byte bytes 1 → byte bytes 1 ≤ 10
@@ -74,6 +76,10 @@ pub record Answers (row : List Board) (logs : List Log) : Type 0 where
   pub reads-cycles : (bytes buffer : List ℕ) → let l = logAt logs (framePlace bytes) in
       Accepted row (frame bytes buffer) → writes (byte bytes 0) ≡ false → byte bytes 1 ≡ 11
       → outcome row (frame bytes buffer) .said ≡ accepts (replyBytes (byte bytes 0) 11 (howMany differed (l .acts)))
+  -- programming with staged equal to working changes no record, and is never refused for want of a cycle
+  pub equal-programming : (bytes buffer : List ℕ) → let l = logAt logs (framePlace bytes) in
+      writes (byte bytes 0) ≡ true → byte bytes 1 ≡ 11 → same (staged (l .acts)) (working (l .acts)) ≡ true
+      → (next row (frame bytes buffer) ≡ row) × (outcome row (frame bytes buffer) .said ≡ refuses 11 → ⊥)
   -- a refused act changes no record and no byte of its buffer, and joins no history: a refused sample is in no stretch and breaks none
   pub refused : (a : Act) (n : ℕ) → 0 < n → outcome row a .said ≡ refuses n → (next row a ≡ row) × (outcome row a .buffer ≡ lent a) × (taken logs a ≡ logs)
   -- a whole-stack reading is never refused
