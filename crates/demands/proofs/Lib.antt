@@ -1,4 +1,5 @@
 pub mod Lists
+pub mod Runs
 pub mod Given
 pub mod Clear
 pub mod Table

@@ -1,6 +1,6 @@
--- What a mechanic would ask, answered: of runs, and of the library after any opening and any acts.
+-- What a mechanic would ask of the library after any opening and any acts, answered.
 -- Assumes nothing.
-use Prim.Native.Nat.{ℕ, _+_, _<_, _≤_}
+use Prim.Native.Nat.{ℕ, _<_, _≤_}
 use native.Mathlib.Omega.{arith}
 use mathlib.Core.Path.{_≡_, refl, sym, ap, _∙_, subst}
 use mathlib.Core.Logic.{_↔_}
@@ -15,8 +15,7 @@ use Rattle.refusal.specs.Said.{Said, Bar, accepts, refuses, first}
 use Rattle.lists.proofs.Split.{split}
 use Rattle.settings.specs.Bytes.{same}
 use Rattle.settings.specs.Faults.{Fault, SCD, OCD, OV, UV, OT, delay}
-use Rattle.settings.proofs.Laws.{same-yes}
-use Rattle.runs.specs.Run.{stretch, lasting, past}
+use Rattle.runs.specs.Run.{past}
 use Rattle.latches.specs.Latches.{latch, latches, latchesOf, latchNext}
 use Rattle.latches.proofs.Packed.{latches-kept}
 use Rattle.board.specs.declared.Board.{Board}
@@ -26,10 +25,10 @@ use Rattle.frame.specs.Frame.{byte, writes}
 use Rattle.registers.specs.Registers.{boardAfter}
 use Rattle.stack.specs.Row.{goodRow, placeOf}
 use Rattle.stack.specs.Frame.{framePlace, frameRow}
-use Rattle.demands.specs.Paper.{sampled, wrote, programmed, asked, History, staged, working, Sample, sampleOf, since, holds, runOf, stoodDelay, places, stands, letsGo, latched, latchesAt}
+use Rattle.demands.specs.Paper.{sampled, wrote, programmed, asked, History, staged, working, sampleOf, runOf, stoodDelay, places, stands, letsGo, latched, latchesAt}
 use Rattle.demands.specs.Acts.{Act, sample, frame, reading, Outcome, bars, outcome, next, final}
 use Rattle.demands.specs.Demands.{Log, log, begun, logAt, joined, rowGiven, frameEntry, joins, taken, frameSays}
-use Rattle.demands.specs.Mechanic.{Runs, Stood, isLatched, Accepted, Answers, Mechanic}
+use Rattle.demands.specs.Mechanic.{Stood, isLatched, Accepted, Answers, Mechanic}
 use Rattle.demands.proofs.Lists.{some-at, some-yes}
 use Rattle.demands.proofs.Table.{judged-number, stays, values, act-judged, demand1}
 use Rattle.demands.proofs.Tells.{board-at, sample-joins, tells, gives}
@@ -37,37 +36,7 @@ use Rattle.demands.proofs.Demanded.{demand2, final-good}
 use Rattle.demands.proofs.Cycles.{spent-counts}
 use Rattle.demands.proofs.Turns.{never-latched, calm-never}
 
--- ---- runs
-
-abbrev isNone : Option ℕ → Bool
-isNone none = true
-isNone (some t) = false
-
-abbrev longer : ℕ → Option ℕ → Option ℕ
-longer e none = none
-longer e (some t) = some (e + t)
-
-abbrev elapsedOf : Sample → ℕ
-elapsedOf x = x .readings .elapsed
-
-begin : (x : Sample) (older : List Sample) → lasting elapsedOf older ≡ none → lasting elapsedOf (x ∷ older) ≡ some 0
-begin x [] e = refl
-begin x (y ∷ older) e = absurd (true≢false (sym (ap isNone e)))
-
-go-on : (x : Sample) (older : List Sample) (t : ℕ) → lasting elapsedOf older ≡ some t → lasting elapsedOf (x ∷ older) ≡ some (elapsedOf x + t)
-go-on x [] t e = absurd (true≢false (ap isNone e))
-go-on x (y ∷ older) t e = ap (longer (elapsedOf x)) e
-
-pub runs : (f : Fault) (k : ℕ) (h : History) → Runs f k h
-runs f k h =
-    let before = stretch (holds f (working h) k) (since h) in
-    record {
-      fails = λ x mv e. rw e;
-      begins = λ x mv e n. rw e (begin (sampleOf x mv) before n);
-      goes-on = λ x mv t e n. rw e (go-on (sampleOf x mv) before t n);
-      starts-over = λ e. rw e;
-      not-at-equal = λ e. rw (e, same-yes (staged h) (working h) e);
-    }
+-- ---- a condition that has stood its delay
 
 -- a run is at or past a delay exactly if there is one so long
 past-yes : (d : ℕ) (o : Option ℕ) → past d o ≡ true → (t : ℕ) × (o ≡ some t) × (d ≤ t)

@@ -134,7 +134,7 @@ module _ (logs : List Log) (n : ℕ) (x : Readings) (mv : List ℕ) where
 accessed : (write programs : Bool) (m : ℕ) → m ≤ 10 → (h : History) (register v : ℕ)
     → cond write (cond programs (registers.programmed (given m h)) (staging (given m h) register v)) (given m h)
     ≡ given m (cond write (cond programs programmed (wrote register v)) asked ∷ h)
-accessed true true m few h register v = given-programmed m few h
+accessed true true m few h register v = given-programmed m h few
 accessed true false m few h register v = given-wrote m h register v
 accessed false programs m few h register v = given-asked m h
 

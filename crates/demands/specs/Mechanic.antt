@@ -17,7 +17,7 @@ use Rattle.frame.specs.Frame.{byte, writes}
 use Rattle.frame.specs.Reply.{replyBytes}
 use Rattle.stack.specs.Row.{placeOf, boardAt}
 use Rattle.stack.specs.Frame.{framePlace}
-use Rattle.demands.specs.Paper.{sampled, programmed, History, staged, working, sampleOf, holds, runOf, places, letsGo, latched}
+use Rattle.demands.specs.Paper.{sampled, programmed, History, staged, working, spent, sampleOf, holds, runOf, places, letsGo, latched}
 use Rattle.demands.specs.Acts.{Act, sample, frame, reading, outcome, next, openedRow, final}
 use Rattle.demands.specs.Table.{lent}
 use Rattle.demands.specs.Count.{differed, howMany}
@@ -38,6 +38,11 @@ pub record Runs (f : Fault) (k : ℕ) (h : History) : Type 0 where
   -- a spent cycle starts it over, an equal programming does not
   pub starts-over : same (staged h) (working h) ≡ false → runOf f k (programmed ∷ h) ≡ none
   pub not-at-equal : same (staged h) (working h) ≡ true → runOf f k (programmed ∷ h) ≡ runOf f k h
+
+-- and a programming of the cycles spent
+pub record Cycles (h : History) : Type 0 where
+  pub none-at-equal : same (staged h) (working h) ≡ true → spent (programmed ∷ h) ≡ spent h
+  pub one-at-unlike : same (staged h) (working h) ≡ false → spent (programmed ∷ h) ≡ spent h + 1
 
 -- some one run is at or past the delay: that of a cell with OV and UV, of n cells
 abbrev pub Stood : ℕ → Fault → History → Type 0
