@@ -15,7 +15,7 @@ use Rattle.cells.specs.Each.{each, all}
 use Rattle.demands.specs.Acts.{reading}
 use Rattle.demands.specs.Tied.{tied}
 use Rattle.demands.specs.Shuffle.{times, turn, Shuffle, inside, keepsTurn, shuffles}
-use Rattle.demands.specs.Examples.{six, orders, right}
+use Rattle.demands.specs.Examples.{seven, orders, right}
 use Rattle.demands.proofs.Lists.{all-at, all-yes}
 
 -- ---- places outside are not named
@@ -92,11 +92,15 @@ pub orders-right : right orders ≡ true
 unfolding each
 orders-right = refl
 
--- so one of them is a shuffle, and one in which a board passes itself is none
-pub allowed : Shuffle (tied 2) reading six (5 ∷ 1 ∷ 4 ∷ 0 ∷ 2 ∷ 3 ∷ [])
+-- so one of them is a shuffle; one in which a board passes itself is none, nor one in which it passes a reading
+pub allowed : Shuffle (tied 2) reading seven (6 ∷ 2 ∷ 5 ∷ 0 ∷ 1 ∷ 3 ∷ 4 ∷ [])
 unfolding each
-allowed = from-test (tied 2) reading six (5 ∷ 1 ∷ 4 ∷ 0 ∷ 2 ∷ 3 ∷ []) refl
+allowed = from-test (tied 2) reading seven (6 ∷ 2 ∷ 5 ∷ 0 ∷ 1 ∷ 3 ∷ 4 ∷ []) refl
 
-pub past-itself : Shuffle (tied 2) reading six (3 ∷ 1 ∷ 2 ∷ 0 ∷ 4 ∷ 5 ∷ []) → ⊥
+pub past-itself : Shuffle (tied 2) reading seven (1 ∷ 0 ∷ 2 ∷ 3 ∷ 4 ∷ 5 ∷ 6 ∷ []) → ⊥
 unfolding each
-past-itself w = true≢false (sym (to-test (tied 2) reading six (3 ∷ 1 ∷ 2 ∷ 0 ∷ 4 ∷ 5 ∷ []) w))
+past-itself w = true≢false (sym (to-test (tied 2) reading seven (1 ∷ 0 ∷ 2 ∷ 3 ∷ 4 ∷ 5 ∷ 6 ∷ []) w))
+
+pub past-reading : Shuffle (tied 2) reading seven (0 ∷ 1 ∷ 3 ∷ 2 ∷ 4 ∷ 5 ∷ 6 ∷ []) → ⊥
+unfolding each
+past-reading w = true≢false (sym (to-test (tied 2) reading seven (0 ∷ 1 ∷ 3 ∷ 2 ∷ 4 ∷ 5 ∷ 6 ∷ []) w))
