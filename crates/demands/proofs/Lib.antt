@@ -9,6 +9,7 @@ pub mod Commute
 pub mod Places
 pub mod Order
 pub mod Examples
+pub mod Session
 pub mod Cycles
 pub mod Turns
 pub mod Mechanic

@@ -1,12 +1,16 @@
 -- Orders of seven acts on a stack of two boards, and which of them are shuffles (01, demand 3).
 -- Assumes nothing.
 use Prim.Native.Nat.{ℕ}
+use mathlib.Core.Path.{_≡_}
 use mathlib.Core.Bool.{Bool, true, false, cond, not, _&&_}
 use mathlib.Core.List.{List, [], _∷_}
 use lib.IntN.{pos}
-use Rattle.demands.specs.Acts.{Act, sample, frame, reading}
+use Rattle.settings.specs.Faults.{SCD}
+use Rattle.demands.specs.Paper.{latched}
+use Rattle.demands.specs.Acts.{Act, sample, frame, reading, final}
 use Rattle.demands.specs.Tied.{tied}
 use Rattle.demands.specs.Shuffle.{shuffles}
+use Rattle.demands.specs.Demands.{Log, begun, logAt, taken, told}
 
 abbrev of : ℕ → Act
 of board = sample board (record { elapsed = 1000; shunt = pos 0; thermistor = 2000; load = 0 }) (4000 ∷ 4000 ∷ 4000 ∷ 4000 ∷ 4000 ∷ [])
@@ -42,3 +46,24 @@ orders =
 abbrev pub right : List Case → Bool
 right [] = true
 right (c ∷ cases) = cond (shuffles (tied 2) reading seven (c .order)) (c .allowed) (not (c .allowed)) && right cases
+
+-- ---- why they are tied: in another order the reading says something else, and the board ends otherwise
+
+abbrev trip : Act
+trip = sample 1 (record { elapsed = 1000; shunt = pos 60001; thermistor = 2000; load = 1 }) (4000 ∷ 4000 ∷ 4000 ∷ 4000 ∷ 4000 ∷ [])
+
+abbrev start : List Log
+start = begun (5 ∷ [])
+
+-- what a reading says after these acts, and whether board 1 is short-circuited
+abbrev pub readAfter : List Act → List ℕ
+readAfter acts = told (final taken start acts) reading .said .values
+
+abbrev pub shortAfter : List Act → Bool
+shortAfter acts = latched 5 SCD (logAt (final taken start acts) 0 .acts)
+
+pub record Matters : Type 0 where
+  pub before-reading : readAfter (trip ∷ []) ≡ 1 ∷ 0 ∷ 0 ∷ 0 ∷ 0 ∷ []
+  pub behind-reading : readAfter [] ≡ 0 ∷ 1 ∷ 1 ∷ 0 ∷ 0 ∷ []
+  pub then-rest : shortAfter (trip ∷ of 1 ∷ []) ≡ false
+  pub rest-first : shortAfter (of 1 ∷ trip ∷ []) ≡ true

@@ -6,6 +6,7 @@ pub mod Shuffle
 pub mod Tied
 pub mod Demands
 pub mod Examples
+pub mod Session
 pub mod Count
 pub mod Turns
 pub mod Mechanic
