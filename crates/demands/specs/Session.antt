@@ -3,6 +3,7 @@
 use Prim.Native.Nat.{ℕ}
 use mathlib.Core.List.{List, [], _∷_}
 use lib.IntN.{ℤ, pos}
+use lib.ListN.{replicate}
 use Rattle.demands.specs.Acts.{Act, sample, frame, reading}
 
 abbrev sampled : ℕ → ℕ → ℤ → Act
@@ -15,7 +16,7 @@ counts = 5 ∷ []
 abbrev pub session : List Act
 session =
     sampled 1000 0 (pos 0)
-    ∷ frame (2 ∷ 0 ∷ 0 ∷ 214 ∷ []) (0 ∷ 0 ∷ 0 ∷ 0 ∷ [])
+    ∷ frame (2 ∷ 0 ∷ 0 ∷ 214 ∷ []) (replicate 4 0)
     ∷ sampled 1000 1 (pos 60001)
     ∷ reading
     ∷ sampled 20000 0 (pos 0)
