@@ -1,3 +1,2 @@
 pub mod Shunt
 pub mod Sample
-pub mod Marked

@@ -2,8 +2,8 @@
 -- Assumes nothing.
 use Prim.Native.Nat.{ℕ}
 use mathlib.Core.Path.{_≡_, refl, sym, ap, _∙_}
-use mathlib.Core.Bool.{Bool, true, false, true≢false, cond}
-use mathlib.Core.List.{List, _∷_}
+use mathlib.Core.Bool.{Bool, true, false, true≢false, cond, not, _&&_}
+use mathlib.Core.List.{List, [], _∷_}
 use lib.Dec.{eqb}
 use Rattle.refusal.specs.Said.{Bar, first, accepts, refuses, judged, kept}
 
@@ -14,6 +14,11 @@ clear b bars n = by (b .when)
     by : (t : Bool) → eqb (cond t (b .number) (first bars)) 0 ≡ true → (t ≡ false) × (eqb (first bars) 0 ≡ true)
     by true e = absurd (true≢false (sym e ∙ n))
     by false e = (refl, e)
+
+-- a table in which no row has number 0
+abbrev pub numbered : List Bar → Bool
+numbered [] = true
+numbered (b ∷ bars) = not (eqb (b .number) 0) && numbered bars
 
 -- values and new states matter only where the act is accepted
 pub judged-same : (bars : List Bar) (vs ws : List ℕ) → (eqb (first bars) 0 ≡ true → vs ≡ ws) → judged bars vs ≡ judged bars ws

@@ -1,13 +1,14 @@
 -- Two acts that are not tied commute: each keeps its outcome, and the logs after both are the same.
 -- Assumes nothing.
 use Prim.Native.Nat.{ℕ}
-use mathlib.Core.Path.{_≡_, refl, sym, ap, _∙_, subst}
-use mathlib.Core.Bool.{Bool, true, false, true≢false, cond, not, _&&_}
+use mathlib.Core.Path.{_≡_, refl, sym, ap, _∙_}
+use mathlib.Core.Bool.{Bool, true, false, true≢false, cond, not}
 use mathlib.Core.List.{List, [], _∷_, _++_}
 use lib.Dec.{eqb}
 use lib.ListN.{length, set, drop, length-map}
 use lib.Seq.{getD-set-other, set-comm, set-getD}
-use Rattle.lists.proofs.Split.{both, not-yes}
+use borrow.Author.Tests.{eqb-true, eqb-false, eq-eqb, ne-eqb}
+use Rattle.lists.proofs.Split.{split, both, not-yes}
 use Rattle.refusal.specs.Said.{Said, Bar, bar, accepts, refuses, first, judged, kept}
 use Rattle.board.specs.declared.Board.{Board}
 use Rattle.board.specs.declared.Readings.{Readings}
@@ -18,9 +19,10 @@ use Rattle.stack.specs.Row.{goodRow, placeOf, boardAt}
 use Rattle.stack.specs.Frame.{framePlace}
 use Rattle.demands.specs.Paper.{Entry, sampled, asked}
 use Rattle.demands.specs.Acts.{Act, sample, frame, reading, Outcome, bars}
-use Rattle.demands.specs.Tied.{Who, board, whole, nobody, early, who, Ties, together, before-reading, behind-reading, Tied}
+use Rattle.demands.specs.Table.{lent}
+use Rattle.demands.specs.Tied.{Who, board, whole, nobody, early, who, ties, tied}
 use Rattle.demands.specs.Demands.{Log, log, logAt, joined, boardGiven, rowGiven, frameEntry, joins, taken, sampleSays, frameSays, told}
-use Rattle.demands.proofs.Clear.{clear}
+use Rattle.demands.proofs.Clear.{clear, numbered}
 use Rattle.demands.proofs.Tells.{board-at}
 use Rattle.demands.proofs.Demanded.{countsOf, same-counts, goodOf, good-counts}
 
@@ -53,11 +55,6 @@ answerIn l (frame bytes buffer) =
     record { said = judged refusals reply; buffer = kept refusals buffer (reply ++ drop 4 buffer) }
 answerIn l reading = record { said = accepts []; buffer = [] }
 
-abbrev lent : Act → List ℕ
-lent (sample n x mv) = []
-lent (frame bytes buffer) = buffer
-lent reading = []
-
 abbrev refusedEarly : ℕ → Act → Outcome
 refusedEarly m a = record { said = refuses (first (early m a)); buffer = lent a }
 
@@ -73,27 +70,33 @@ answerFor m (board i) logs a = answerIn (logAt logs i) a
 answerFor m whole logs a = told logs reading
 answerFor m nobody logs a = refusedEarly m a
 
-flip : (v w : Who) → Ties v w → Ties w v
-flip v w together = together
-flip v w before-reading = behind-reading
-flip v w behind-reading = before-reading
-
-other-board : (i j : ℕ) → (Ties (board i) (board j) → ⊥) → i ≡ j → ⊥
-other-board i j f e = f (subst (λ (k : ℕ). Ties (board i) (board k)) e together)
+flip : (v w : Who) → ties v w ≡ ties w v
+flip (board i) (board j) =
+    split (eqb i j)
+    (λ e. e ∙ sym (eq-eqb j i (sym (eqb-true i j e))))
+    (λ e. e ∙ sym (ne-eqb j i (λ h. eqb-false i j e (sym h))))
+flip (board i) whole = refl
+flip (board i) nobody = refl
+flip whole (board j) = refl
+flip whole whole = refl
+flip whole nobody = refl
+flip nobody (board j) = refl
+flip nobody whole = refl
+flip nobody nobody = refl
 
 -- an act leaves the outcome of one that it is not tied to
-undisturbed : (m : ℕ) (v w : Who) (logs : List Log) (a b : Act) → (Ties v w → ⊥) → answerFor m w (nextFor v logs a) b ≡ answerFor m w logs b
+undisturbed : (m : ℕ) (v w : Who) (logs : List Log) (a b : Act) → ties v w ≡ false → answerFor m w (nextFor v logs a) b ≡ answerFor m w logs b
 undisturbed m (board i) (board j) logs a b f =
-    ap (λ (l : Log). answerIn l b) (getD-set-other logs i j (stepIn (logAt logs i) a) (log 0 []) (λ e. other-board i j f (sym e)))
-undisturbed m (board i) whole logs a b f = absurd (f before-reading)
+    ap (λ (l : Log). answerIn l b) (getD-set-other logs i j (stepIn (logAt logs i) a) (log 0 []) (λ e. eqb-false i j f (sym e)))
+undisturbed m (board i) whole logs a b f = absurd (true≢false f)
 undisturbed m (board i) nobody logs a b f = refl
 undisturbed m whole w logs a b f = refl
 undisturbed m nobody w logs a b f = refl
 
 -- and the two leave the same logs in either order
-either-order : (v w : Who) (logs : List Log) (a b : Act) → (Ties v w → ⊥) → nextFor w (nextFor v logs a) b ≡ nextFor v (nextFor w logs b) a
+either-order : (v w : Who) (logs : List Log) (a b : Act) → ties v w ≡ false → nextFor w (nextFor v logs a) b ≡ nextFor v (nextFor w logs b) a
 either-order (board i) (board j) logs a b f =
-    let other = other-board i j f in
+    let other = eqb-false i j f in
     let p = getD-set-other logs i j (stepIn (logAt logs i) a) (log 0 []) (λ e. other (sym e)) in
     let q = getD-set-other logs j i (stepIn (logAt logs j) b) (log 0 []) other in
     ap (λ (l : Log). set (set logs i (stepIn (logAt logs i) a)) j (stepIn l b)) p
@@ -110,10 +113,6 @@ either-order nobody nobody logs a b f = refl
 
 -- ---- refusals in two parts: early ones, and then those once the board is known
 
-abbrev numbers : List Bar → Bool
-numbers [] = true
-numbers (b ∷ l) = not (eqb (b .number) 0) && numbers l
-
 first-early : (es ls : List Bar) → eqb (first es) 0 ≡ false → first (es ++ ls) ≡ first es
 first-early [] ls e = absurd (true≢false e)
 first-early (b ∷ es) ls e = by (b .when) (first-early es ls) e
@@ -123,10 +122,10 @@ first-early (b ∷ es) ls e = by (b .when) (first-early es ls) e
     by true rest e = refl
     by false rest e = rest e
 
-first-late : (es ls : List Bar) → numbers es ≡ true → eqb (first es) 0 ≡ true → first (es ++ ls) ≡ first ls
+first-late : (es ls : List Bar) → numbered es ≡ true → eqb (first es) 0 ≡ true → first (es ++ ls) ≡ first ls
 first-late [] ls n e = refl
 first-late (b ∷ es) ls n e =
-    let m = both (not (eqb (b .number) 0)) (numbers es) n in
+    let m = both (not (eqb (b .number) 0)) (numbered es) n in
     let c = clear b es (not-yes (eqb (b .number) 0) (m .0)) e in
     ap (λ (t : Bool). cond t (b .number) (first (es ++ ls))) (c .0) ∙ first-late es ls (m .1) (c .1)
 
@@ -139,7 +138,7 @@ set-kept true logs at l = refl
 set-kept false logs at l = sym (set-getD logs at (log 0 []))
 
 -- refusals `bs` that come to the early ones `es` and the late ones `ls`
-module _ (bs es ls : List Bar) (parts : first bs ≡ first (es ++ ls)) (n : numbers es ≡ true) where
+module _ (bs es ls : List Bar) (parts : first bs ≡ first (es ++ ls)) (n : numbered es ≡ true) where
   kept-late : {A : Type 0} (old new : A) → eqb (first es) 0 ≡ true → kept bs old new ≡ kept ls old new
   kept-late {A} old new e = ap (λ (k : ℕ). cond {A = A} (eqb k 0) new old) (parts ∙ first-late es ls n e)
 
@@ -233,7 +232,7 @@ module _ (counts : List ℕ) (good : goodOf counts ≡ true) where
     agrees reading = (refl, refl)
 
   -- two acts that are not tied, the first before the second
-  pub commute : (logs : List Log) (a b : Act) → Good logs → (Tied m a b → ⊥)
+  pub commute : (logs : List Log) (a b : Act) → Good logs → tied m a b ≡ false
       → (told (taken logs a) b ≡ told logs b) × (told (taken logs b) a ≡ told logs a) × (taken (taken logs a) b ≡ taken (taken logs b) a)
   commute logs a b g f =
       let v = who m a in
@@ -243,6 +242,6 @@ module _ (counts : List ℕ) (good : goodOf counts ≡ true) where
       let p′ = agrees (taken logs b) (keeps logs b g) a in
       let q′ = agrees (taken logs a) (keeps logs a g) b in (
         q′ .1 ∙ ap (λ (z : List Log). answerFor m w z b) (p .0) ∙ undisturbed m v w logs a b f ∙ sym (q .1),
-        p′ .1 ∙ ap (λ (z : List Log). answerFor m v z a) (q .0) ∙ undisturbed m w v logs b a (λ t. f (flip w v t)) ∙ sym (p .1),
+        p′ .1 ∙ ap (λ (z : List Log). answerFor m v z a) (q .0) ∙ undisturbed m w v logs b a (flip w v ∙ f) ∙ sym (p .1),
         q′ .0 ∙ ap (λ (z : List Log). nextFor w z b) (p .0) ∙ either-order v w logs a b f ∙ ap (λ (z : List Log). nextFor v z a) (sym (q .0)) ∙ sym (p′ .0),
       )

@@ -9,8 +9,8 @@ use lib.Dec.{leb, eqb}
 use lib.ListN.{set}
 use borrow.Author.Tests.{leb-false}
 use Rattle.refusal.specs.Said.{Bar, bar, first, kept}
+use Rattle.lists.proofs.Split.{split}
 use Rattle.settings.specs.Bytes.{same}
-use Rattle.marks.specs.Marks.{bit}
 use Rattle.board.specs.declared.Board.{Board}
 use Rattle.frame.specs.Frame.{byte, writes}
 use Rattle.registers.specs.Registers.{known, fits, programs, lacksCycle}
@@ -20,23 +20,24 @@ use Rattle.demands.specs.Paper.{Entry, sampled, wrote, programmed, asked
 use Rattle.demands.specs.Count.{differed, howMany}
 use Rattle.demands.specs.Acts.{Act, sample, frame, reading, bars, next, openedRow, final}
 use Rattle.demands.specs.Demands.{Log, begun, logAt, joined, boardGiven, rowGiven, frameEntry, joins, taken, opens}
-use Rattle.demands.proofs.Given.{given-programmed}
+use Rattle.demands.proofs.Runs.{cycles}
+use Rattle.demands.proofs.Given.{equal-stays}
 use Rattle.demands.proofs.Clear.{clear}
 use Rattle.demands.proofs.Tells.{board-at, frame-fits}
 use Rattle.demands.proofs.Demanded.{demand2}
 
-pub equal-programming : (n : ℕ) → n ≤ 10 → (h : History) → same (staged h) (working h) ≡ true → given n (programmed ∷ h) ≡ given n h
-equal-programming n few h e = sym (given-programmed n few h) ∙ rw e
+pub equal-programming : (n : ℕ) (h : History) → same (staged h) (working h) ≡ true → given n (programmed ∷ h) ≡ given n h
+equal-programming n h e = sym (equal-stays n h e)
 
 pub spent-counts : (h : History) → spent h ≡ howMany differed h
 spent-counts [] = refl
 spent-counts (sampled x mv ∷ h) = let rest = spent-counts h in omega arith
 spent-counts (wrote register v ∷ h) = let rest = spent-counts h in omega arith
-spent-counts (programmed ∷ h) = by (same (staged h) (working h)) (spent-counts h)
-  where
-    by : (t : Bool) → spent h ≡ howMany differed h → cond t (spent h) (spent h + 1) ≡ bit (not t) + howMany differed h
-    by true rest = omega arith
-    by false rest = omega arith
+spent-counts (programmed ∷ h) =
+    let rest = spent-counts h in
+    split (same (staged h) (working h))
+    (λ e. cycles h .none-at-equal e ∙ rw e (omega arith))
+    (λ e. cycles h .one-at-unlike e ∙ rw e (omega arith))
 spent-counts (asked ∷ h) = let rest = spent-counts h in omega arith
 
 -- ---- at most three

@@ -63,8 +63,11 @@ neither false true e = (refl, refl)
 neither false false e = (refl, sym e)
 neither true b e = absurd (true≢false e)
 
-pub opens-good : (counts : List ℕ) → opens counts ≡ true → (badCount (length counts) ≡ false) × (goodCounts counts ≡ true)
+opens-good : (counts : List ℕ) → opens counts ≡ true → (badCount (length counts) ≡ false) × (goodCounts counts ≡ true)
 opens-good counts e = neither (badCount (length counts)) (goodCounts counts) (clear (bar 1 (badCount (length counts) || not (goodCounts counts))) [] refl e .0)
+
+pub opens-fine : (counts : List ℕ) → opens counts ≡ true → goodOf counts ≡ true
+opens-fine counts e = let good = opens-good counts e in rw (good .0, good .1)
 
 -- a fresh board is the one that the paper gives of no acts
 fresh-given : (counts : List ℕ) → goodCounts counts ≡ true → opened counts ≡ rowGiven (begun counts)
@@ -74,7 +77,7 @@ fresh-given (n ∷ counts) e =
     let good = both (not (outside 5 10 n)) (goodCounts counts) e in
     ap₂ (λ (b : Board) (row : List Board). b ∷ row) (sym (given-start n (within 5 10 n (good .0) .1))) (fresh-given counts (good .1))
 
-pub opened-given : (counts : List ℕ) → opens counts ≡ true → openedRow counts ≡ rowGiven (begun counts)
+opened-given : (counts : List ℕ) → opens counts ≡ true → openedRow counts ≡ rowGiven (begun counts)
 unfolding openOf freshRow
 opened-given counts e =
     let good = opens-good counts e in
@@ -96,9 +99,18 @@ given-on logs (a ∷ acts) = ap (λ (row : List Board). final next row acts) (gi
 
 pub demand2 : Demand2
 demand2 counts e acts =
-    let good = opens-good counts e in
     let start = opened-given counts e in
-    let fine : goodOf (countsOf (begun counts)) ≡ true = ap goodOf (begun-counts counts) ∙ rw (good .0, good .1) in (
+    let fine : goodOf (countsOf (begun counts)) ≡ true = ap goodOf (begun-counts counts) ∙ opens-fine counts e in (
       ap (λ (row : List Board). answers next outcome row acts) start ∙ told-on (begun counts) fine acts,
       ap (λ (row : List Board). final next row acts) start ∙ given-on (begun counts) acts,
     )
+
+-- ---- the row stays a good one
+
+final-counts : (logs : List Log) (acts : List Act) → countsOf (final taken logs acts) ≡ countsOf logs
+final-counts logs [] = refl
+final-counts logs (a ∷ acts) = final-counts (taken logs a) acts ∙ same-counts logs a
+
+pub final-good : (counts : List ℕ) → opens counts ≡ true → (acts : List Act) → goodRow (rowGiven (final taken (begun counts) acts)) ≡ true
+final-good counts e acts =
+    good-counts (final taken (begun counts) acts) ∙ ap goodOf (final-counts (begun counts) acts ∙ begun-counts counts) ∙ opens-fine counts e

@@ -1,13 +1,13 @@
 -- What a board keeps is what the paper gives of its accepted acts: at the start, and one act on.
 -- Assumes nothing.
-use Prim.Native.Nat.{ℕ, _+_, _<_, _≤_}
+use Prim.Native.Nat.{ℕ, _<_, _≤_}
 use native.Mathlib.Omega.{arith}
 use mathlib.Core.Path.{_≡_, refl, ap, ap₂, sym, _∙_}
 use mathlib.Core.Bool.{Bool, true, false, cond, or-false}
 use mathlib.Core.List.{List, [], _∷_, _++_, dropLast}
 use lib.Dec.{leb·zero}
 use lib.ListN.{length, drop}
-use Rattle.settings.specs.declared.Settings.{Settings}
+use Rattle.lists.proofs.Split.{split}
 use Rattle.settings.specs.Levels.{ovRelease}
 use Rattle.settings.specs.Bytes.{same}
 use Rattle.settings.proofs.Laws.{same-yes}
@@ -33,6 +33,7 @@ use Rattle.board.specs.Sample.{fresh, hot, currentsNext, latchesNext, sweptAt, 
 use Rattle.registers.specs.Registers as registers
 use Rattle.registers.specs.Registers.{staging}
 use Rattle.demands.specs.Paper.{sampled, wrote, programmed, asked, History, staged, working, spent, Sample, sampleOf, since, holds, runOf, stoodDelay, stands, letsGo, latched, latchesAt, flagged, flagsAt, cellGiven, given}
+use Rattle.demands.proofs.Runs.{runs, cycles}
 use Rattle.demands.proofs.Lists.{each-same, each-behind, each-before, each-one, number-none}
 
 -- ---- the start
@@ -165,28 +166,48 @@ given-wrote n h register v = refl
 pub given-asked : (n : ℕ) (h : History) → given n h ≡ given n (asked ∷ h)
 given-asked n h = refl
 
--- a programming, by whether staged and working are equal and by the settings that work after it
-module _ (n : ℕ) (few : n ≤ 10) (h : History) where
-  abbrev runBy : Bool → Settings → Fault → ℕ → ℕ
-  runBy equal w f k = kept (run (λ y. y .readings .elapsed) (holds f w k) (cond equal (since h) []))
+-- a programming, by whether staged and working are equal
+module _ (n : ℕ) (h : History) where
+  abbrev then : History
+  then = programmed ∷ h
 
-  abbrev programmedBy : Bool → Settings → Board
-  programmedBy equal w =
-      record {
+  -- nothing changes
+  pub equal-stays : same (staged h) (working h) ≡ true → given n h ≡ given n then
+  equal-stays e =
+      let run-is : (f : Fault) (k : ℕ) → kept (runOf f k h) ≡ kept (runOf f k then) = λ f k. sym (ap kept (runs f k h .not-at-equal e)) in
+      let cell-is : (k : ℕ) → cellGiven h k ≡ cellGiven then k = λ k i. record { ov = run-is OV k i; uv = run-is UV k i } in
+      let cells-are = each-same n (cellGiven h) (cellGiven then) (λ k p. cell-is k) in
+      λ i. record {
         count = n;
         latches = latchesByte (latchesAt n h);
-        cycles = cond equal (spent h) (spent h + 1);
+        cycles = sym (cycles h .none-at-equal e) i;
         flags = number (flagsAt n h);
-        working = w;
+        working = sym (same-yes (staged h) (working h) e) i;
         staged = staged h;
-        currents = record { ocd = runBy equal w OCD 0; scd = runBy equal w SCD 0 };
-        cells = each 0 n (λ k. record { ov = runBy equal w OV k; uv = runBy equal w UV k }) ++ drop n noCells;
+        currents = record { ocd = run-is OCD 0 i; scd = run-is SCD 0 i };
+        cells = cells-are i ++ drop n noCells;
       }
 
-  by : (equal : Bool) → (equal ≡ true → staged h ≡ working h) → cond equal (given n h) (registers.spent (given n h)) ≡ programmedBy equal (staged h)
+  -- a cycle is spent, and every run starts over
+  unlike-spends : n ≤ 10 → same (staged h) (working h) ≡ false → registers.spent (given n h) ≡ given n then
   unfolding registers.spent
-  by true e = ap (programmedBy true) (sym (e refl))
-  by false e = rw (each-one 0 n 10 noCell few)
+  unlike-spends few e =
+      let over : (f : Fault) (k : ℕ) → 0 ≡ kept (runOf f k then) = λ f k. sym (ap kept (runs f k h .starts-over e)) in
+      let cell-is : (k : ℕ) → noCell ≡ cellGiven then k = λ k i. record { ov = over OV k i; uv = over UV k i } in
+      let cells-are = each-same n (λ k. noCell) (cellGiven then) (λ k p. cell-is k) in
+      let all-over = sym (each-one 0 n 10 noCell few) ∙ ap (λ (l : List Cell). l ++ drop n noCells) cells-are in
+      λ i. record {
+        count = n;
+        latches = latchesByte (latchesAt n h);
+        cycles = sym (cycles h .one-at-unlike e) i;
+        flags = number (flagsAt n h);
+        working = staged h;
+        staged = staged h;
+        currents = record { ocd = over OCD 0 i; scd = over SCD 0 i };
+        cells = all-over i;
+      }
 
-  pub given-programmed : registers.programmed (given n h) ≡ given n (programmed ∷ h)
-  given-programmed = by (same (staged h) (working h)) (same-yes (staged h) (working h))
+  pub given-programmed : n ≤ 10 → registers.programmed (given n h) ≡ given n then
+  given-programmed few =
+      let by : Bool → Board = λ equal. cond equal (given n h) (registers.spent (given n h)) in
+      split (same (staged h) (working h)) (λ e. ap by e ∙ equal-stays e) (λ e. ap by e ∙ unlike-spends few e)

@@ -1,9 +1,15 @@
 pub mod Lists
+pub mod Runs
 pub mod Given
 pub mod Clear
+pub mod Table
 pub mod Tells
 pub mod Demanded
 pub mod Commute
+pub mod Places
 pub mod Order
+pub mod Examples
+pub mod Session
 pub mod Cycles
 pub mod Turns
+pub mod Mechanic

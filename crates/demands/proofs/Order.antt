@@ -2,21 +2,41 @@
 -- Assumes nothing.
 use Prim.Native.Nat.{ℕ}
 use mathlib.Core.Path.{_≡_, refl, sym, ap, ap₂, _∙_, subst}
-use mathlib.Core.Bool.{true}
+use mathlib.Core.Bool.{Bool, true}
 use mathlib.Core.List.{List, [], _∷_, _++_, map, head-eq-of-cons-eq, tail-eq-of-cons-eq}
 use lib.ListN.{length}
-use Rattle.demands.specs.Acts.{Act, Outcome, final, answers}
-use Rattle.demands.specs.Shuffle.{Free, Shuffle}
-use Rattle.demands.specs.Tied.{Tied}
-use Rattle.demands.specs.Demands.{Log, begun, rowGiven, taken, told, Answered, answered, actsOf, TiedIn, Demand3}
-use Rattle.demands.proofs.Demanded.{goodOf, begun-counts, opens-good, demand2}
+use Rattle.demands.specs.Acts.{Act, reading, Outcome, outcome, next, openedRow, final, answers}
+use Rattle.demands.specs.Shuffle.{picked, Shuffle, Free, TakenOut}
+use Rattle.demands.specs.Tied.{tied}
+use Rattle.demands.specs.Demands.{Log, begun, rowGiven, taken, told, opens, nothing, Demand3}
+use Rattle.demands.proofs.Demanded.{goodOf, begun-counts, opens-fine, demand2}
+use Rattle.demands.proofs.Places.{picked-map, shuffle-map, taken-out}
 use Rattle.demands.proofs.Commute.{Good, keeps, commute}
+
+-- ---- an act of the first list, and what the paper tells of it there
+
+pub record Answered : Type 0 where
+  pub act : Act
+  pub gets : Outcome
+
+abbrev pub answered : List Log → List Act → List Answered
+answered logs [] = []
+answered logs (a ∷ acts) = record { act = a; gets = told logs a } ∷ answered (taken logs a) acts
+
+abbrev pub actsOf : List Answered → List Act
+actsOf l = map (λ p. p .act) l
+
+abbrev pub getsOf : List Answered → List Outcome
+getsOf l = map (λ p. p .gets) l
+
+abbrev pub tiedIn : ℕ → Answered → Answered → Bool
+tiedIn m p q = tied m (p .act) (q .act)
 
 acts-answered : (logs : List Log) (acts : List Act) → actsOf (answered logs acts) ≡ acts
 acts-answered logs [] = refl
 acts-answered logs (a ∷ acts) = ap (λ (l : List Act). a ∷ l) (acts-answered (taken logs a) acts)
 
-gets-answered : (logs : List Log) (acts : List Act) → answers taken told logs acts ≡ map (λ p. p .gets) (answered logs acts)
+gets-answered : (logs : List Log) (acts : List Act) → answers taken told logs acts ≡ getsOf (answered logs acts)
 gets-answered logs [] = refl
 gets-answered logs (a ∷ acts) = ap (λ (l : List Outcome). told logs a ∷ l) (gets-answered (taken logs a) acts)
 
@@ -38,7 +58,7 @@ module _ (counts : List ℕ) (good : goodOf counts ≡ true) where
     end : final taken (taken logs (p .act)) (actsOf others) ≡ final taken logs acts
 
   first : (logs : List Log) → Good counts good logs → (acts : List Act) (before : List Answered) (p : Answered) (after : List Answered)
-      → answered logs acts ≡ before ++ (p ∷ after) → Free (TiedIn m) p before → First logs acts p (before ++ after)
+      → answered logs acts ≡ before ++ (p ∷ after) → Free (tiedIn m) p before → First logs acts p (before ++ after)
   first logs g [] [] p after e f = absurd (none-is-some p after e)
   first logs g [] (q ∷ before) p after e f = absurd (none-is-some q (before ++ (p ∷ after)) e)
   first logs g (a ∷ acts) [] p after e f =
@@ -57,7 +77,7 @@ module _ (counts : List ℕ) (good : goodOf counts ≡ true) where
       let others = before ++ after in
       let is-a : q .act ≡ a = sym (ap (λ (z : Answered). z .act) h) in
       let k = first (taken logs a) (keeps counts good logs a g) acts before p after (tail-eq-of-cons-eq e) (f .1) in
-      let c = commute counts good logs a b g (λ t. f .0 (subst (λ (z : Act). Tied m z b) (sym is-a) t)) in
+      let c = commute counts good logs a b g (ap (λ (z : Act). tied m z b) (sym is-a) ∙ f .0) in
       let then : answered (taken (taken logs b) a) (actsOf others) ≡ others = ap (λ (s : List Log). answered s (actsOf others)) (sym (c .2)) ∙ k .rest in
       let first-is : _≡_ {A = Answered} (record { act = a; gets = told (taken logs b) a }) q = (λ i. record { act = a; gets = c .1 i }) ∙ h in
       record {
@@ -69,26 +89,45 @@ module _ (counts : List ℕ) (good : goodOf counts ≡ true) where
             ∙ k .end;
       }
 
-  shuffled-so : (logs : List Log) → Good counts good logs → (acts : List Act) (shuffled : List Answered) → Shuffle (TiedIn m) (answered logs acts) shuffled
+  shuffled-so : (logs : List Log) → Good counts good logs → (acts : List Act) (shuffled : List Answered) → TakenOut (tiedIn m) (answered logs acts) shuffled
       → (answered logs (actsOf shuffled) ≡ shuffled) × (final taken logs (actsOf shuffled) ≡ final taken logs acts)
   shuffled-so logs g [] [] w = (refl, refl)
   shuffled-so logs g (a ∷ acts) [] w = absurd (none-is-some _ _ (sym w))
   shuffled-so logs g acts (p ∷ shuffled) (before, after, e, f, w) =
       let k = first logs g acts before p after e f in
       let others = before ++ after in
-      let left = subst (λ (l : List Answered). Shuffle (TiedIn m) l shuffled) (sym (k .rest)) w in
+      let left = subst (λ (l : List Answered). TakenOut (tiedIn m) l shuffled) (sym (k .rest)) w in
       let then = shuffled-so (taken logs (p .act)) (keeps counts good logs (p .act) g) (actsOf others) shuffled left in (
         ap₂ (λ (o : Outcome) (l : List Answered). record { act = p .act; gets = o } ∷ l) (sym (k .itself)) (then .0),
         then .1 ∙ k .end,
       )
 
-pub demand3 : Demand3
-demand3 counts e acts shuffled w =
-    let fine = opens-good counts e in
-    let good : goodOf counts ≡ true = rw (fine .0, fine .1) in
-    let so = shuffled-so counts good (begun counts) (begun-counts counts) acts shuffled w in
+-- demand 3 for acts that are taken out one after another
+pub by-taking-out : (counts : List ℕ) → opens counts ≡ true → (acts : List Act) (shuffled : List Answered) → TakenOut (tiedIn (length counts)) (answered (begun counts) acts) shuffled
+    → (answers next outcome (openedRow counts) (actsOf shuffled) ≡ getsOf shuffled) × (final next (openedRow counts) (actsOf shuffled) ≡ final next (openedRow counts) acts)
+by-taking-out counts e acts shuffled w =
+    let so = shuffled-so counts (opens-fine counts e) (begun counts) (begun-counts counts) acts shuffled w in
     let first-list = demand2 counts e acts in
     let second-list = demand2 counts e (actsOf shuffled) in (
-      second-list .0 ∙ gets-answered (begun counts) (actsOf shuffled) ∙ ap (λ (l : List Answered). map (λ p. p .gets) l) (so .0),
+      second-list .0 ∙ gets-answered (begun counts) (actsOf shuffled) ∙ ap getsOf (so .0),
       second-list .1 ∙ ap rowGiven (so .1) ∙ sym (first-list .1),
+    )
+
+-- and for every shuffle by places
+abbrev noAct : Answered
+noAct = record { act = reading; gets = nothing }
+
+pub demand3 : Demand3
+demand3 counts e acts order w =
+    let all-acts = answered (begun counts) acts in
+    let are = acts-answered (begun counts) acts in
+    let shuffled = picked noAct order all-acts in
+    let same-acts : actsOf shuffled ≡ picked reading order acts = picked-map (λ (p : Answered). p .act) noAct order all-acts ∙ ap (picked reading order) are in
+    let same-gets : getsOf shuffled ≡ picked nothing order (answers taken told (begun counts) acts) =
+    picked-map (λ (p : Answered). p .gets) noAct order all-acts ∙ ap (picked nothing order) (sym (gets-answered (begun counts) acts)) in
+    let places = shuffle-map (λ (p : Answered). p .act) (tied (length counts)) noAct all-acts order
+    (subst (λ (l : List Act). Shuffle (tied (length counts)) reading l order) (sym are) w) in
+    let so = by-taking-out counts e acts shuffled (taken-out (tiedIn (length counts)) noAct all-acts order places) in (
+      ap (answers next outcome (openedRow counts)) (sym same-acts) ∙ so .0 ∙ same-gets,
+      ap (final next (openedRow counts)) (sym same-acts) ∙ so .1,
     )

@@ -1,16 +1,17 @@
 -- One act on a row that the paper gives: the library's outcome is the one told, and its row the one given after it.
 -- Assumes nothing.
-use Prim.Native.Nat.{ℕ, zero, suc, _≤_}
+use Prim.Native.Nat.{ℕ, zero, suc, _<_, _≤_}
 use native.Mathlib.Omega.{arith}
-use mathlib.Core.Path.{_≡_, refl, ap, ap₂, sym, _∙_}
+use mathlib.Core.Path.{_≡_, refl, ap, ap₂, sym, _∙_, subst}
 use mathlib.Core.Bool.{Bool, true, false, true≢false, cond, not}
 use mathlib.Core.List.{List, [], _∷_, _++_, map}
 use lib.Dec.{ltb, eqb}
-use lib.ListN.{length, getD, set, drop, List·getD-map}
+use lib.ListN.{length, getD, set, drop, length-map, List·getD-map}
+use lib.Seq.{getD-set-same}
 use borrow.Author.Tests.{ltb-true, ltb-false, eqb-true, not-false}
 use Rattle.lists.proofs.Split.{split}
 use Rattle.settings.specs.Bytes.{byteOf}
-use Rattle.refusal.specs.Said.{Bar, bar, accepts, first}
+use Rattle.refusal.specs.Said.{Bar, bar, accepts, first, judged}
 use Rattle.latches.specs.declared.Latches.{Latches}
 use Rattle.latches.specs.Latches.{anyLatch, chgOn, dsgOn, register0}
 use Rattle.latches.proofs.Packed.{latches-kept}
@@ -23,20 +24,19 @@ use Rattle.frame.specs.Check.{checkOf}
 use Rattle.registers.specs.Registers as registers
 use Rattle.registers.specs.Registers.{programs, staging, accessBars, boardAfter, replyValue}
 use Rattle.reading.specs.declared.Summary.{Summary}
-use Rattle.reading.specs.declared.Whole.{Whole}
 use Rattle.reading.specs.Reading.{summaryOf, readOf, wholeSaid}
 use Rattle.stack.specs.Row.{goodRow, noBoard, placeOf, boardAt}
 use Rattle.stack.specs.Sample.{sampleRowBars, sampleRow}
 use Rattle.stack.specs.Frame.{framePlace, frameBoard, boardFramed, frameReply, frameRowBars, frameRow, frameBuffer}
-use Rattle.stack.specs.Read.{viewSaid, readingOf}
+use Rattle.stack.specs.Read.{readBars}
 use Rattle.stack.proofs.Counts.{within}
 use Rattle.stack.proofs.Ways.{board-good, has-none}
 use Rattle.stack.proofs.Laws.{sample-said, frame-said}
-use Rattle.stack.proofs.Scanned.{whole-said}
 use Rattle.demands.specs.Paper.{sampled, wrote, programmed, asked, History, working, spent, latchesAt, given}
 use Rattle.demands.specs.Acts.{Act, sample, frame, reading, outcome, next}
 use Rattle.demands.specs.Demands.{Log, log, logAt, joined, boardGiven, rowGiven, frameEntry, joins, taken, sampleSays, readSays, frameSays, summaryGiven, told}
 use Rattle.demands.proofs.Given.{given-start, latches-are, bled-are, given-sampled, given-wrote, given-asked, given-programmed}
+use Rattle.demands.proofs.Table.{reading-judged}
 use Rattle.demands.proofs.Clear.{clear, judged-same, kept-same}
 
 -- ---- the record at a place, and a record stored
@@ -49,16 +49,25 @@ row-set [] at l = refl
 row-set (m ∷ logs) zero l = refl
 row-set (m ∷ logs) (suc at) l = ap (λ (row : List Board). boardGiven m ∷ row) (row-set logs at l)
 
--- a board that a good row has is one of at most ten cells
-few-cells : (logs : List Log) (n : ℕ) → not (goodRow (rowGiven logs)) ≡ false → noBoard (rowGiven logs) n ≡ false → logAt logs (placeOf n) .cells ≤ 10
-few-cells logs n g b =
-    let row = rowGiven logs in
-    let good : goodRow row ≡ true = not-false (goodRow row) g in
-    split (ltb (placeOf n) (length row))
-    (λ e.
-    let fine : badBoard (boardAt row (placeOf n)) ≡ false = board-good row good (placeOf n) (ltb-true (placeOf n) (length row) e) in
-    within 5 10 (logAt logs (placeOf n) .cells) (rw (board-at logs (placeOf n)) at (ap not fine)) .1)
-    (λ e. absurd (true≢false (sym (has-none row good n (ltb-false (placeOf n) (length row) e)) ∙ b)))
+-- a board that a good row has is in its place, and one of at most ten cells
+module _ (logs : List Log) (n : ℕ) (g : not (goodRow (rowGiven logs)) ≡ false) (b : noBoard (rowGiven logs) n ≡ false) where
+  good-row : goodRow (rowGiven logs) ≡ true
+  good-row = not-false (goodRow (rowGiven logs)) g
+
+  in-row : placeOf n < length (rowGiven logs)
+  in-row =
+      let row = rowGiven logs in
+      split (ltb (placeOf n) (length row))
+      (λ e. ltb-true (placeOf n) (length row) e)
+      (λ e. absurd (true≢false (sym (has-none row good-row n (ltb-false (placeOf n) (length row) e)) ∙ b)))
+
+  in-logs : placeOf n < length logs
+  in-logs = subst (λ (k : ℕ). placeOf n < k) (length-map logs boardGiven) in-row
+
+  few-cells : logAt logs (placeOf n) .cells ≤ 10
+  few-cells =
+      let fine : badBoard (boardAt (rowGiven logs) (placeOf n)) ≡ false = board-good (rowGiven logs) good-row (placeOf n) in-row in
+      within 5 10 (logAt logs (placeOf n) .cells) (rw (board-at logs (placeOf n)) at (ap not fine)) .1
 
 -- ---- a sample
 
@@ -69,16 +78,29 @@ module _ (logs : List Log) (n : ℕ) (x : Readings) (mv : List ℕ) where
   abbrev sample-row : List Bar
   sample-row = sampleRowBars (rowGiven logs) n x mv
 
-  -- an accepted sample has as many cells as its board, which has at most ten
+  -- an accepted sample is of a board of the row, in a good row, and readable there
+  sample-clear : eqb (first sample-row) 0 ≡ true
+      → (not (goodRow (rowGiven logs)) ≡ false) × (noBoard (rowGiven logs) n ≡ false) × (eqb (first (readingBars (boardAt (rowGiven logs) (placeOf n)) x mv)) 0 ≡ true)
+  sample-clear accepted =
+      let row = rowGiven logs in
+      let c1 = clear (bar 1 (not (goodRow row))) (bar 2 (noBoard row n) ∷ readingBars (boardAt row (placeOf n)) x mv) refl accepted in
+      let c2 = clear (bar 2 (noBoard row n)) (readingBars (boardAt row (placeOf n)) x mv) refl (c1 .1) in
+      (c1 .0, c2 .0, c2 .1)
+
+  -- it has as many cells as its board, which has at most ten
   sample-fits : eqb (first sample-row) 0 ≡ true → (of-sample .cells ≤ 10) × (length mv ≡ of-sample .cells)
   sample-fits accepted =
-      let row = rowGiven logs in
-      let b = boardAt row (placeOf n) in
-      let c1 = clear (bar 1 (not (goodRow row))) (bar 2 (noBoard row n) ∷ readingBars b x mv) refl accepted in
-      let c2 = clear (bar 2 (noBoard row n)) (readingBars b x mv) refl (c1 .1) in
-      let c3 = clear (bar 3 (not (eqb (length mv) (b .count)))) (bar 4 (outside 1 100000 (x .elapsed)) ∷ bar 5 (outOfRange x mv) ∷ []) refl (c2 .1) in
+      let b = boardAt (rowGiven logs) (placeOf n) in
+      let c = sample-clear accepted in
+      let c3 = clear (bar 3 (not (eqb (length mv) (b .count)))) (bar 4 (outside 1 100000 (x .elapsed)) ∷ bar 5 (outOfRange x mv) ∷ []) refl (c .2) in
       let long : length mv ≡ b .count = eqb-true (length mv) (b .count) (not-false (eqb (length mv) (b .count)) (c3 .0)) in
-      (few-cells logs n (c1 .0) (c2 .0), long ∙ ap (λ (r : Board). r .count) (board-at logs (placeOf n)))
+      (few-cells logs n (c .0) (c .1), long ∙ ap (λ (r : Board). r .count) (board-at logs (placeOf n)))
+
+  -- and joins its board's log
+  pub sample-joins : eqb (first sample-row) 0 ≡ true → logAt (taken logs (sample n x mv)) (placeOf n) ≡ joined of-sample (sampled x mv)
+  sample-joins accepted =
+      let c = sample-clear accepted in
+      rw accepted (getD-set-same logs (placeOf n) (joined of-sample (sampled x mv)) (log 0 []) (in-logs logs n (c .0) (c .1)))
 
   sample-leaves : eqb (first sample-row) 0 ≡ true → boardNext (boardAt (rowGiven logs) (placeOf n)) x mv ≡ boardGiven (joined of-sample (sampled x mv))
   sample-leaves accepted =
@@ -112,7 +134,7 @@ module _ (logs : List Log) (n : ℕ) (x : Readings) (mv : List ℕ) where
 accessed : (write programs : Bool) (m : ℕ) → m ≤ 10 → (h : History) (register v : ℕ)
     → cond write (cond programs (registers.programmed (given m h)) (staging (given m h) register v)) (given m h)
     ≡ given m (cond write (cond programs programmed (wrote register v)) asked ∷ h)
-accessed true true m few h register v = given-programmed m few h
+accessed true true m few h register v = given-programmed m h few
 accessed true false m few h register v = given-wrote m h register v
 accessed false programs m few h register v = given-asked m h
 
@@ -194,14 +216,12 @@ summaries-are : (logs : List Log) → map summaryOf (rowGiven logs) ≡ map summ
 summaries-are [] = refl
 summaries-are (l ∷ logs) = ap₂ (λ (s : Summary) (north : List Summary). s ∷ north) (summary-is l) (summaries-are logs)
 
--- a good row is read
-reading-said : (row : List Board) → goodRow row ≡ true → viewSaid (readingOf row) ≡ accepts (wholeSaid (readOf (map summaryOf row)))
-unfolding readingOf
-reading-said row good = rw good (ap (λ (w : Whole). accepts (wholeSaid w)) (whole-said (readOf (map summaryOf row))))
-
 reading-told : (logs : List Log) → goodRow (rowGiven logs) ≡ true → outcome (rowGiven logs) reading ≡ told logs reading
 reading-told logs good =
-    let said = reading-said (rowGiven logs) good ∙ ap (λ (boards : List Summary). accepts (wholeSaid (readOf boards))) (summaries-are logs) in
+    let row = rowGiven logs in
+    let vs = wholeSaid (readOf (map summaryOf row)) in
+    let read : judged (readBars row) vs ≡ accepts vs = rw good in
+    let said = reading-judged row ∙ read ∙ ap (λ (boards : List Summary). accepts (wholeSaid (readOf boards))) (summaries-are logs) in
     λ i. record { said = said i; buffer = [] }
 
 -- ---- any act

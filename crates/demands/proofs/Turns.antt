@@ -1,22 +1,27 @@
--- No timer is pooled: a fault that no one cell has stood is not latched, and so two cells that take turns never latch OV.
+-- No timer is pooled: a fault that no one cell has stood is not latched. So neither is one whose condition never holds, nor OV where two cells take turns.
 -- Assumes nothing.
 use Prim.Native.Nat.{ℕ, zero, suc, _≤_}
 use native.Mathlib.Omega.{arith}
-use mathlib.Core.Path.{_≡_, refl, ap, _∙_}
+use mathlib.Core.Path.{_≡_, refl, sym, ap, _∙_}
 use mathlib.Core.Logic.{_⊎_, inl, inr}
 use mathlib.Core.Bool.{Bool, true, false, cond, not}
 use mathlib.Core.List.{[], _∷_}
+use mathlib.Core.Option.{none}
 use lib.Dec.{ltb}
 use borrow.Author.Tests.{le-ltb, lt-leb}
 use Rattle.settings.specs.declared.Settings.{Settings}
-use Rattle.settings.specs.Levels.{ovLevel}
-use Rattle.settings.specs.Faults.{Fault, OV, delay}
-use Rattle.runs.specs.Run.{stretch, lasting, past}
+use Rattle.lists.proofs.Split.{split}
+use Rattle.settings.specs.Levels.{ovLevel, ocdLevel, scdLevel}
+use Rattle.settings.specs.Bytes.{same}
+use Rattle.settings.specs.Faults.{Fault, SCD, OCD, OV, delay}
+use Rattle.runs.specs.Run.{run, stretch, lasting, past}
 use Rattle.cells.specs.Each.{each, some}
 use Rattle.cells.specs.Cells.{readingAt}
 use Rattle.board.specs.declared.Readings.{Readings}
-use Rattle.demands.specs.Paper.{sampled, wrote, programmed, asked, History, working, Sample, sampleOf, since, holds, stoodDelay, places, latched}
-use Rattle.demands.specs.Turns.{Under, byTurns, alternate}
+use Rattle.board.proofs.Signed.{above-none}
+use Rattle.demands.specs.Paper.{sampled, wrote, programmed, asked, History, staged, working, Sample, sampleOf, since, holds, stoodDelay, places, latched}
+use Rattle.demands.specs.Marked.{more, one}
+use Rattle.demands.specs.Turns.{Under, Calm, Charging, byTurns, alternate}
 use Rattle.demands.proofs.Lists.{each-same}
 
 none-of : (i n : ℕ) → some (each i n (λ k. false)) ≡ false
@@ -31,6 +36,61 @@ never-latched n f (sampled x mv ∷ h) u =
 never-latched n f (wrote register v ∷ h) u = never-latched n f h (u .1)
 never-latched n f (programmed ∷ h) u = never-latched n f h (u .1)
 never-latched n f (asked ∷ h) u = never-latched n f h (u .1)
+
+-- ---- a condition that never holds has no run, so its fault is not latched
+
+calm-run : (f : Fault) (k : ℕ) (s : Settings) (h : History) → Calm f h → run (λ x. x .readings .elapsed) (holds f s k) (since h) ≡ none
+calm-run f k s [] c = refl
+calm-run f k s (sampled x mv ∷ h) c = rw (c .0 s k)
+calm-run f k s (wrote register v ∷ h) c = calm-run f k s h c
+calm-run f k s (programmed ∷ h) c = split (same (staged h) (working h)) (λ e. rw e (calm-run f k s h c)) (λ e. rw e)
+calm-run f k s (asked ∷ h) c = calm-run f k s h c
+
+calm-under : (n : ℕ) (f : Fault) (h : History) → Calm f h → Under n f h
+calm-under n f [] c = tt
+calm-under n f (sampled x mv ∷ h) c =
+    (λ k p. ap (past (delay f (working h))) (calm-run f k (working h) (sampled x mv ∷ h) c), calm-under n f h (c .1))
+calm-under n f (wrote register v ∷ h) c = (λ k p. ap (past (delay f (working h))) (calm-run f k (working h) h c), calm-under n f h c)
+calm-under n f (programmed ∷ h) c =
+    (λ k p. ap (past (delay f (staged h))) (calm-run f k (staged h) (programmed ∷ h) c), calm-under n f h c)
+calm-under n f (asked ∷ h) c = (λ k p. ap (past (delay f (working h))) (calm-run f k (working h) h c), calm-under n f h c)
+
+pub calm-never : (n : ℕ) (f : Fault) (h : History) → Calm f h → latched n f h ≡ false
+calm-never n f h c = never-latched n f h (calm-under n f h c)
+
+-- no charge current trips a discharge fault
+charging-calm : (h : History) → Charging h → Calm SCD h × Calm OCD h
+charging-calm [] c = (tt, tt)
+charging-calm (sampled x mv ∷ h) c =
+    let rest = charging-calm h (c .1) in
+    ((λ s k. sym (above-none (scdLevel s) (x .shunt) (c .0)), rest .0), (λ s k. sym (above-none (ocdLevel s) (x .shunt) (c .0)), rest .1))
+charging-calm (wrote register v ∷ h) c = charging-calm h c
+charging-calm (programmed ∷ h) c = charging-calm h c
+charging-calm (asked ∷ h) c = charging-calm h c
+
+pub charge-never-trips : (n : ℕ) (h : History) → Charging h → (latched n SCD h ≡ false) × (latched n OCD h ≡ false)
+charge-never-trips n h c = let calm = charging-calm h c in (calm-never n SCD h (calm .0), calm-never n OCD h (calm .1))
+
+-- M2, of any number of samples: a cell at 4,150 never latches OV
+not-above : (s : Settings) (reading : ℕ) → reading ≤ 4150 → ltb (ovLevel s) reading ≡ false
+not-above s reading h = le-ltb (ovLevel s) reading (omega arith)
+
+at-level : (k : ℕ) → readingAt (4150 ∷ 4000 ∷ 4000 ∷ 4000 ∷ 4000 ∷ []) k ≤ 4150
+at-level zero = omega arith
+at-level (suc zero) = omega arith
+at-level (suc (suc zero)) = omega arith
+at-level (suc (suc (suc zero))) = omega arith
+at-level (suc (suc (suc (suc zero)))) = omega arith
+at-level (suc (suc (suc (suc (suc k))))) = omega arith
+
+level-calm : (r : ℕ) → Calm OV (more r (one 4150) [])
+level-calm zero = tt
+level-calm (suc r) = (λ s k. not-above s (readingAt (4150 ∷ 4000 ∷ 4000 ∷ 4000 ∷ 4000 ∷ []) k) (at-level k), level-calm r)
+
+pub level-never-latches : (n r : ℕ) → latched n OV (more r (one 4150) []) ≡ false
+level-never-latches n r = calm-never n OV (more r (one 4150) []) (level-calm r)
+
+-- ---- two cells by turns
 
 module _ (x : Readings) (v low : ℕ) (below : low ≤ 4150) where
   -- a cell is low at one of any two samples that follow each other
@@ -50,9 +110,6 @@ module _ (x : Readings) (v low : ℕ) (below : low ≤ 4150) where
       others false (suc (suc zero)) = below
       others true (suc (suc (suc k))) = omega arith
       others false (suc (suc (suc k))) = omega arith
-
-  not-above : (s : Settings) (reading : ℕ) → reading ≤ 4150 → ltb (ovLevel s) reading ≡ false
-  not-above s reading h = le-ltb (ovLevel s) reading (omega arith)
 
   -- a stretch ends at a low sample
   ended : (s : Settings) (r : ℕ) (first : Bool) (k : ℕ) → readingAt (byTurns first v low) k ≤ 4150 → stretch (holds OV s k) (since (alternate x v low r first)) ≡ []

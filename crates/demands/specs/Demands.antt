@@ -22,8 +22,8 @@ use Rattle.stack.specs.Open.{openBars}
 use Rattle.stack.specs.Frame.{framePlace}
 use Rattle.demands.specs.Paper.{Entry, sampled, wrote, programmed, asked, History, working, spent, latchesAt, flagsAt, given}
 use Rattle.demands.specs.Acts.{Act, sample, frame, reading, Outcome, bars, outcome, next, openedRow, final, answers}
-use Rattle.demands.specs.Shuffle.{Shuffle}
-use Rattle.demands.specs.Tied.{Tied}
+use Rattle.demands.specs.Shuffle.{picked, Shuffle}
+use Rattle.demands.specs.Tied.{tied}
 
 -- ---- what is known of each board: its cell count and its accepted acts
 
@@ -119,24 +119,12 @@ Demand2 = (counts : List ℕ) → opens counts ≡ true → (acts : List Act)
 
 -- ---- demand 3
 
--- an act of the first list, and what the paper tells of it there
-pub record Answered : Type 0 where
-  pub act : Act
-  pub gets : Outcome
-
-abbrev pub answered : List Log → List Act → List Answered
-answered logs [] = []
-answered logs (a ∷ acts) = record { act = a; gets = told logs a } ∷ answered (taken logs a) acts
-
-abbrev pub actsOf : List Answered → List Act
-actsOf l = map (λ p. p .act) l
-
-abbrev pub TiedIn : ℕ → Answered → Answered → Type 0
-TiedIn m p q = Tied m (p .act) (q .act)
+-- what stands past the end of a list of outcomes; no shuffle names such a place
+abbrev pub nothing : Outcome
+nothing = record { said = accepts []; buffer = [] }
 
 -- however the acts are shuffled, each gets what the paper told of it in the first list, and the row at the end is the same
 abbrev pub Demand3 : Type 0
-Demand3 = (counts : List ℕ) → opens counts ≡ true → (acts : List Act) (shuffled : List Answered)
-    → Shuffle (TiedIn (length counts)) (answered (begun counts) acts) shuffled
-    → (answers next outcome (openedRow counts) (actsOf shuffled) ≡ map (λ p. p .gets) shuffled)
-    × (final next (openedRow counts) (actsOf shuffled) ≡ final next (openedRow counts) acts)
+Demand3 = (counts : List ℕ) → opens counts ≡ true → (acts : List Act) (order : List ℕ) → Shuffle (tied (length counts)) reading acts order
+    → (answers next outcome (openedRow counts) (picked reading order acts) ≡ picked nothing order (answers taken told (begun counts) acts))
+    × (final next (openedRow counts) (picked reading order acts) ≡ final next (openedRow counts) acts)

@@ -1,7 +1,12 @@
 pub mod Paper
+pub mod Marked
 pub mod Acts
+pub mod Table
 pub mod Shuffle
 pub mod Tied
 pub mod Demands
+pub mod Examples
+pub mod Session
 pub mod Count
 pub mod Turns
+pub mod Mechanic

@@ -1,7 +1,7 @@
 -- Whom an act concerns, and which two acts may not change places.
 -- Assumes nothing.
 use Prim.Native.Nat.{ℕ}
-use mathlib.Core.Bool.{cond}
+use mathlib.Core.Bool.{Bool, true, false, cond}
 use mathlib.Core.List.{List, [], _∷_, _++_}
 use lib.Dec.{eqb}
 use lib.ListN.{length}
@@ -30,10 +30,14 @@ who m (frame bytes buffer) = cond (eqb (first (early m (frame bytes buffer))) 0)
 who m reading = whole
 
 -- tied are two acts of one board, and an act of a board and a whole-stack reading, whichever comes first
-pub data Ties : Who → Who → Type 0 where
-  together : {i : ℕ} → Ties (board i) (board i)
-  before-reading : {i : ℕ} → Ties (board i) whole
-  behind-reading : {i : ℕ} → Ties whole (board i)
+abbrev pub ties : Who → Who → Bool
+ties (board i) (board j) = eqb i j
+ties (board i) whole = true
+ties (board i) nobody = false
+ties whole (board j) = true
+ties whole whole = false
+ties whole nobody = false
+ties nobody w = false
 
-abbrev pub Tied : ℕ → Act → Act → Type 0
-Tied m a b = Ties (who m a) (who m b)
+abbrev pub tied : ℕ → Act → Act → Bool
+tied m a b = ties (who m a) (who m b)

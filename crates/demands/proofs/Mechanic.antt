@@ -1,0 +1,210 @@
+-- What a mechanic would ask of the library after any opening and any acts, answered.
+-- Assumes nothing.
+use Prim.Native.Nat.{ℕ, _<_, _≤_}
+use native.Mathlib.Omega.{arith}
+use mathlib.Core.Path.{_≡_, refl, sym, ap, _∙_, subst}
+use mathlib.Core.Logic.{_↔_}
+use mathlib.Core.Bool.{Bool, true, false, true≢false, cond, not, _&&_, _||_}
+use mathlib.Core.List.{List, [], _∷_, map}
+use mathlib.Core.Option.{Option, some, none}
+use lib.Dec.{eqb}
+use lib.ListN.{getD, set, List·getD-map}
+use lib.Seq.{map-set-same, set-getD}
+use borrow.Author.Tests.{leb-true, le-leb, eq-eqb, ne-eqb}
+use Rattle.refusal.specs.Said.{Said, Bar, accepts, refuses, first}
+use Rattle.lists.proofs.Split.{split}
+use Rattle.settings.specs.Bytes.{same}
+use Rattle.settings.specs.Faults.{Fault, SCD, OCD, OV, UV, OT, delay}
+use Rattle.runs.specs.Run.{past}
+use Rattle.latches.specs.Latches.{latch, latches, latchesOf, latchNext}
+use Rattle.latches.proofs.Packed.{latches-kept}
+use Rattle.board.specs.declared.Board.{Board}
+use Rattle.board.specs.declared.Readings.{Readings}
+use Rattle.board.specs.Sample.{fresh}
+use Rattle.frame.specs.Frame.{byte, writes}
+use Rattle.registers.specs.Registers.{boardAfter}
+use Rattle.stack.specs.Row.{goodRow, placeOf}
+use Rattle.stack.specs.Frame.{framePlace, frameRow}
+use Rattle.demands.specs.Paper.{sampled, wrote, programmed, asked, History, staged, working, sampleOf, runOf, stoodDelay, places, stands, letsGo, latched, latchesAt}
+use Rattle.demands.specs.Acts.{Act, sample, frame, reading, Outcome, bars, outcome, next, final}
+use Rattle.demands.specs.Demands.{Log, log, begun, logAt, joined, rowGiven, frameEntry, joins, taken, frameSays}
+use Rattle.demands.specs.Mechanic.{Stood, isLatched, Accepted, Answers, Mechanic}
+use Rattle.demands.proofs.Lists.{some-at, some-yes}
+use Rattle.demands.proofs.Table.{judged-number, stays, values, act-judged, demand1}
+use Rattle.demands.proofs.Tells.{board-at, sample-joins, tells, gives}
+use Rattle.demands.proofs.Demanded.{demand2, final-good}
+use Rattle.demands.proofs.Cycles.{spent-counts}
+use Rattle.demands.proofs.Turns.{never-latched, calm-never}
+
+-- ---- a condition that has stood its delay
+
+-- a run is at or past a delay exactly if there is one so long
+past-yes : (d : ℕ) (o : Option ℕ) → past d o ≡ true → (t : ℕ) × (o ≡ some t) × (d ≤ t)
+past-yes d none e = absurd (true≢false (sym e))
+past-yes d (some t) e = (t, refl, leb-true d t e)
+
+is-past : (d : ℕ) (o : Option ℕ) (t : ℕ) → o ≡ some t → d ≤ t → past d o ≡ true
+is-past d o t e h = ap (past d) e ∙ le-leb d t h
+
+stood : (n : ℕ) (f : Fault) (h : History) → (stands n f h ≡ true) ↔ Stood n f h
+stood n f h = (
+  λ e.
+      let there = some-at (places f n) (λ k. stoodDelay f k h) e in
+      let long = past-yes (delay f (working h)) (runOf f (there .0) h) (there .2) in
+      (there .0, there .1, long .0, long .1, long .2),
+  λ (k, p, t, e, q). some-yes (places f n) (λ k. stoodDelay f k h) k p (is-past (delay f (working h)) (runOf f k h) t e q),
+)
+
+-- ---- the library
+
+latch-of : (f : Fault) (on : Fault → Bool) → latch f (latches on) ≡ on f
+latch-of SCD on = refl
+latch-of OCD on = refl
+latch-of OV on = refl
+latch-of UV on = refl
+latch-of OT on = refl
+
+not-true : (b : Bool) → (not b ≡ false) ↔ (b ≡ true)
+not-true true = (λ e. refl, λ e. refl)
+not-true false = (λ e. absurd (true≢false e), λ e. absurd (true≢false (sym e)))
+
+-- a frame's act leaves every latch
+frame-leaves : (n : ℕ) (f : Fault) (write programs : Bool) (register v : ℕ) (h : History)
+    → latched n f (cond write (cond programs programmed (wrote register v)) asked ∷ h) ≡ latched n f h
+frame-leaves n f true true register v h = refl
+frame-leaves n f true false register v h = refl
+frame-leaves n f false programs register v h = refl
+
+-- a refusal is given only if a row of its number holds
+abbrev holdsOf : ℕ → List Bar → Bool
+holdsOf n [] = false
+holdsOf n (b ∷ rows) = (eqb (b .number) n && b .when) || holdsOf n rows
+
+given-holds : (n : ℕ) (rows : List Bar) → 0 < n → first rows ≡ n → holdsOf n rows ≡ true
+given-holds n [] p e = absurd (omega arith)
+given-holds n (b ∷ rows) p e =
+    split (b .when)
+    (λ h. let is : b .number ≡ n = rw h at e in rw (h, eq-eqb (b .number) n is))
+    (λ h. rw h (later (eqb (b .number) n) (given-holds n rows p (rw h at e))))
+  where
+    later : (t : Bool) → holdsOf n rows ≡ true → ((t && false) || holdsOf n rows) ≡ true
+    later true r = r
+    later false r = r
+
+module _ (logs : List Log) (good : goodRow (rowGiven logs) ≡ true) where
+  abbrev row : List Board
+  row = rowGiven logs
+
+  -- a latch of the record is a latch of the history
+  abbrev latchedOf : Fault → Log → Bool
+  latchedOf f l = latched (l .cells) f (l .acts)
+
+  latched-in : (f : Fault) (logs : List Log) (at : ℕ) → isLatched f (rowGiven logs) at ≡ latchedOf f (logAt logs at)
+  latched-in f logs at =
+      let l = logAt logs at in
+      ap (λ (b : Board). latch f (latchesOf (b .latches))) (board-at logs at)
+      ∙ ap (latch f) (latches-kept (latchesAt (l .cells) (l .acts)))
+      ∙ latch-of f (λ f. latchedOf f l)
+
+  clear-of : (a : Act) → Accepted row a → eqb (first (bars row a)) 0 ≡ true
+  clear-of a e =
+      let none-given : first (bars row a) ≡ 0 = sym (judged-number (bars row a) (values row a)) ∙ ap (λ (s : Said). s .number) (sym (act-judged row a)) ∙ e in
+      eq-eqb (first (bars row a)) 0 none-given
+
+  module _ (f : Fault) (n : ℕ) (x : Readings) (mv : List ℕ) (taken-in : Accepted row (sample n x mv)) where
+    abbrev l : Log
+    l = logAt logs (placeOf n)
+
+    abbrev stoodNow : Bool
+    stoodNow = stands (l .cells) f (sampled x mv ∷ l .acts)
+
+    abbrev goesNow : Bool
+    goesNow = letsGo (l .cells) f (working (l .acts)) (sampleOf x mv)
+
+    after : isLatched f (next row (sample n x mv)) (placeOf n) ≡ latchNext (latchedOf f l) stoodNow goesNow
+    after =
+        ap (λ (r : List Board). isLatched f r (placeOf n)) (gives logs (sample n x mv))
+        ∙ latched-in f (taken logs (sample n x mv)) (placeOf n)
+        ∙ ap (latchedOf f) (sample-joins logs n x mv (clear-of (sample n x mv) taken-in))
+
+    was : (t : Bool) → isLatched f row (placeOf n) ≡ t → isLatched f (next row (sample n x mv)) (placeOf n) ≡ latchNext t stoodNow goesNow
+    was t e = after ∙ ap (λ (b : Bool). latchNext b stoodNow goesNow) (sym (latched-in f logs (placeOf n)) ∙ e)
+
+    latches-when : isLatched f row (placeOf n) ≡ false → (isLatched f (next row (sample n x mv)) (placeOf n) ≡ true) ↔ Stood (l .cells) f (sampled x mv ∷ l .acts)
+    latches-when e =
+        let both = stood (l .cells) f (sampled x mv ∷ l .acts) in
+        (λ h. both .0 (sym (was false e) ∙ h), λ s. was false e ∙ both .1 s)
+
+    lets-go-when : isLatched f row (placeOf n) ≡ true → (isLatched f (next row (sample n x mv)) (placeOf n) ≡ false) ↔ (goesNow ≡ true)
+    lets-go-when e = let both = not-true goesNow in (λ h. both .0 (sym (was true e) ∙ h), λ g. was true e ∙ both .1 g)
+
+  frames-leave-it : (f : Fault) (bytes buffer : List ℕ) (at : ℕ) → isLatched f (next row (frame bytes buffer)) at ≡ isLatched f row at
+  frames-leave-it f bytes buffer at =
+      ap (λ (r : List Board). isLatched f r at) (gives logs (frame bytes buffer))
+      ∙ latched-in f (taken logs (frame bytes buffer)) at
+      ∙ by (eqb (first (bars row (frame bytes buffer))) 0)
+      ∙ sym (latched-in f logs at)
+    where
+      all-same : map (latchedOf f) (joins logs (framePlace bytes) (frameEntry bytes)) ≡ map (latchedOf f) logs
+      all-same =
+          let m = logAt logs (framePlace bytes) in
+          map-set-same (latchedOf f) logs (framePlace bytes) (joined m (frameEntry bytes)) (log 0 [])
+          (frame-leaves (m .cells) f (writes (byte bytes 0)) (eqb (byte bytes 1) 11) (byte bytes 1) (byte bytes 2) (m .acts))
+
+      by : (t : Bool) → latchedOf f (logAt (cond t (joins logs (framePlace bytes) (frameEntry bytes)) logs) at) ≡ latchedOf f (logAt logs at)
+      by true =
+          sym (List·getD-map (latchedOf f) (joins logs (framePlace bytes) (frameEntry bytes)) at (log 0 []))
+          ∙ ap (λ (bs : List Bool). getD bs at (latchedOf f (log 0 []))) all-same
+          ∙ List·getD-map (latchedOf f) logs at (log 0 [])
+      by false = refl
+
+  module _ (bytes buffer : List ℕ) (taken-in : Accepted row (frame bytes buffer)) where
+    replied : outcome row (frame bytes buffer) .said ≡ accepts (frameSays (joined (logAt logs (framePlace bytes)) (frameEntry bytes)) bytes)
+    replied = ap (λ (o : Outcome). o .said) (tells logs good (frame bytes buffer)) ∙ rw (clear-of (frame bytes buffer) taken-in)
+
+  module _ (bytes buffer : List ℕ) (w : writes (byte bytes 0) ≡ true) (r : byte bytes 1 ≡ 11) where
+    abbrev m : Log
+    m = logAt logs (framePlace bytes)
+
+    equal-leaves : same (staged (m .acts)) (working (m .acts)) ≡ true → next row (frame bytes buffer) ≡ row
+    unfolding frameRow boardAfter
+    equal-leaves e =
+        split (eqb (first (bars row (frame bytes buffer))) 0)
+        (λ c. rw (c, w, r, board-at logs (framePlace bytes), e) (ap (set row (framePlace bytes)) (sym (board-at logs (framePlace bytes))) ∙ set-getD row (framePlace bytes) (fresh 0)))
+        (λ c. rw c)
+
+    never-eleven : same (staged (m .acts)) (working (m .acts)) ≡ true → outcome row (frame bytes buffer) .said ≡ refuses 11 → ⊥
+    never-eleven e s =
+        let rows = bars row (frame bytes buffer) in
+        let eleven : first rows ≡ 11 = sym (judged-number rows (values row (frame bytes buffer))) ∙ ap (λ (a : Said). a .number) (sym (act-judged row (frame bytes buffer)) ∙ s) in
+        true≢false (sym (rw (w, r, board-at logs (framePlace bytes), e) at (given-holds 11 rows (omega arith) eleven)))
+
+  refused-leaves : (a : Act) (n : ℕ) → 0 < n → outcome row a .said ≡ refuses n → taken logs a ≡ logs
+  refused-leaves (sample k x mv) n p e =
+      let a = sample k x mv in
+      stays (bars row a) (values row a) n p (sym (act-judged row a) ∙ e) logs (joins logs (placeOf k) (sampled x mv))
+  refused-leaves (frame bytes buffer) n p e =
+      let a = frame bytes buffer in
+      stays (bars row a) (values row a) n p (sym (act-judged row a) ∙ e) logs (joins logs (framePlace bytes) (frameEntry bytes))
+  refused-leaves reading n p e = refl
+
+  answered : Answers row logs
+  answered =
+      record {
+        latches = latches-when;
+        lets-go = lets-go-when;
+        frames-leave = frames-leave-it;
+        no-pooling = λ f at u. let l = logAt logs at in latched-in f logs at ∙ never-latched (l .cells) f (l .acts) u;
+        calm = λ f at c. let l = logAt logs at in latched-in f logs at ∙ calm-never (l .cells) f (l .acts) c;
+        reads-working = λ bytes buffer a w low high.
+            replied bytes buffer a ∙ rw (w, ne-eqb (byte bytes 1) 0 (λ z. omega arith), ne-eqb (byte bytes 1) 11 (λ z. omega arith));
+        reads-cycles = λ bytes buffer a w is. replied bytes buffer a ∙ rw (w, is) (rw (spent-counts (logAt logs (framePlace bytes) .acts)));
+        equal-programming = λ bytes buffer w r e. (equal-leaves bytes buffer w r e, never-eleven bytes buffer w r e);
+        refused = λ a n p e. let same = demand1 row .unchanged a n p e in (same .0, same .1, refused-leaves a n p e);
+        reading-accepted = ap (λ (o : Outcome). o .said .number) (tells logs good reading);
+      }
+
+pub mechanic : Mechanic
+mechanic counts e acts =
+    let logs = final taken (begun counts) acts in
+    subst (λ (r : List Board). Answers r logs) (sym (demand2 counts e acts .1)) (answered logs (final-good counts e acts))

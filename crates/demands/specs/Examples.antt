@@ -1,0 +1,69 @@
+-- Orders of seven acts on a stack of two boards, and which of them are shuffles (01, demand 3).
+-- Assumes nothing.
+use Prim.Native.Nat.{ℕ}
+use mathlib.Core.Path.{_≡_}
+use mathlib.Core.Bool.{Bool, true, false, cond, not, _&&_}
+use mathlib.Core.List.{List, [], _∷_}
+use lib.IntN.{pos}
+use Rattle.settings.specs.Faults.{SCD}
+use Rattle.demands.specs.Paper.{latched}
+use Rattle.demands.specs.Acts.{Act, sample, frame, reading, final}
+use Rattle.demands.specs.Tied.{tied}
+use Rattle.demands.specs.Shuffle.{shuffles}
+use Rattle.demands.specs.Demands.{Log, begun, logAt, taken, told}
+
+abbrev of : ℕ → Act
+of board = sample board (record { elapsed = 1000; shunt = pos 0; thermistor = 2000; load = 0 }) (4000 ∷ 4000 ∷ 4000 ∷ 4000 ∷ 4000 ∷ [])
+
+-- two samples of board 1; a reading between two of board 2; board 3, which there is not; and a frame of one byte
+abbrev pub seven : List Act
+seven = of 1 ∷ of 1 ∷ of 2 ∷ reading ∷ of 2 ∷ of 3 ∷ frame (2 ∷ []) [] ∷ []
+
+pub record Case : Type 0 where
+  pub order : List ℕ
+  pub allowed : Bool
+
+abbrev is : List ℕ → Bool → Case
+is order allowed = record { order = order; allowed = allowed }
+
+abbrev pub orders : List Case
+orders =
+    -- as they stood
+    is (0 ∷ 1 ∷ 2 ∷ 3 ∷ 4 ∷ 5 ∷ 6 ∷ []) true
+    -- board 2 before board 1, and what was refused before a board was known anywhere
+    ∷ is (6 ∷ 2 ∷ 5 ∷ 0 ∷ 1 ∷ 3 ∷ 4 ∷ []) true
+    -- board 2 behind the reading, and in front of it
+    ∷ is (0 ∷ 1 ∷ 3 ∷ 2 ∷ 4 ∷ 5 ∷ 6 ∷ []) false
+    ∷ is (0 ∷ 1 ∷ 2 ∷ 4 ∷ 3 ∷ 5 ∷ 6 ∷ []) false
+    -- board 1 past itself
+    ∷ is (1 ∷ 0 ∷ 2 ∷ 3 ∷ 4 ∷ 5 ∷ 6 ∷ []) false
+    -- an act left out; one twice; one that there is not
+    ∷ is (0 ∷ 1 ∷ 2 ∷ 3 ∷ 4 ∷ 5 ∷ []) false
+    ∷ is (0 ∷ 1 ∷ 2 ∷ 3 ∷ 4 ∷ 5 ∷ 5 ∷ []) false
+    ∷ is (0 ∷ 1 ∷ 2 ∷ 3 ∷ 4 ∷ 5 ∷ 6 ∷ 7 ∷ []) false
+    ∷ []
+
+abbrev pub right : List Case → Bool
+right [] = true
+right (c ∷ cases) = cond (shuffles (tied 2) reading seven (c .order)) (c .allowed) (not (c .allowed)) && right cases
+
+-- ---- why they are tied: in another order the reading says something else, and the board ends otherwise
+
+abbrev trip : Act
+trip = sample 1 (record { elapsed = 1000; shunt = pos 60001; thermistor = 2000; load = 1 }) (4000 ∷ 4000 ∷ 4000 ∷ 4000 ∷ 4000 ∷ [])
+
+abbrev start : List Log
+start = begun (5 ∷ [])
+
+-- what a reading says after these acts, and whether board 1 is short-circuited
+abbrev pub readAfter : List Act → List ℕ
+readAfter acts = told (final taken start acts) reading .said .values
+
+abbrev pub shortAfter : List Act → Bool
+shortAfter acts = latched 5 SCD (logAt (final taken start acts) 0 .acts)
+
+pub record Matters : Type 0 where
+  pub before-reading : readAfter (trip ∷ []) ≡ 1 ∷ 0 ∷ 0 ∷ 0 ∷ 0 ∷ []
+  pub behind-reading : readAfter [] ≡ 0 ∷ 1 ∷ 1 ∷ 0 ∷ 0 ∷ []
+  pub then-rest : shortAfter (trip ∷ of 1 ∷ []) ≡ false
+  pub rest-first : shortAfter (of 1 ∷ trip ∷ []) ≡ true

@@ -1,0 +1,95 @@
+-- What a mechanic would ask (01, When a fault latches and lets go; Frames and registers; Errors a good mechanic would make): of the runs in a history, and of the library on any stack that came from an opening, after any acts.
+-- Assumes nothing.
+use Prim.Native.Nat.{ℕ, _+_, _<_, _≤_}
+use mathlib.Core.Path.{_≡_}
+use mathlib.Core.Logic.{_↔_}
+use mathlib.Core.Bool.{Bool, true, false}
+use mathlib.Core.List.{List, _∷_}
+use mathlib.Core.Option.{some, none}
+use Rattle.refusal.specs.Said.{accepts, refuses}
+use Rattle.settings.specs.Bytes.{byteOf, same}
+use Rattle.settings.specs.Faults.{Fault, OV, delay}
+use Rattle.runs.specs.Run.{stretch}
+use Rattle.latches.specs.Latches.{latch, latchesOf}
+use Rattle.board.specs.declared.Board.{Board}
+use Rattle.board.specs.declared.Readings.{Readings}
+use Rattle.frame.specs.Frame.{byte, writes}
+use Rattle.frame.specs.Reply.{replyBytes}
+use Rattle.stack.specs.Row.{placeOf, boardAt}
+use Rattle.stack.specs.Frame.{framePlace}
+use Rattle.demands.specs.Paper.{sampled, programmed, History, staged, working, spent, sampleOf, holds, runOf, places, letsGo, latched}
+use Rattle.demands.specs.Acts.{Act, sample, frame, reading, outcome, next, openedRow, final}
+use Rattle.demands.specs.Table.{lent}
+use Rattle.demands.specs.Count.{differed, howMany}
+use Rattle.demands.specs.Turns.{Under, Calm}
+use Rattle.demands.specs.Demands.{Log, begun, logAt, taken, opens}
+
+-- ---- runs
+
+-- what one more act makes of the run of a fault's condition at a place
+pub record Runs (f : Fault) (k : ℕ) (h : History) : Type 0 where
+  -- a sample at which it fails ends the run
+  pub fails : (x : Readings) (mv : List ℕ) → holds f (working h) k (sampleOf x mv) ≡ false → runOf f k (sampled x mv ∷ h) ≡ none
+  -- the first sample of a stretch counts no time
+  pub begins : (x : Readings) (mv : List ℕ) → holds f (working h) k (sampleOf x mv) ≡ true → runOf f k h ≡ none → runOf f k (sampled x mv ∷ h) ≡ some 0
+  -- a later one counts its own
+  pub goes-on : (x : Readings) (mv : List ℕ) (t : ℕ) → holds f (working h) k (sampleOf x mv) ≡ true → runOf f k h ≡ some t
+      → runOf f k (sampled x mv ∷ h) ≡ some (x .elapsed + t)
+  -- a spent cycle starts it over, an equal programming does not
+  pub starts-over : same (staged h) (working h) ≡ false → runOf f k (programmed ∷ h) ≡ none
+  pub not-at-equal : same (staged h) (working h) ≡ true → runOf f k (programmed ∷ h) ≡ runOf f k h
+
+-- and a programming of the cycles spent
+pub record Cycles (h : History) : Type 0 where
+  pub none-at-equal : same (staged h) (working h) ≡ true → spent (programmed ∷ h) ≡ spent h
+  pub one-at-unlike : same (staged h) (working h) ≡ false → spent (programmed ∷ h) ≡ spent h + 1
+
+-- some one run is at or past the delay: that of a cell with OV and UV, of n cells
+abbrev pub Stood : ℕ → Fault → History → Type 0
+Stood n f h = (k : ℕ) × (k < places f n) × (t : ℕ) × (runOf f k h ≡ some t) × (delay f (working h) ≤ t)
+
+-- ---- the library after an opening and acts
+
+-- a fault is latched in the record at a place
+abbrev pub isLatched : Fault → List Board → ℕ → Bool
+isLatched f row at = latch f (latchesOf (boardAt row at .latches))
+
+abbrev pub Accepted : List Board → Act → Type 0
+Accepted row a = outcome row a .said .number ≡ 0
+
+-- of a row, and of what is known of each of its boards: its cell count and its accepted acts
+pub record Answers (row : List Board) (logs : List Log) : Type 0 where
+  -- an unlatched fault latches at an accepted sample exactly if its condition has stood its delay, for some one cell with OV and UV
+  pub latches : (f : Fault) (n : ℕ) (x : Readings) (mv : List ℕ) → let l = logAt logs (placeOf n) in
+      Accepted row (sample n x mv) → isLatched f row (placeOf n) ≡ false
+      → (isLatched f (next row (sample n x mv)) (placeOf n) ≡ true) ↔ Stood (l .cells) f (sampled x mv ∷ l .acts)
+  -- a latched one lets go exactly if its recovery is met
+  pub lets-go : (f : Fault) (n : ℕ) (x : Readings) (mv : List ℕ) → let l = logAt logs (placeOf n) in
+      Accepted row (sample n x mv) → isLatched f row (placeOf n) ≡ true
+      → (isLatched f (next row (sample n x mv)) (placeOf n) ≡ false) ↔ (letsGo (l .cells) f (working (l .acts)) (sampleOf x mv) ≡ true)
+  -- no frame latches a fault or lets it go, programmings among them
+  pub frames-leave : (f : Fault) (bytes buffer : List ℕ) (at : ℕ) → isLatched f (next row (frame bytes buffer)) at ≡ isLatched f row at
+  -- a fault that no one cell has stood at any time is not latched, however the cells take turns
+  pub no-pooling : (f : Fault) (at : ℕ) → let l = logAt logs at in Under (l .cells) f (l .acts) → isLatched f row at ≡ false
+  -- nor is one whose condition never held, whatever was programmed
+  pub calm : (f : Fault) (at : ℕ) → let l = logAt logs at in Calm f (l .acts) → isLatched f row at ≡ false
+  -- a read of registers 6 to 10 gives the working byte
+  pub reads-working : (bytes buffer : List ℕ) → let l = logAt logs (framePlace bytes) in
+      Accepted row (frame bytes buffer) → writes (byte bytes 0) ≡ false → 6 ≤ byte bytes 1 → byte bytes 1 ≤ 10
+      → outcome row (frame bytes buffer) .said ≡ accepts (replyBytes (byte bytes 0) (byte bytes 1) (byteOf (working (l .acts)) (byte bytes 1)))
+  -- a read of register 11 gives the number of programmings at which staged and working differed
+  pub reads-cycles : (bytes buffer : List ℕ) → let l = logAt logs (framePlace bytes) in
+      Accepted row (frame bytes buffer) → writes (byte bytes 0) ≡ false → byte bytes 1 ≡ 11
+      → outcome row (frame bytes buffer) .said ≡ accepts (replyBytes (byte bytes 0) 11 (howMany differed (l .acts)))
+  -- programming with staged equal to working changes no record, and is never refused for want of a cycle
+  pub equal-programming : (bytes buffer : List ℕ) → let l = logAt logs (framePlace bytes) in
+      writes (byte bytes 0) ≡ true → byte bytes 1 ≡ 11 → same (staged (l .acts)) (working (l .acts)) ≡ true
+      → (next row (frame bytes buffer) ≡ row) × (outcome row (frame bytes buffer) .said ≡ refuses 11 → ⊥)
+  -- a refused act changes no record and no byte of its buffer, and joins no history: a refused sample is in no stretch and breaks none
+  pub refused : (a : Act) (n : ℕ) → 0 < n → outcome row a .said ≡ refuses n → (next row a ≡ row) × (outcome row a .buffer ≡ lent a) × (taken logs a ≡ logs)
+  -- a whole-stack reading is never refused
+  pub reading-accepted : Accepted row reading
+
+-- whatever was opened, and whatever came after it
+abbrev pub Mechanic : Type 0
+Mechanic = (counts : List ℕ) → opens counts ≡ true → (acts : List Act) → Answers (final next (openedRow counts) acts) (final taken (begun counts) acts)
