@@ -6,13 +6,14 @@ use native.Mathlib.Numerals.{add-one}
 use native.Mathlib.Omega.{arith}
 use mathlib.Core.Path.{_≡_, refl, sym, ap, _∙_}
 use mathlib.Core.Bool.{Bool, true, false, true≢false, cond, not, _&&_, _||_, and-true, and-false, or-assoc, or-false}
+use mathlib.Core.Logic.{⊎-elim}
 use mathlib.Core.List.{List, [], _∷_, map}
 use lib.Dec.{leb, ltb, eqb}
 use lib.ListN.{length, getD, set}
 use lib.Seq.{sets}
 use borrow.Author.Tests.{eqb-true, eqb-false, eq-eqb, ne-eqb, le-leb, lt-leb, ltb-true, ltb-false}
 use Rattle.lists.proofs.Split.{split}
-use Rattle.cutter.specs.Lines.{onto, pieces}
+use Rattle.cutter.specs.Lines.{before, onto, pieces}
 use Rattle.cutter.proofs.Pieces.{behind, first-piece}
 use Rattle.lines.specs.declared.Kind.{Kind}
 use Rattle.lines.specs.declared.Kind.the-variants.{Open, Sample, Frame, Read, Malformed}
@@ -20,9 +21,27 @@ use Rattle.lines.specs.declared.Rules.{Rules}
 use Rattle.lines.specs.declared.Line.{Line}
 use Rattle.lines.specs.declared.Field.{Field}
 use Rattle.lines.specs.declared.Field.the-variants.{Good, Bad}
-use Rattle.lines.specs.Line.{words, startsWell, isNumber, negative, unsigned, sizeOf, isField, letter, kindOf, rulesOf, isShunt, allFields, obeys, anyNegative, blank, malformed, said, wordsSay}
-use Rattle.lines.specs.Field.{restAt, endAt, wordAt, fieldAt}
-use Rattle.lines.proofs.Words.{rest-end, rest-on, words-at, end-behind}
+use Rattle.lines.specs.Line.{words, worth, startsWell, isNumber, negative, unsigned, sizeOf, isField, letter, kindOf, rulesOf, isShunt, allFields, obeys, anyNegative, blank, malformed, said, wordsSay}
+use Rattle.lines.specs.Field.{restAt, endAt, front, numberAt, fieldAt}
+use Rattle.lines.proofs.Words.{rest-end, rest-on, end-on, before-long, rest-drop, end-behind}
+use Rattle.lines.proofs.Numbers.{field-in}
+use Rattle.lines.proofs.Fronts.{front-long, number-word, front-or, plain-negative, plain-unsigned}
+
+-- the first word of the line from a place on
+abbrev wordAt : List ℕ → ℕ → List ℕ
+wordAt s at = before 32 (restAt s at)
+
+words-at : (s : List ℕ) (i : ℕ) → words (restAt s i) ≡ wordAt s i ∷ behind 32 (restAt s (i + length (wordAt s i)))
+words-at s i = first-piece 32 (restAt s i) ∙ rw (rest-drop s i (length (wordAt s i)) (before-long 32 (restAt s i)))
+
+-- a word that does not begin with a minus sign has none
+word-plain : (s : List ℕ) (at : ℕ) → eqb (getD s at 10) 45 ≡ false → (negative (wordAt s at) ≡ false) × (unsigned (wordAt s at) ≡ wordAt s at)
+unfolding before negative unsigned
+word-plain s at plain =
+    let b = getD s at 10 in
+    split (eqb b 10)
+    (λ e. rw (rest-end s at refl (eqb-true b 10 e)) (refl, refl))
+    (λ e. rw (rest-on s at refl (eqb-false b 10 e)) (plain-negative b (restAt s (at + 1)) plain, plain-unsigned b (restAt s (at + 1)) plain))
 
 -- an empty word is no field
 pub no-field : (largest : ℕ) (signed : Bool) → isField largest signed [] ≡ false
@@ -41,21 +60,42 @@ unfoldable pub onField : Rules → Kind → Bool → ℕ → List ℕ → List �
 onField r k m n numbers s Bad = malformed
 onField r k m n numbers s (Good sign v next) = lineFrom r k (m || sign) (n + 1) (set numbers n v) (behind 32 (restAt s next))
 
--- a field that was read lies behind its place and in its line
-pub field-past : (largest : ℕ) (signed : Bool) (s : List ℕ) (at : ℕ) {m : Bool} {v next : ℕ} → fieldAt largest signed at (wordAt s at) ≡ Good m v next
+-- a number that was read lies behind its place and in its line, and so does a field
+number-past : (largest : ℕ) (minus : Bool) (s : List ℕ) (at : ℕ) {m : Bool} {v next : ℕ} → numberAt largest minus at (restAt s at) ≡ Good m v next
     → (at ≤ next) × (endAt s next ≡ endAt s at)
-unfolding fieldAt
-field-past largest signed s at {m} {v} {next} e =
-    let w = wordAt s at in
-    split (isField largest signed w)
+unfolding numberAt
+number-past largest minus s at {m} {v} {next} e =
+    let w = front (restAt s at) in
+    split (isNumber largest w && not (minus && eqb (worth 0 w) 0))
     (λ t.
-    let q : Good (negative w) (sizeOf w) (at + length w) ≡ Good m v next = rw t at e in
+    let q : Good minus (worth 0 w) (at + length w) ≡ Good m v next = rw t at e in
     let l : at + length w ≡ next = cc in
-    (omega arith, rw (sym l) (end-behind s at)))
+    (omega arith, rw (sym l) (end-behind s at (length w) (front-long (restAt s at)))))
     (λ t.
     let q : Bad ≡ Good m v next = rw t at e in
     let z : _≡_ {A = ℕ} 0 1 = cc in
     absurd (omega arith))
+
+pub field-past : (largest : ℕ) (signed : Bool) (s : List ℕ) (at : ℕ) {m : Bool} {v next : ℕ} → fieldAt largest signed at (restAt s at) ≡ Good m v next
+    → (at ≤ next) × (endAt s next ≡ endAt s at)
+field-past largest signed s at {m} {v} {next} e =
+    let b = getD s at 10 in
+    let f = rw (field-in largest signed s at refl) at e in
+    split (eqb b 45)
+    (λ sign.
+    let g = rw sign at f in
+    split signed
+    (λ t. let far = number-past largest true s (at + 1) (rw t at g) in (omega (arith, far .0), far .1 ∙ end-on s at refl (λ n. omega (arith, eqb-true b 45 sign, n))))
+    (λ t.
+    let q : Bad ≡ Good m v next = rw t at g in
+    let z : _≡_ {A = ℕ} 0 1 = cc in
+    absurd (omega arith)))
+    (λ plain. number-past largest false s at (rw plain at f))
+
+-- an empty word is left, which is no field
+wrong-line : (r : Rules) (k : Kind) (m : Bool) (n : ℕ) (numbers : List ℕ) → lineFrom r k m n numbers ([] ∷ []) ≡ malformed
+unfolding lineFrom allFields
+wrong-line r k m n numbers = rw (no-field (r .largest) (isShunt r n), and-false, and-false)
 
 module _ (r : Rules) (k : Kind) (m : Bool) (n : ℕ) (numbers : List ℕ) where
   -- the next word is one too many, no field, or a field
@@ -75,6 +115,57 @@ module _ (r : Rules) (k : Kind) (m : Bool) (n : ℕ) (numbers : List ℕ) where
   from-field w ws e =
       let one : n + suc (length ws) ≡ n + 1 + length ws = omega arith in
       rw (e, one, or-assoc, add-one n)
+
+  -- so by the next word
+  from-word : (w : List ℕ) (ws : List (List ℕ))
+      → lineFrom r k m n numbers (w ∷ ws) ≡ cond (isField (r .largest) (isShunt r n) w) (lineFrom r k (m || negative w) (n + 1) (set numbers n (sizeOf w)) ws) malformed
+  from-word w ws = split (isField (r .largest) (isShunt r n) w) (λ t. rw t (from-field w ws t)) (λ t. rw t (from-wrong w ws t))
+
+  -- the number in front is read on from, if and only if it is the word
+  number-line : (sign : Bool) (s : List ℕ) (at : ℕ)
+      → cond (isNumber (r .largest) (wordAt s at) && not (sign && eqb (worth 0 (wordAt s at)) 0))
+      (lineFrom r k (m || sign) (n + 1) (set numbers n (worth 0 (wordAt s at))) (behind 32 (restAt s (at + length (wordAt s at))))) malformed
+      ≡ onField r k m n numbers s (numberAt (r .largest) sign at (restAt s at))
+  unfolding numberAt onField
+  number-line sign s at =
+      let t = restAt s at in
+      let w = front t in
+      split (isNumber (r .largest) (wordAt s at))
+      (λ yes. rw (number-word (r .largest) t yes, yes) (split (sign && eqb (worth 0 (wordAt s at)) 0) (λ z. rw z) (λ z. rw z)))
+      (λ no.
+      let stuck : isNumber (r .largest) w ≡ true → malformed ≡ lineFrom r k (m || sign) (n + 1) (set numbers n (worth 0 w)) (behind 32 (restAt s (at + length w))) =
+      λ yes. ⊎-elim (λ e. absurd (true≢false (sym yes ∙ rw e at no)))
+      (λ e.
+      let none : behind 32 (restAt s (at + length w)) ≡ [] ∷ [] = ap (behind 32) (sym (rest-drop s at (length w) (front-long t))) ∙ e in
+      sym (ap (lineFrom r k (m || sign) (n + 1) (set numbers n (worth 0 w))) none ∙ wrong-line r k (m || sign) (n + 1) (set numbers n (worth 0 w))))
+      (front-or t) in
+      rw no (split (isNumber (r .largest) w) (λ yes. rw yes (split (sign && eqb (worth 0 w) 0) (λ z. rw z) (λ z. rw z (stuck yes)))) (λ none. rw none)))
+
+  -- behind a minus sign it is the word's rest
+  signed-line : (s : List ℕ) (at : ℕ) → eqb (getD s at 10) 45 ≡ true
+      → cond (isField (r .largest) (isShunt r n) (wordAt s at)) (lineFrom r k (m || negative (wordAt s at)) (n + 1) (set numbers n (sizeOf (wordAt s at))) (behind 32 (restAt s (at + length (wordAt s at))))) malformed
+      ≡ onField r k m n numbers s (cond (isShunt r n) (numberAt (r .largest) true (at + 1) (restAt s (at + 1))) Bad)
+  unfolding isField negative unsigned onField before
+  signed-line s at sign =
+      let b = getD s at 10 in
+      let is = eqb-true b 45 sign in
+      let one : at + suc (length (wordAt s (at + 1))) ≡ at + 1 + length (wordAt s (at + 1)) = omega arith in
+      rw (rest-on s at refl (λ e. omega (arith, is, e)), is, one)
+      (split (isShunt r n) (λ t. rw t (number-line true s (at + 1))) (λ t. rw (t, and-false)))
+
+  -- and a field
+  field-line : (s : List ℕ) (at : ℕ)
+      → lineFrom r k m n numbers (wordAt s at ∷ behind 32 (restAt s (at + length (wordAt s at)))) ≡ onField r k m n numbers s (fieldAt (r .largest) (isShunt r n) at (restAt s at))
+  unfolding isField
+  field-line s at =
+      let b = getD s at 10 in
+      let w = wordAt s at in
+      from-word w _ ∙ rw (field-in (r .largest) (isShunt r n) s at refl)
+      (split (eqb b 45)
+      (λ sign. rw sign (signed-line s at sign))
+      (λ plain.
+      let bare = word-plain s at plain in
+      rw (plain, bare .0, bare .1, and-true) (rw and-true at (number-line false s at))))
 
   -- at a place with the byte b
   module _ (s : List ℕ) (at : ℕ) {b : ℕ} (here : b ≡ getD s at 10) where
@@ -109,21 +200,18 @@ module _ (r : Rules) (k : Kind) (m : Bool) (n : ℕ) (numbers : List ℕ) where
       space-inside : b ≡ 10 → ⊥
       space-inside e = omega arith
 
-      after-words : behind 32 (restAt s at) ≡ wordAt s (at + 1) ∷ behind 32 (restAt s (at + 1 + length (wordAt s (at + 1))))
+      after-words : behind 32 (restAt s at) ≡ words (restAt s (at + 1))
       unfolding behind
-      after-words = rw (rest-on s at here space-inside, eq-eqb b 32 space) (words-at s (at + 1))
+      after-words = rw (rest-on s at here space-inside, eq-eqb b 32 space)
 
       pub after-full : r .most ≤ n → lineFrom r k m n numbers (behind 32 (restAt s at)) ≡ malformed
-      after-full l = rw after-words (from-full _ _ l)
+      after-full l = rw (after-words, words-at s (at + 1)) (from-full _ _ l)
 
-      pub after-space : lineFrom r k m n numbers (behind 32 (restAt s at)) ≡ onField r k m n numbers s (fieldAt (r .largest) (isShunt r n) (at + 1) (wordAt s (at + 1)))
-      unfolding fieldAt onField
-      after-space =
-          rw after-words
-          (split (isField (r .largest) (isShunt r n) (wordAt s (at + 1))) (λ t. rw t (from-field _ _ t)) (λ t. rw t (from-wrong _ _ t)))
+      pub after-space : lineFrom r k m n numbers (behind 32 (restAt s at)) ≡ onField r k m n numbers s (fieldAt (r .largest) (isShunt r n) (at + 1) (restAt s (at + 1)))
+      after-space = rw (after-words, words-at s (at + 1)) (field-line s (at + 1))
 
       -- a field was read and stored
-      pub after-field : {f : Field} {sign : Bool} {v next : ℕ} {new : List ℕ} → f ≡ fieldAt (r .largest) (isShunt r n) (at + 1) (wordAt s (at + 1)) → f ≡ Good sign v next → new ≡ set numbers n v
+      pub after-field : {f : Field} {sign : Bool} {v next : ℕ} {new : List ℕ} → f ≡ fieldAt (r .largest) (isShunt r n) (at + 1) (restAt s (at + 1)) → f ≡ Good sign v next → new ≡ set numbers n v
           → lineFrom r k m n numbers (behind 32 (restAt s at)) ≡ lineFrom r k (m || sign) (n + 1) new (behind 32 (restAt s next))
       unfolding onField
       after-field is good stored = rw (after-space, ← is, good, stored)

@@ -1,5 +1,6 @@
 pub mod Words
 pub mod Numbers
+pub mod Fronts
 pub mod Fields
 pub mod Newlines
 pub mod Keeps

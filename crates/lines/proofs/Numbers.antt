@@ -1,20 +1,20 @@
--- The reading of a number: a digit more, the end of its word, and what is no digit or too much.
+-- The reading of a number and of a field: a digit more, no further one, too much, a 0, a minus sign.
 -- Assumes nothing.
 use Prim.Native.Nat.{ℕ, suc, _+_, _-_, _*_, _<_, _≤_}
 use native.Mathlib.Omega.{arith}
-use mathlib.Core.Path.{_≡_, ap}
-use mathlib.Core.Bool.{Bool, true, false, cond, not, _&&_, _||_, and-true, and-false, or-true}
+use mathlib.Core.Path.{_≡_, refl, sym, ap, _∙_}
+use mathlib.Core.Bool.{Bool, true, false, true≢false, cond, not, _&&_, and-true, and-false}
 use mathlib.Core.List.{List, [], _∷_}
 use lib.Dec.{eqb, leb}
 use lib.ListN.{length, getD}
-use borrow.Author.Tests.{eqb-true, ne-eqb, le-leb, lt-leb, leb-true}
+use borrow.Author.Tests.{eqb-true, eqb-false, ne-eqb, le-leb, lt-leb, leb-true}
 use Rattle.lists.specs.Every.{every}
 use Rattle.lists.proofs.Split.{split, both}
 use Rattle.lines.specs.declared.Field.{Field}
 use Rattle.lines.specs.declared.Field.the-variants.{Good, Bad}
-use Rattle.lines.specs.Line.{isDigit, worth, startsWell, isNumber, negative, unsigned, isField}
-use Rattle.lines.specs.Field.{wordAt, isEnd, numberAt, digitsFrom, fieldAt}
-use Rattle.lines.proofs.Words.{word-at, word-none}
+use Rattle.lines.specs.Line.{isDigit, worth, startsWell, isNumber}
+use Rattle.lines.specs.Field.{restAt, digits, front, digitsFrom, numberAt, fieldAt}
+use Rattle.lines.proofs.Words.{rest-at, rest-end, rest-on}
 
 -- digits more make no number smaller
 pub worth-grows : (v : ℕ) (w : List ℕ) → v ≤ worth v w
@@ -29,68 +29,86 @@ digit-range b d = let parts = both (leb 48 b) (leb b 57) d in (leb-true 48 b (pa
 pub digit-on : {b : ℕ} → isDigit b ≡ true → b ≡ 10 → ⊥
 digit-on {b} d e = omega (arith, digit-range b d)
 
-digit-inside : (b : ℕ) → isDigit b ≡ true → isEnd b ≡ false
-digit-inside b d = rw (ne-eqb b 32 (λ e. omega (arith, digit-range b d)), ne-eqb b 10 (digit-on d))
+-- digits are all digits, and a number's word is nothing else than them
+digits-all : (t : List ℕ) → every isDigit (digits t) ≡ true
+unfolding digits every
+digits-all [] = refl
+digits-all (b ∷ t) = split (isDigit b) (λ d. rw (d, d) (digits-all t)) (λ d. rw d)
+
+front-nothing : front [] ≡ []
+unfolding front
+front-nothing = refl
+
+-- at a byte that is none, there are none
+module _ (s : List ℕ) (i : ℕ) {b : ℕ} (e : b ≡ getD s i 10) (d : isDigit b ≡ false) where
+  digits-here : digits (restAt s i) ≡ []
+  unfolding digits
+  digits-here = rw (rest-at s i e) (split (eqb b 10) (λ t. rw t) (λ t. rw (t, d)))
+
+  front-here : front (restAt s i) ≡ []
+  unfolding front digits
+  front-here =
+      let other : b ≡ 48 → ⊥ = λ z. true≢false (sym (ap isDigit z) ∙ d) in
+      rw (rest-at s i e) (split (eqb b 10) (λ t. rw t) (λ t. rw (t, ne-eqb b 48 other, d)))
 
 module _ (largest : ℕ) (m : Bool) where
-  pub digits-over : (i v : ℕ) (w : List ℕ) → largest < v → digitsFrom largest m i v w ≡ Bad
+  pub digits-over : (i v : ℕ) (t : List ℕ) → largest < v → digitsFrom largest m i v t ≡ Bad
   unfolding digitsFrom
-  digits-over i v w h = let over : largest < worth v w = omega (arith, worth-grows v w) in rw (lt-leb (worth v w) largest over, and-false (every isDigit w))
+  digits-over i v t h =
+      let over : largest < worth v (digits t) = omega (arith, worth-grows v (digits t)) in
+      rw (lt-leb (worth v (digits t)) largest over)
 
-  -- at a place with the byte b, behind digits that come to v
-  module _ (s : List ℕ) (i v : ℕ) {b : ℕ} (e : b ≡ getD s i 10) where
-    pub digits-turn : isDigit b ≡ true → digitsFrom largest m i v (wordAt s i) ≡ digitsFrom largest m (i + 1) (v * 10 + (b - 48)) (wordAt s (i + 1))
-    unfolding digitsFrom every worth
-    digits-turn d =
-        let one : i + suc (length (wordAt s (i + 1))) ≡ i + 1 + length (wordAt s (i + 1)) = omega arith in
-        rw (word-at s i e, digit-inside b d, d, one)
+  -- a digit in front, and none
+  digits-more : (i v b : ℕ) (t : List ℕ) → isDigit b ≡ true → digitsFrom largest m i v (b ∷ t) ≡ digitsFrom largest m (i + 1) (v * 10 + (b - 48)) t
+  unfolding digitsFrom digits worth
+  digits-more i v b t d =
+      let one : i + suc (length (digits t)) ≡ i + 1 + length (digits t) = omega arith in
+      rw (d, one)
 
-    pub digits-end : isEnd b ≡ true → v ≤ largest → digitsFrom largest m i v (wordAt s i) ≡ Good m v i
-    unfolding digitsFrom every worth
-    digits-end t h = let here : i + 0 ≡ i = omega arith in rw (word-at s i e, t, le-leb v largest h, here)
+  digits-none : (i v : ℕ) (t : List ℕ) → digits t ≡ [] → v ≤ largest → digitsFrom largest m i v t ≡ Good m v i
+  unfolding digitsFrom worth
+  digits-none i v t e h = let here : i + 0 ≡ i = omega arith in rw (e, le-leb v largest h, here)
 
-    pub digits-wrong : isDigit b ≡ false → isEnd b ≡ false → digitsFrom largest m i v (wordAt s i) ≡ Bad
-    unfolding digitsFrom every
-    digits-wrong d t = rw (word-at s i e, t, d)
-
-  -- a number from its first digit on, which is not 0, so neither is the number
-  number-from : (at b : ℕ) (w : List ℕ) → isDigit b ≡ true → (b ≡ 48 → ⊥) → numberAt largest m at (b ∷ w) ≡ digitsFrom largest m (at + 1) (b - 48) w
-  unfolding numberAt isNumber startsWell every worth digitsFrom
-  number-from at b w d p =
+  -- the number of a first digit, which is not 0, so neither is the number
+  number-digits : (at b : ℕ) (t : List ℕ) → isDigit b ≡ true → (b ≡ 48 → ⊥) → numberAt largest m at (b ∷ t) ≡ digitsFrom largest m (at + 1) (b - 48) t
+  unfolding numberAt front digits isNumber startsWell every worth digitsFrom
+  number-digits at b t d p =
+      let w = digits t in
       let one : at + suc (length w) ≡ at + 1 + length w = omega arith in
       let start : worth (0 * 10 + (b - 48)) w ≡ worth (b - 48) w = ap (λ (v : ℕ). worth v w) (omega arith) in
       let some : worth (b - 48) w ≡ 0 → ⊥ = λ z. p (omega (arith, worth-grows (b - 48) w, digit-range b d)) in
-      rw (d, ne-eqb b 48 p, start, ne-eqb (worth (b - 48) w) 0 some, and-false m, and-true, one)
+      rw (ne-eqb b 48 p, d, ne-eqb b 48 p, d, digits-all t, start, ne-eqb (worth (b - 48) w) 0 some, and-false m, and-true, one)
 
-  module _ (s : List ℕ) (at : ℕ) {b : ℕ} (e : b ≡ getD s at 10) where
-    pub number-digits : isDigit b ≡ true → (b ≡ 48 → ⊥) → numberAt largest m at (wordAt s at) ≡ digitsFrom largest m (at + 1) (b - 48) (wordAt s (at + 1))
-    number-digits d p = rw (word-at s at e, digit-inside b d) (number-from at b (wordAt s (at + 1)) d p)
+  number-wrong : (at : ℕ) (t : List ℕ) → front t ≡ [] → numberAt largest m at t ≡ Bad
+  unfolding numberAt isNumber startsWell
+  number-wrong at t e = rw e
 
-    -- a 0 in front
-    pub number-zero : b ≡ 48 → {c : ℕ} → c ≡ getD s (at + 1) 10 → numberAt largest m at (wordAt s at) ≡ cond (m || not (isEnd c)) Bad (Good false 0 (at + 1))
-    unfolding numberAt isNumber startsWell every worth
-    number-zero z {c} f =
-        rw (word-at s at e, z, word-none s (at + 1) f)
-        (split (isEnd c)
-        (λ t. rw (t, word-at s (at + 1) f, t) (zero m))
-        (λ t. rw (t, or-true m)))
-      where
-        zero : (k : Bool) → cond (leb 0 largest && not (k && true)) (Good k 0 (at + 1)) Bad ≡ cond (k || false) Bad (Good false 0 (at + 1))
-        zero true = rw (and-false (leb 0 largest))
-        zero false = rw (le-leb 0 largest (omega arith))
+  number-zero : (at : ℕ) (t : List ℕ) → numberAt largest m at (48 ∷ t) ≡ cond m Bad (Good false 0 (at + 1))
+  unfolding numberAt front isNumber startsWell every worth
+  number-zero at t = rw (le-leb 0 largest (omega arith)) (split m (λ k. rw k) (λ k. rw k))
 
-    pub number-wrong : isDigit b ≡ false → numberAt largest m at (wordAt s at) ≡ Bad
-    unfolding numberAt isNumber startsWell every
-    number-wrong d = rw (word-at s at e) (split (isEnd b) (λ t. rw t) (λ t. rw (t, d, and-false)))
+  -- at a place with the byte b
+  module _ (s : List ℕ) (i : ℕ) {b : ℕ} (e : b ≡ getD s i 10) where
+    pub digits-turn : (v : ℕ) → isDigit b ≡ true → digitsFrom largest m i v (restAt s i) ≡ digitsFrom largest m (i + 1) (v * 10 + (b - 48)) (restAt s (i + 1))
+    digits-turn v d = rw (rest-on s i e (digit-on d)) (digits-more i v b (restAt s (i + 1)) d)
 
--- a field by its first byte, the minus sign or a digit
-pub field-in : (largest : ℕ) (signed : Bool) (s : List ℕ) (at : ℕ) {b : ℕ} → b ≡ getD s at 10
-    → fieldAt largest signed at (wordAt s at) ≡ cond (eqb b 45) (cond signed (numberAt largest true (at + 1) (wordAt s (at + 1))) Bad)
-    (numberAt largest false at (wordAt s at))
-unfolding fieldAt numberAt isField negative unsigned
-field-in largest signed s at {b} e =
-    split (eqb b 45)
-    (λ sign.
-    let one : at + suc (length (wordAt s (at + 1))) ≡ at + 1 + length (wordAt s (at + 1)) = omega arith in
-    rw (word-at s at e, eqb-true b 45 sign, one) (split signed (λ t. rw t) (λ t. rw (t, and-false))))
-    (λ plain. rw (word-at s at e, plain, and-true) (split (isEnd b) (λ t. rw (t, and-true)) (λ t. rw (t, plain, and-true))))
+    pub digits-end : (v : ℕ) → isDigit b ≡ false → v ≤ largest → digitsFrom largest m i v (restAt s i) ≡ Good m v i
+    digits-end v d h = digits-none i v (restAt s i) (digits-here s i e d) h
+
+    pub number-more : isDigit b ≡ true → (b ≡ 48 → ⊥) → numberAt largest m i (restAt s i) ≡ digitsFrom largest m (i + 1) (b - 48) (restAt s (i + 1))
+    number-more d p = rw (rest-on s i e (digit-on d)) (number-digits i b (restAt s (i + 1)) d p)
+
+    pub number-nought : b ≡ 48 → numberAt largest m i (restAt s i) ≡ cond m Bad (Good false 0 (i + 1))
+    number-nought z = rw (rest-on s i e (λ t. omega arith), z) (number-zero i (restAt s (i + 1)))
+
+    pub number-none : isDigit b ≡ false → numberAt largest m i (restAt s i) ≡ Bad
+    number-none d = number-wrong i (restAt s i) (front-here s i e d)
+
+-- a field by its first byte, the minus sign or another
+module _ (largest : ℕ) (signed : Bool) (s : List ℕ) (at : ℕ) {b : ℕ} (e : b ≡ getD s at 10) where
+  pub field-in : fieldAt largest signed at (restAt s at) ≡ cond (eqb b 45) (cond signed (numberAt largest true (at + 1) (restAt s (at + 1))) Bad) (numberAt largest false at (restAt s at))
+  unfolding fieldAt
+  field-in =
+      split (eqb b 10)
+      (λ t. rw (rest-end s at e (eqb-true b 10 t), eqb-true b 10 t) (sym (number-wrong largest false at [] front-nothing)))
+      (λ t. rw (rest-on s at e (eqb-false b 10 t)))

@@ -1,21 +1,19 @@
--- The rest of a line and its first word, by their first byte.
+-- The rest of a line by its first byte, and from a place further on.
 -- Assumes nothing.
-use Prim.Native.Nat.{ℕ, zero, suc, _+_, _<_, _≤_, suc-le-suc}
+use Prim.Native.Nat.{ℕ, zero, suc, _+_, _-_, _<_, _≤_, suc-le-suc}
 use native.Mathlib.Nat.{not-suc-le-zero, le-of-suc-le-suc}
 use native.Mathlib.Numerals.{add-one}
 use native.Mathlib.Omega.{arith}
 use mathlib.Core.Path.{_≡_, refl, sym, ap, _∙_}
-use mathlib.Core.Bool.{cond, or-true, or-false}
+use mathlib.Core.Bool.{cond}
 use mathlib.Core.List.{List, [], _∷_}
-use lib.Dec.{eqb, eqb·suc-zero}
+use lib.Dec.{eqb}
 use lib.ListN.{length, getD, drop, length-drop}
 use lib.Seq.{drop-drop}
 use borrow.Author.Tests.{eq-eqb, ne-eqb}
 use Rattle.lists.proofs.Split.{split}
 use Rattle.cutter.specs.Lines.{before}
-use Rattle.cutter.proofs.Pieces.{behind, first-piece}
-use Rattle.lines.specs.Line.{words}
-use Rattle.lines.specs.Field.{restAt, endAt, wordAt, isEnd}
+use Rattle.lines.specs.Field.{restAt, endAt}
 
 -- a byte of the bytes, whatever stands for those behind their end
 pub byte-any : (s : List ℕ) (i d e : ℕ) → i < length s → getD s i d ≡ getD s i e
@@ -40,14 +38,6 @@ module _ (s : List ℕ) (i : ℕ) {b : ℕ} (e : b ≡ getD s i 10) where
   pub rest-at : restAt s i ≡ cond (eqb b 10) [] (b ∷ restAt s (i + 1))
   rest-at = rw e (rest-here s i)
 
-  pub word-at : wordAt s i ≡ cond (isEnd b) [] (b ∷ wordAt s (i + 1))
-  unfolding before
-  word-at = rw rest-at (split (eqb b 10) (λ t. rw (t, or-true (eqb b 32))) (λ t. rw (t, or-false (eqb b 32))))
-
-  -- the word is empty exactly at its end
-  pub word-none : eqb (length (wordAt s i)) 0 ≡ isEnd b
-  word-none = rw word-at (split (isEnd b) (λ t. rw t) (λ t. rw (t, eqb·suc-zero)))
-
   pub rest-end : b ≡ 10 → restAt s i ≡ []
   rest-end t = rw (rest-at, eq-eqb b 10 t)
 
@@ -62,9 +52,9 @@ module _ (s : List ℕ) (i : ℕ) {b : ℕ} (e : b ≡ getD s i 10) where
     pub end-on : endAt s (i + 1) ≡ endAt s i
     end-on = rw rest-on (omega arith)
 
--- ---- behind a word
+-- ---- further on in a line
 
-before-long : (c : ℕ) (t : List ℕ) → length (before c t) ≤ length t
+pub before-long : (c : ℕ) (t : List ℕ) → length (before c t) ≤ length t
 unfolding before
 before-long c [] = omega arith
 before-long c (b ∷ t) = split (eqb b c) (λ e. rw e (omega arith)) (λ e. rw e (omega (arith, before-long c t)))
@@ -88,17 +78,11 @@ before-drop c (suc k) (b ∷ t) h =
     (λ e. let l : suc k ≤ suc (length (before c t)) = rw e at h in rw e (before-drop c k t (le-of-suc-le-suc l)))
 
 module _ (s : List ℕ) (i : ℕ) where
-  rest-drop : (k : ℕ) → k ≤ length (restAt s i) → drop k (restAt s i) ≡ restAt s (i + k)
+  pub rest-drop : (k : ℕ) → k ≤ length (restAt s i) → drop k (restAt s i) ≡ restAt s (i + k)
   rest-drop k h = before-drop 10 k (drop i s) h ∙ rw (drop-drop k i s)
 
-  -- the words of a line are the first, and those behind it
-  pub words-at : words (restAt s i) ≡ wordAt s i ∷ behind 32 (restAt s (i + length (wordAt s i)))
-  words-at = first-piece 32 (restAt s i) ∙ rw (rest-drop (length (wordAt s i)) (before-long 32 (restAt s i)))
-
   -- and the line ends where it did
-  pub end-behind : endAt s (i + length (wordAt s i)) ≡ endAt s i
-  end-behind =
-      let k = length (wordAt s i) in
-      let few = before-long 32 (restAt s i) in
-      let some : length (restAt s i) ≡ k + length (restAt s (i + k)) = rw (sym (rest-drop k few), length-drop k (restAt s i)) (omega arith) in
+  pub end-behind : (k : ℕ) → k ≤ length (restAt s i) → endAt s (i + k) ≡ endAt s i
+  end-behind k few =
+      let some : length (restAt s (i + k)) ≡ length (restAt s i) - k = rw (sym (rest-drop k few)) (length-drop k (restAt s i)) in
       omega arith

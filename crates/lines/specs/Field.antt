@@ -1,18 +1,17 @@
--- What the code reads at a place of some bytes: the rest of a line, its first word, a field, and the whole line.
+-- What the code reads at a place of some bytes: the rest of a line, a number or a field in front of it, and the whole line.
 -- Assumes nothing.
 use Prim.Native.Nat.{ℕ, _+_, _≤_}
 use Prim.Native.Char.{code}
 use mathlib.Core.Path.{_≡_}
-use mathlib.Core.Bool.{Bool, cond, not, _&&_, _||_}
-use mathlib.Core.List.{List}
+use mathlib.Core.Bool.{Bool, true, false, cond, not, _&&_}
+use mathlib.Core.List.{List, [], _∷_}
 use lib.Dec.{eqb, leb}
 use lib.ListN.{length, drop}
-use Rattle.lists.specs.Every.{every}
-use Rattle.cutter.specs.Lines.{before, newline, upTo}
+use Rattle.cutter.specs.Lines.{upTo}
 use Rattle.lines.specs.declared.Field.{Field}
 use Rattle.lines.specs.declared.Field.the-variants.{Good, Bad}
 use Rattle.lines.specs.declared.Found.{Found}
-use Rattle.lines.specs.Line.{words, isDigit, worth, isNumber, negative, sizeOf, isField, wordsSay, lineOf}
+use Rattle.lines.specs.Line.{words, isDigit, worth, isNumber, wordsSay, lineOf}
 
 -- the line from a place on, and where it ends
 abbrev pub restAt : List ℕ → ℕ → List ℕ
@@ -21,24 +20,31 @@ restAt s at = upTo (drop at s)
 abbrev pub endAt : List ℕ → ℕ → ℕ
 endAt s at = at + length (restAt s at)
 
--- the word from a place on; a space ends it, and the end of the line
-abbrev pub wordAt : List ℕ → ℕ → List ℕ
-wordAt s at = before (code " ") (restAt s at)
+-- the digits in front of some bytes
+unfoldable pub digits : List ℕ → List ℕ
+digits [] = []
+digits (b ∷ t) = cond (isDigit b) (b ∷ digits t) []
 
-abbrev pub isEnd : ℕ → Bool
-isEnd b = eqb b (code " ") || eqb b newline
+-- the digits of a number in front of some bytes: a 0 has no more behind it
+unfoldable pub front : List ℕ → List ℕ
+front [] = []
+front (b ∷ t) = cond (eqb b (code "0")) (b ∷ []) (digits (b ∷ t))
 
--- a word that begins at a place, taken for a number, and not for 0 behind a minus sign
-unfoldable pub numberAt : ℕ → Bool → ℕ → List ℕ → Field
-numberAt largest minus at w = cond (isNumber largest w && not (minus && eqb (worth 0 w) 0)) (Good minus (worth 0 w) (at + length w)) Bad
-
--- the rest of a number's word, behind digits that come to v
+-- what the digits in front of some bytes make, behind others that come to v
 unfoldable pub digitsFrom : ℕ → Bool → ℕ → ℕ → List ℕ → Field
-digitsFrom largest minus at v w = cond (every isDigit w && leb (worth v w) largest) (Good minus (worth v w) (at + length w)) Bad
+digitsFrom largest minus at v t = cond (leb (worth v (digits t)) largest) (Good minus (worth v (digits t)) (at + length (digits t))) Bad
 
--- a word, taken for a field
+-- the number in front of some bytes that begin at a place, and not 0 behind a minus sign
+unfoldable pub numberAt : ℕ → Bool → ℕ → List ℕ → Field
+numberAt largest minus at t =
+    let w = front t in
+    cond (isNumber largest w && not (minus && eqb (worth 0 w) 0)) (Good minus (worth 0 w) (at + length w)) Bad
+
+-- the same, with a minus sign where one may stand. Whether a space or the end of the line is next is not asked here
 unfoldable pub fieldAt : ℕ → Bool → ℕ → List ℕ → Field
-fieldAt largest signed at w = cond (isField largest signed w) (Good (negative w) (sizeOf w) (at + length w)) Bad
+fieldAt largest signed at [] = Bad
+fieldAt largest signed at (b ∷ t) =
+    cond (eqb b (code "-")) (cond signed (numberAt largest true (at + 1) t) Bad) (numberAt largest false at (b ∷ t))
 
 -- what the words of a line say, read up to a place that is still in the line
 pub record Told (s : List ℕ) (at : ℕ) (r : Found) : Type 0 where

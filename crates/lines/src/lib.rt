@@ -1,9 +1,9 @@
 // A line of the bench: its bytes taken apart into a letter and numbers, or malformed (01, The bench program).
 ghost use mathlib.Core.Path.{_≡_};
-ghost use Prim.Native.Nat.{_≤_, _-_};
+ghost use Prim.Native.Nat.{_≤_};
 ghost use lib.ListN.{getD};
 ghost use Rattle.lines.specs.Line.{isDigit, letter, rulesOf, blank, malformed, lineOf};
-ghost use Rattle.lines.specs.Field.{isEnd, wordAt, numberAt, fieldAt, digitsFrom, Told, foundAt};
+ghost use Rattle.lines.specs.Field.{restAt, digitsFrom, numberAt, fieldAt, Told, foundAt};
 
 pub enum Kind {
     Open,
@@ -102,22 +102,18 @@ fn byte_at(s: &[u8], at: usize) -> u8
 fn is_digit(b: u8) -> bool
     ensures { λ r. ⌜ r ≡ isDigit b ⌝ }
 {
-    (b'0' <= b) & (b <= b'9')
-}
-
-// A space ends a word, and so does the end of the line.
-fn is_end(b: u8) -> bool
-    ensures { λ r. ⌜ r ≡ isEnd b ⌝ }
-{
-    (b == b' ') | (b == 10)
+    if b < b'0' {
+        return false;
+    }
+    b <= b'9'
 }
 
 // ---- fields
 
-// The number whose first digits are worth v: the rest of its word, read once.
+// The number whose first digits come to v: the digits behind them, read once.
 fn digits_from(s: &[u8], at: usize, largest: u32, minus: bool, v: u32) -> Field
     requires { ⌜ v ≤ largest ⌝ }
-    ensures { λ r. ⌜ r ≡ digitsFrom largest minus at v (wordAt (now (s .entry)) at) ⌝ }
+    ensures { λ r. ⌜ r ≡ digitsFrom largest minus at v (restAt (now (s .entry)) at) ⌝ }
 {
     // ten times the largest number and a digit more still fit
     let top = largest as u64;
@@ -126,37 +122,29 @@ fn digits_from(s: &[u8], at: usize, largest: u32, minus: bool, v: u32) -> Field
     loop {
         let b = byte_at(s, i);
         if is_digit(b) {
-            let more = sum * 10 + (b - b'0') as u64;
-            if top < more {
+            sum = sum * 10 + (b - b'0') as u64;
+            if top < sum {
                 return Field::Bad;
             }
-            sum = more;
             i += 1;
         } else {
-            if is_end(b) {
-                return Field::Good {
-                    minus: minus,
-                    size: sum as u32,
-                    next: i,
-                };
-            }
-            return Field::Bad;
+            return Field::Good {
+                minus: minus,
+                size: sum as u32,
+                next: i,
+            };
         }
     }
 }
 
-// The number that begins here. A 0 is alone in its word, and has no minus sign.
+// The number that begins here. A 0 has no digit behind it, and no minus sign in front.
 fn number_at(s: &[u8], at: usize, largest: u32, minus: bool) -> Field
     requires { ⌜ 9 ≤ largest ⌝ }
-    ensures { λ r. ⌜ r ≡ numberAt largest minus at (wordAt (now (s .entry)) at) ⌝ }
+    ensures { λ r. ⌜ r ≡ numberAt largest minus at (restAt (now (s .entry)) at) ⌝ }
 {
     let first = byte_at(s, at);
-    if is_digit(first) {
-        if first != b'0' {
-            return digits_from(s, at + 1, largest, minus, (first - b'0') as u32);
-        }
-        let alone = is_end(byte_at(s, at + 1));
-        if minus | !alone {
+    if first == b'0' {
+        if minus {
             return Field::Bad;
         }
         return Field::Good {
@@ -165,13 +153,16 @@ fn number_at(s: &[u8], at: usize, largest: u32, minus: bool) -> Field
             next: at + 1,
         };
     }
+    if is_digit(first) {
+        return digits_from(s, at + 1, largest, minus, (first - b'0') as u32);
+    }
     Field::Bad
 }
 
-// The field that begins here; a minus sign only where one may stand.
+// The field that begins here; a minus sign only where one may stand. Its word has to end behind it, which words_at sees.
 fn field_at(s: &[u8], at: usize, largest: u32, signed: bool) -> Field
     requires { ⌜ 9 ≤ largest ⌝ }
-    ensures { λ r. ⌜ r ≡ fieldAt largest signed at (wordAt (now (s .entry)) at) ⌝ }
+    ensures { λ r. ⌜ r ≡ fieldAt largest signed at (restAt (now (s .entry)) at) ⌝ }
 {
     if byte_at(s, at) != b'-' {
         return number_at(s, at, largest, false);

@@ -1,4 +1,4 @@
--- `digits_from`: what is read from the start is what the sum so far and the word from i on come to.
+-- `digits_from`: what is read from the start is what the sum so far and the digits from i on come to.
 -- Assumes nothing.
 use Prim.Native.Nat.{_-_, _≤_}
 use native.Mathlib.Omega.{arith}
@@ -6,15 +6,15 @@ use mathlib.Core.Path.{_≡_, refl, sym, _∙_}
 use lib.ListN.{length}
 use mathlib.Core.Bool.{true}
 use Rattle.lines.specs.Line.{isDigit}
-use Rattle.lines.specs.Field.{wordAt, digitsFrom}
+use Rattle.lines.specs.Field.{restAt, digitsFrom}
 use Rattle.lines.proofs.Words.{byte-within}
-use Rattle.lines.proofs.Numbers.{digit-range, digit-on, digits-over, digits-turn, digits-end, digits-wrong}
+use Rattle.lines.proofs.Numbers.{digit-range, digit-on, digits-over, digits-turn, digits-end}
 use borrow.Author.Needs.{needs}
 use Rattle.lines.proofs.digits_from.Statement.{statement}
 use Rattle.lines.proofs.digits_from.Tie as tie
 
 abbrev Inv-loop : tie.InvT-loop
-Inv-loop s at largest minus v top sum₀ i₀ sum i = (sum ≤ largest) × (digitsFrom largest minus at v (wordAt s at) ≡ digitsFrom largest minus i sum (wordAt s i))
+Inv-loop s at largest minus v top sum₀ i₀ sum i = (sum ≤ largest) × (digitsFrom largest minus at v (restAt s at) ≡ digitsFrom largest minus i sum (restAt s i))
 
 abbrev μ-loop : tie.MeasureT-loop
 μ-loop s at largest minus v top sum₀ i₀ sum i = length s - i
@@ -35,23 +35,23 @@ byte-at-requires c κs = search needs
 is-digit-requires : tie.Need-is-digit-requires Inv-loop μ-loop
 is-digit-requires c κs = search needs
 
-mul-more : tie.Need-mul-more Inv-loop μ-loop
-mul-more c = search needs
+mul-sum : tie.Need-mul-sum Inv-loop μ-loop
+mul-sum c = search needs
 
-sub-more : tie.Need-sub-more Inv-loop μ-loop
-sub-more c = omega (arith, range c .0)
+sub-sum : tie.Need-sub-sum Inv-loop μ-loop
+sub-sum c = omega (arith, range c .0)
 
-cast-more : tie.Need-cast-more Inv-loop μ-loop
-cast-more c = search needs
+cast-sum : tie.Need-cast-sum Inv-loop μ-loop
+cast-sum c = search needs
 
-add-more : tie.Need-add-more Inv-loop μ-loop
-add-more c = let few = range c in let inv = c .before .before .before .loop .inv in omega (arith, few, inv .0)
+add-sum : tie.Need-add-sum Inv-loop μ-loop
+add-sum c = let few = range c in let inv = c .before .before .before .loop .inv in omega (arith, few, inv .0)
 
 returns : tie.Need-returns Inv-loop μ-loop
 returns c =
     let t = c .before in
     let h = t .before .before .before .loop in
-    sym (h .inv .1 ∙ digits-turn _ _ _ (h .i) _ (t .before .before .byte-at .ensures) (digit t) ∙ digits-over _ _ _ _ _ (c .if2 .taken))
+    sym (h .inv .1 ∙ digits-turn _ _ _ (h .i) (t .before .before .byte-at .ensures) _ (digit t) ∙ digits-over _ _ _ _ _ (c .if2 .taken))
 
 add-i : tie.Need-add-i Inv-loop μ-loop
 add-i c =
@@ -67,25 +67,16 @@ loop-again : tie.Need-loop-again Inv-loop μ-loop
 loop-again c =
     let t = c .before in
     let h = t .before .before .before .loop in
-    (search needs, h .inv .1 ∙ digits-turn _ _ _ (h .i) _ (t .before .before .byte-at .ensures) (digit t))
+    (search needs, h .inv .1 ∙ digits-turn _ _ _ (h .i) (t .before .before .byte-at .ensures) _ (digit t))
 
-is-end-requires : tie.Need-is-end-requires Inv-loop μ-loop
-is-end-requires c κs = search needs
-
-cast-t17 : tie.Need-cast-t17 Inv-loop μ-loop
-cast-t17 c = search needs
+cast-t15 : tie.Need-cast-t15 Inv-loop μ-loop
+cast-t15 c = search needs
 
 returns-2 : tie.Need-returns-2 Inv-loop μ-loop
 returns-2 c =
-    let b = c .before .before .before .before in
-    let h = b .before .loop in
-    sym (h .inv .1 ∙ digits-end _ _ _ (h .i) _ (b .byte-at .ensures) (sym (c .before .is-end .ensures) ∙ c .if3 .taken) (h .inv .0))
-
-returns-3 : tie.Need-returns-3 Inv-loop μ-loop
-returns-3 c =
-    let d = c .before .before .before in
+    let d = c .before in
     let h = d .before .before .loop in
-    sym (h .inv .1 ∙ digits-wrong _ _ _ (h .i) _ (d .before .byte-at .ensures) (sym (d .is-digit .ensures) ∙ c .before .before .if1 .left) (sym (c .before .is-end .ensures) ∙ c .if3 .left))
+    sym (h .inv .1 ∙ digits-end _ _ _ (h .i) (d .before .byte-at .ensures) _ (sym (d .is-digit .ensures) ∙ c .if1 .left) (h .inv .0))
 
 pub digits-from-spec : {M : Type 1} → statement M
 digits-from-spec =
@@ -96,15 +87,13 @@ digits-from-spec =
     loop-holds
     byte-at-requires
     is-digit-requires
-    mul-more
-    sub-more
-    cast-more
-    add-more
+    mul-sum
+    sub-sum
+    cast-sum
+    add-sum
     returns
     add-i
     loop-less
     loop-again
-    is-end-requires
-    cast-t17
-    returns-2
-    returns-3)
+    cast-t15
+    returns-2)
