@@ -3,58 +3,55 @@
 use Prim.Native.Nat.{ℕ, _+_, _<_, _≤_}
 use native.Mathlib.Omega.{arith}
 use mathlib.Core.Path.{_≡_, refl}
-use mathlib.Core.Bool.{Bool, true, not}
+use mathlib.Core.Bool.{Bool, true, false, not}
 use mathlib.Core.List.{List, [], _∷_, _++_, append-assoc, append-nil}
 use lib.Dec.{eqb}
 use lib.ListN.{length, length-append}
 use borrow.Author.Tests.{ne-eqb}
+use Rattle.marks.specs.Marks.{bit}
 use Rattle.lists.specs.Every.{every}
 use Rattle.text.specs.declared.Told.{Told}
 use Rattle.text.specs.declared.Told.the-variants.{Opened, Refused, Status, Reply, Reading}
-use Rattle.text.specs.Text.{digit, decimal, wordsOf, textOf}
+use Rattle.text.specs.Text.{digit, decimal, wordsOf, textOf, Typed}
 use Rattle.text.proofs.Decimal.{decimal-five as five, decimal-fold, flag-digit}
 
 abbrev pub plain : ℕ → Bool
 plain b = not (eqb b 10)
 
-number-plain : (n : ℕ) (s : List ℕ) → every plain (decimal n ++ s) ≡ every plain s
+number-plain : (n : ℕ) → n < 65536 → (s : List ℕ) → every plain (decimal n ++ s) ≡ every plain s
 unfolding every
-number-plain = decimal-fold (λ v s. every plain s) λ v d s h. rw (ne-eqb (digit d) 10 (λ e. omega arith))
+number-plain n h s = decimal-fold (λ v s. every plain s) (λ v d s l. rw (ne-eqb (digit d) 10 (λ e. omega arith))) n s h
 
-number-last : (n : ℕ) → every plain (decimal n) ≡ true
+number-last : (n : ℕ) → n < 65536 → every plain (decimal n) ≡ true
 unfolding every
-number-last n = rw append-nil at (number-plain n [])
+number-last n h = rw append-nil at (number-plain n h [])
 
-words-plain : (told : Told) → every plain (wordsOf told) ≡ true
+flag-plain : (b : Bool) (s : List ℕ) → every plain (decimal (bit b) ++ s) ≡ every plain s
+flag-plain true s = number-plain 1 (omega arith) s
+flag-plain false s = number-plain 0 (omega arith) s
+
+words-plain : (told : Told) → Typed told → every plain (wordsOf told) ≡ true
 unfolding wordsOf every
-words-plain Opened = refl
-words-plain (Refused n) = simp number-last
-words-plain (Status status bled) = simp (number-plain, number-last)
-words-plain (Reply address register value check) = simp (number-plain, number-last)
-words-plain (Reading line chg dsg board cell) = simp (number-plain, number-last)
+words-plain Opened h = refl
+words-plain (Refused n) h = simp (number-last n (omega arith))
+words-plain (Status status bled) h = simp (number-plain status (omega arith), number-last bled (omega arith))
+words-plain (Reply address register value check) h =
+    simp (number-plain address (omega arith), number-plain register (omega arith), number-plain value (omega arith), number-last check (omega arith))
+words-plain (Reading line chg dsg board cell) h = simp (flag-plain, number-plain board (omega arith), number-last cell (omega arith))
 
-pub one-newline : (told : Told) → (textOf told ≡ wordsOf told ++ (10 ∷ [])) × (every plain (wordsOf told) ≡ true)
+pub one-newline : (told : Told) → Typed told → (textOf told ≡ wordsOf told ++ (10 ∷ [])) × (every plain (wordsOf told) ≡ true)
 unfolding textOf
-one-newline told = (refl, words-plain told)
-
--- the numbers are within their types, which leaves 32 bytes at most
-abbrev pub Typed : Told → Type 0
-Typed Opened = record {}
-Typed (Refused n) = n < 256
-Typed (Status status bled) = (status < 256) × (bled < 65536)
-Typed (Reply address register value check) = (address < 256) × (register < 256) × (value < 256) × (check < 256)
-Typed (Reading line chg dsg board cell) = (board < 256) × (cell < 256)
+one-newline told h = (refl, words-plain told h)
 
 number-long : (n : ℕ) (s t : List ℕ) → length ((decimal n ++ s) ++ t) ≡ length (decimal n) + length (s ++ t)
 number-long n s t = rw (append-assoc (decimal n) s t) (length-append (decimal n) (s ++ t))
 
-pub text-short : (told : Told) → Typed told → length (textOf told) ≤ 32
+-- and has 32 bytes at most, whatever its numbers
+pub text-short : (told : Told) → length (textOf told) ≤ 32
 unfolding textOf wordsOf
-text-short Opened h = omega arith
-text-short (Refused n) h = simp length-append (omega (arith, five n (omega arith)))
-text-short (Status status bled) h = simp (number-long, length-append) (omega (arith, five status (omega arith), five bled (omega arith)))
-text-short (Reply address register value check) h =
-    simp (number-long, length-append)
-    (omega (arith, five address (omega arith), five register (omega arith), five value (omega arith), five check (omega arith)))
-text-short (Reading line chg dsg board cell) h =
-    simp (number-long, length-append, flag-digit) (omega (arith, five board (omega arith), five cell (omega arith)))
+text-short Opened = omega arith
+text-short (Refused n) = simp length-append (omega (arith, five n))
+text-short (Status status bled) = simp (number-long, length-append) (omega (arith, five status, five bled))
+text-short (Reply address register value check) =
+    simp (number-long, length-append) (omega (arith, five address, five register, five value, five check))
+text-short (Reading line chg dsg board cell) = simp (number-long, length-append, flag-digit) (omega (arith, five board, five cell))

@@ -3,7 +3,7 @@
 use mathlib.Core.Path.{_≡_, refl}
 use mathlib.Core.Bool.{true, false}
 use Rattle.text.specs.declared.Told.the-variants.{Opened, Refused, Status, Reply, Reading}
-use Rattle.text.specs.Text.{bytes, spelt, decimal, wordsOf, textOf}
+use Rattle.text.specs.Text.{bytes, placeOf, decimal, wordsOf, textOf}
 
 pub record Shown : Type 0 where
   pub opened : textOf Opened ≡ bytes "ok\n"
@@ -14,5 +14,5 @@ pub record Shown : Type 0 where
   pub refused : textOf (Refused 12) ≡ bytes "no 12\n"
 
 pub shown : Shown
-unfolding textOf wordsOf decimal spelt
+unfolding textOf wordsOf decimal placeOf
 shown = record { opened = refl; sampled = refl; replied = refl; latched = refl; read = refl; refused = refl }

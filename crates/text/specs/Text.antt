@@ -1,12 +1,12 @@
 -- The line that answers an act, as its bytes (01, The bench program).
 -- Assumes nothing.
-use Prim.Native.Nat.{ℕ, zero, suc, _+_, _/_, _%_, _≤_}
+use Prim.Native.Nat.{ℕ, _+_, _/_, _%_, _<_, _≤_}
 use Prim.Native.Char.{code}
 use Prim.Native.String as string
 use mathlib.Core.Path.{_≡_}
 use mathlib.Core.Bool.{cond}
 use mathlib.Core.List.{List, [], _∷_, _++_}
-use lib.Dec.{ltb, leb}
+use lib.Dec.{leb}
 use lib.ListN.{length}
 use lib.Seq.{sets}
 use Rattle.marks.specs.Marks.{bit}
@@ -22,13 +22,13 @@ bytes (string._∷_ c s) = code c ∷ bytes s
 abbrev pub digit : ℕ → ℕ
 digit n = 48 + n
 
--- decimal, no leading zeros: the digits of the tens and then the last one; the first number only bounds how many there may be
-unfoldable pub spelt : ℕ → ℕ → List ℕ
-spelt zero n = []
-spelt (suc most) n = cond (ltb n 10) (digit n ∷ []) (spelt most (n / 10) ++ (digit (n % 10) ∷ []))
+-- the digit in a place (10, 100 and so on), of a number that reaches that far
+unfoldable pub placeOf : ℕ → ℕ → List ℕ
+placeOf place n = cond (leb place n) (digit (n / place % 10) ∷ []) []
 
+-- decimal, no leading zeros: the last digit always, those before it where the number reaches. No answer has a number of six digits
 unfoldable pub decimal : ℕ → List ℕ
-decimal n = spelt (n + 1) n
+decimal n = placeOf 10000 n ++ (placeOf 1000 n ++ (placeOf 100 n ++ (placeOf 10 n ++ (digit (n % 10) ∷ []))))
 
 abbrev pub field : string.String → ℕ → List ℕ
 field word n = bytes word ++ decimal n
@@ -58,3 +58,11 @@ pub record Put (at : ℕ) (text old new : List ℕ) (next : ℕ) : Type 0 where
 pub record Printed (told : Told) (at : ℕ) (old new : List ℕ) (next : ℕ) : Type 0 where
   pub line : Put at (placed (length old) at told) old new next
   pub inside : at ≤ length old → next ≤ length old
+
+-- the numbers of an answer are within their types: bytes, and the bled cells sixteen bits
+abbrev pub Typed : Told → Type 0
+Typed Opened = record {}
+Typed (Refused n) = n < 256
+Typed (Status status bled) = (status < 256) × (bled < 65536)
+Typed (Reply address register value check) = (address < 256) × (register < 256) × (value < 256) × (check < 256)
+Typed (Reading line chg dsg board cell) = (board < 256) × (cell < 256)

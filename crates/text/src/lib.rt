@@ -1,10 +1,10 @@
 // The line that answers an act, put into a lent buffer (01, The bench program).
 ghost use mathlib.Core.Path.{_≡_};
-ghost use mathlib.Core.List.{_++_};
-ghost use Prim.Native.Nat.{_+_, _≤_};
+ghost use mathlib.Core.List.{[], _∷_, _++_};
+ghost use Prim.Native.Nat.{_+_, _<_, _≤_};
 ghost use lib.ListN.{length};
 ghost use Rattle.marks.specs.Marks.{bit};
-ghost use Rattle.text.specs.Text.{Put, Printed, decimal, wordsOf};
+ghost use Rattle.text.specs.Text.{Put, Printed, digit, placeOf, decimal, wordsOf};
 
 pub enum Told {
     Opened,
@@ -41,21 +41,41 @@ fn put_bytes(out: &mut [u8], at: usize, s: &[u8]) -> usize
     at + i
 }
 
-// The same with the decimal digits of n.
-fn put_number(out: &mut [u8], at: usize, n: u16) -> usize
-    requires { ⌜ at + length (decimal n) ≤ length (now out) ⌝ }
-    ensures { λ r. ⌜ Put at (decimal n) (now (out .entry)) (now (out .exit)) r ⌝ }
+// The same with one digit.
+fn put_digit(out: &mut [u8], at: usize, d: u16) -> usize
+    requires { ⌜ (at + 1 ≤ length (now out)) × (d < 10) ⌝ }
+    ensures { λ r. ⌜ Put at (digit d ∷ []) (now (out .entry)) (now (out .exit)) r ⌝ }
 {
-    if n < 10 {
-        out[at] = 48 + n as u8;
-        return at + 1;
-    }
-    let tens_end = put_number(out, at, n / 10);
-    out[tens_end] = 48 + (n % 10) as u8;
-    tens_end + 1
+    out[at] = 48 + d as u8;
+    at + 1
 }
 
-// The same with a word and a number, which has five digits at most.
+// The same with the digit of n in a place, where n reaches that far.
+fn put_place(out: &mut [u8], at: usize, n: u16, place: u16) -> usize
+    requires { ⌜ (at + 1 ≤ length (now out)) × (1 ≤ place) ⌝ }
+    ensures { λ r. ⌜ Put at (placeOf place n) (now (out .entry)) (now (out .exit)) r ⌝ }
+    ensures { λ r. ⌜ r ≤ at + 1 ⌝ }
+{
+    if n < place {
+        return at;
+    }
+    put_digit(out, at, n / place % 10)
+}
+
+// The same with the decimal digits of n, five at most.
+fn put_number(out: &mut [u8], at: usize, n: u16) -> usize
+    requires { ⌜ at + 5 ≤ length (now out) ⌝ }
+    ensures { λ r. ⌜ Put at (decimal n) (now (out .entry)) (now (out .exit)) r ⌝ }
+    ensures { λ r. ⌜ r ≤ at + 5 ⌝ }
+{
+    let first_end = put_place(out, at, n, 10000);
+    let second_end = put_place(out, first_end, n, 1000);
+    let third_end = put_place(out, second_end, n, 100);
+    let fourth_end = put_place(out, third_end, n, 10);
+    put_digit(out, fourth_end, n % 10)
+}
+
+// The same with a word and a number.
 fn put_field(out: &mut [u8], at: usize, word: &[u8], n: u16) -> usize
     requires { ⌜ at + length (now word) + 5 ≤ length (now out) ⌝ }
     ensures { λ r. ⌜ Put at (now (word .entry) ++ decimal n) (now (out .entry)) (now (out .exit)) r ⌝ }
@@ -72,8 +92,7 @@ fn put_flag(out: &mut [u8], at: usize, word: &[u8], flag: bool) -> usize
     ensures { λ r. ⌜ r ≤ at + length (now (word .entry)) + 1 ⌝ }
 {
     let word_end = put_bytes(out, at, word);
-    out[word_end] = 48 + flag as u8;
-    word_end + 1
+    put_digit(out, word_end, flag as u16)
 }
 
 fn put_status(out: &mut [u8], at: usize, status: u8, bled: u16) -> usize
