@@ -3,10 +3,10 @@
 --     a-value          fn no() -> O                                                        says r ≡ z
 --     of-one           fn h(x: X) -> O                                                     says r ≡ F x
 --     of-slice         fn f(row: &[R]) -> O                                                says r ≡ F row
---     on-row           fn f(row: &mut [R], x: X) -> O                                      says (r ≡ F row x) × (row' ≡ B row x)
---     on-cells         fn f(row: &mut [R], n: N, x: X, cells: &[E]) -> O                   says (r ≡ F row n x cells) × (row' ≡ B row n x cells)
---     on-frame         fn f(row: &mut [R], bytes: &[E], reply: &mut [G]) -> O              says (r ≡ F ..) × ((row' ≡ B ..) × (reply' ≡ C ..))
---     on-line          fn f(row: &mut [R], s: S, block: &[E], out: &mut [G]) -> O          says (r ≡ F ..) × ((row' ≡ B ..) × (out' ≡ C ..))
+--     on-row           fn f(row: &mut [R], x: X) -> O                                      says Told: (r ≡ F row x) × (row' ≡ B row x)
+--     on-cells         fn f(row: &mut [R], n: N, x: X, cells: &[E]) -> O                   says CellsTold: (r ≡ F row n x cells) × (row' ≡ B row n x cells)
+--     on-frame         fn f(row: &mut [R], bytes: &[E], reply: &mut [G]) -> O              says FrameTold: (r ≡ F ..) × ((row' ≡ B ..) × (reply' ≡ C ..))
+--     on-line          fn f(row: &mut [R], s: S, block: &[E], out: &mut [G]) -> O          says LineTold: (r ≡ F ..) × ((row' ≡ B ..) × (out' ≡ C ..))
 -- Arguments by value and results are plain. A step for a call by value goes on at what the callee's contract says.
 --     keeps-copy       a shared slice is handed on as a copy
 --     calls-nothing, calls-one     the calls by value.        calls-slice     a call on a shared row, of which the caller keeps a copy
@@ -27,6 +27,37 @@ use denote.Triple.Statement.{Triple}
 use Rattle.walks.proofs.Plain.{PlainType}
 use Rattle.walks.proofs.Form.{Form, value, shown, handed, met, asks, slice-val, shared, calls}
 
+-- ---- what a contract says of a row of Y: functions of the row and the other arguments, and the equations that they give
+abbrev pub Answers : Type 0 → Type 0 → Type 0 → Type 0
+Answers Y X O = List Y → X → O
+
+abbrev pub Changes : Type 0 → Type 0 → Type 0
+Changes Y X = List Y → X → List Y
+
+abbrev pub Told : {Y X O : Type 0} → Answers Y X O → Changes Y X → List Y → X → O → List Y → Type 0
+Told F B ys x r zs = (r ≡ F ys x) × (zs ≡ B ys x)
+
+-- beside a number, an argument and cells
+abbrev pub OfCells : Type 0 → Type 0 → Type 0 → Type 0 → Type 0 → Type 0
+OfCells Y N X E O = List Y → N → X → List E → O
+
+abbrev pub CellsTold : {Y N X E O : Type 0} → OfCells Y N X E O → OfCells Y N X E (List Y) → List Y → N → X → List E → O → List Y → Type 0
+CellsTold F B ys n x cs r zs = (r ≡ F ys n x cs) × (zs ≡ B ys n x cs)
+
+-- with bytes and a reply, or with a state, a block and an output
+abbrev pub OfFrame : Type 0 → Type 0 → Type 0 → Type 0 → Type 0
+OfFrame Y E G O = List Y → List E → List G → O
+
+abbrev pub FrameTold : {Y E G O : Type 0} → OfFrame Y E G O → OfFrame Y E G (List Y) → OfFrame Y E G (List G) → List Y → List E → List G → O → List Y → List G → Type 0
+FrameTold F B C ys bs rs r zs us = (r ≡ F ys bs rs) × ((zs ≡ B ys bs rs) × (us ≡ C ys bs rs))
+
+abbrev pub OfLine : Type 0 → Type 0 → Type 0 → Type 0 → Type 0 → Type 0
+OfLine Y S E G O = List Y → S → List E → List G → O
+
+abbrev pub LineTold : {Y S E G O : Type 0} → OfLine Y S E G O → OfLine Y S E G (List Y) → OfLine Y S E G (List G) → List Y → S → List E → List G → O → List Y → List G → Type 0
+LineTold F B C ys x bs rs r zs us = (r ≡ F ys x bs rs) × ((zs ≡ B ys x bs rs) × (us ≡ C ys x bs rs))
+
+-- ---- the forms
 module _ (O : RattleType) where
   abbrev pub a-value : O .Denot → Form
   a-value z = record { lifetimes = 0; params = []; result = O; says-of = λ κs a r e. r ≡ z }
@@ -34,39 +65,37 @@ module _ (O : RattleType) where
   abbrev pub of-one : (X : RattleType) → (X .Denot → O .Denot) → Form
   of-one X F = record { lifetimes = 0; params = value X ∷ []; result = O; says-of = λ κs a r e. r ≡ F (a .0) }
 
-  abbrev pub of-slice : (R : RattleType) → (List (R .Denot) → O .Denot) → Form
-  of-slice R F = record { lifetimes = 1; params = shown 0 tt R ∷ []; result = O; says-of = λ κs a r e. r ≡ F (now (a .0)) }
-
   module _ (R : RattleType) where
-    abbrev Row : Type 0
-    Row = List (R .Denot)
+    abbrev pub of-slice : (List (R .Denot) → O .Denot) → Form
+    of-slice F = record { lifetimes = 1; params = shown 0 tt R ∷ []; result = O; says-of = λ κs a r e. r ≡ F (now (a .0)) }
 
-    abbrev pub on-row : (X : RattleType) → (Row → X .Denot → O .Denot) → (Row → X .Denot → Row) → Form
-    on-row X F B = record { lifetimes = 1; params = handed 0 tt R ∷ value X ∷ []; result = O; says-of = λ κs a r e. (r ≡ F (now (a .0)) (a .1 .0)) × (now (e .0) ≡ B (now (a .0)) (a .1 .0)) }
+    abbrev pub on-row : (X : RattleType) → Answers (R .Denot) (X .Denot) (O .Denot) → Changes (R .Denot) (X .Denot) → Form
+    on-row X F B = record { lifetimes = 1; params = handed 0 tt R ∷ value X ∷ []; result = O; says-of = λ κs a r e. Told F B (now (a .0)) (a .1 .0) r (now (e .0)) }
 
-    abbrev pub on-cells : (N X E : RattleType) → (Row → N .Denot → X .Denot → List (E .Denot) → O .Denot) → (Row → N .Denot → X .Denot → List (E .Denot) → Row) → Form
+    abbrev pub on-cells : (N X E : RattleType) → OfCells (R .Denot) (N .Denot) (X .Denot) (E .Denot) (O .Denot) → OfCells (R .Denot) (N .Denot) (X .Denot) (E .Denot) (List (R .Denot)) → Form
     on-cells N X E F B = record {
       lifetimes = 2;
       params = handed 0 tt R ∷ value N ∷ value X ∷ shown 1 tt E ∷ [];
       result = O;
-      says-of = λ κs a r e. (r ≡ F (now (a .0)) (a .1 .0) (a .1 .1 .0) (now (a .1 .1 .1 .0))) × (now (e .0) ≡ B (now (a .0)) (a .1 .0) (a .1 .1 .0) (now (a .1 .1 .1 .0)));
+      says-of = λ κs a r e. CellsTold F B (now (a .0)) (a .1 .0) (a .1 .1 .0) (now (a .1 .1 .1 .0)) r (now (e .0));
     }
 
-    abbrev pub on-frame : (E G : RattleType) → (Row → List (E .Denot) → List (G .Denot) → O .Denot) → (Row → List (E .Denot) → List (G .Denot) → Row) → (Row → List (E .Denot) → List (G .Denot) → List (G .Denot)) → Form
-    on-frame E G F B C = record {
-      lifetimes = 3;
-      params = handed 0 tt R ∷ shown 1 tt E ∷ handed 2 tt G ∷ [];
-      result = O;
-      says-of = λ κs a r e. (r ≡ F (now (a .0)) (now (a .1 .0)) (now (a .1 .1 .0))) × ((now (e .0) ≡ B (now (a .0)) (now (a .1 .0)) (now (a .1 .1 .0))) × (now (e .1 .1 .0) ≡ C (now (a .0)) (now (a .1 .0)) (now (a .1 .1 .0))));
-    }
+    module _ (E G : RattleType) where
+      abbrev pub on-frame : OfFrame (R .Denot) (E .Denot) (G .Denot) (O .Denot) → OfFrame (R .Denot) (E .Denot) (G .Denot) (List (R .Denot)) → OfFrame (R .Denot) (E .Denot) (G .Denot) (List (G .Denot)) → Form
+      on-frame F B C = record {
+        lifetimes = 3;
+        params = handed 0 tt R ∷ shown 1 tt E ∷ handed 2 tt G ∷ [];
+        result = O;
+        says-of = λ κs a r e. FrameTold F B C (now (a .0)) (now (a .1 .0)) (now (a .1 .1 .0)) r (now (e .0)) (now (e .1 .1 .0));
+      }
 
-    abbrev pub on-line : (S E G : RattleType) → (Row → S .Denot → List (E .Denot) → List (G .Denot) → O .Denot) → (Row → S .Denot → List (E .Denot) → List (G .Denot) → Row) → (Row → S .Denot → List (E .Denot) → List (G .Denot) → List (G .Denot)) → Form
-    on-line S E G F B C = record {
-      lifetimes = 3;
-      params = handed 0 tt R ∷ value S ∷ shown 1 tt E ∷ handed 2 tt G ∷ [];
-      result = O;
-      says-of = λ κs a r e. (r ≡ F (now (a .0)) (a .1 .0) (now (a .1 .1 .0)) (now (a .1 .1 .1 .0))) × ((now (e .0) ≡ B (now (a .0)) (a .1 .0) (now (a .1 .1 .0)) (now (a .1 .1 .1 .0))) × (now (e .1 .1 .1 .0) ≡ C (now (a .0)) (a .1 .0) (now (a .1 .1 .0)) (now (a .1 .1 .1 .0))));
-    }
+      abbrev pub on-line : (S : RattleType) → OfLine (R .Denot) (S .Denot) (E .Denot) (G .Denot) (O .Denot) → OfLine (R .Denot) (S .Denot) (E .Denot) (G .Denot) (List (R .Denot)) → OfLine (R .Denot) (S .Denot) (E .Denot) (G .Denot) (List (G .Denot)) → Form
+      on-line S F B C = record {
+        lifetimes = 3;
+        params = handed 0 tt R ∷ value S ∷ shown 1 tt E ∷ handed 2 tt G ∷ [];
+        result = O;
+        says-of = λ κs a r e. LineTold F B C (now (a .0)) (a .1 .0) (now (a .1 .1 .0)) (now (a .1 .1 .1 .0)) r (now (e .0)) (now (e .1 .1 .1 .0));
+      }
 
 module _ {M : Type 1} {𝓤 : URA M} {H : Heap 𝓤} {A : Atoms 𝓤} {K : Type 0} {W : Given 𝓤 H A} {Γ : List (Item 𝓤)} {E : Env 𝓤 H} {Λ : Loops 𝓤 H} {q : Post 𝓤 H} {d : Place} {rest : Body} where
   -- a result r that is z: it is stored at z's machine value

@@ -29,7 +29,7 @@ use Rattle.walks.proofs.Plain.{ty, PlainType, has, boolean}
 use Rattle.walks.proofs.Walk.{cell, room}
 use Rattle.walks.proofs.Steps.{it, steps, by-values, ref-to, slice-of, hands-to, fits-slice, var, lands-in, hands-on, lie-at, enters, ends-in, ends-within}
 use Rattle.walks.proofs.Form.{Form, Fulfils, met, calls, Post, exits, Walk, meets-form}
-use Rattle.walks.proofs.Callee.{of-one, on-row, calls-one}
+use Rattle.walks.proofs.Callee.{Answers, Changes, Told, of-one, on-row, calls-one}
 
 pub record Shape : Type 2 where
   -- the record, what is asked and the answer
@@ -41,12 +41,12 @@ pub record Shape : Type 2 where
   pub h : Name
   -- what the contracts of test, f and h say, and what g's says
   pub is-so : X .Denot → Bool
-  pub answer-f : List (T .D) → X .Denot → O .Denot
-  pub row-f : List (T .D) → X .Denot → List (T .D)
-  pub answer-h : List (T .D) → X .Denot → O .Denot
-  pub row-h : List (T .D) → X .Denot → List (T .D)
-  pub answer-in : List (T .D) → X .Denot → O .Denot
-  pub row-in : List (T .D) → X .Denot → List (T .D)
+  pub answer-f : Answers (T .D) (X .Denot) (O .Denot)
+  pub row-f : Changes (T .D) (X .Denot)
+  pub answer-h : Answers (T .D) (X .Denot) (O .Denot)
+  pub row-h : Changes (T .D) (X .Denot)
+  pub answer-in : Answers (T .D) (X .Denot) (O .Denot)
+  pub row-in : Changes (T .D) (X .Denot)
 
 module _ (s : Shape) where
   abbrev R : RattleType
@@ -74,8 +74,8 @@ module _ (s : Shape) where
   }
 
 pub record Knows {M : Type 1} (𝓤 : URA M) (H : Heap 𝓤) (A : Atoms 𝓤) (s : Shape) : Type 2 where
-  pub says-so : (ys : List (s .T .D)) (x : s .X .Denot) → Holds (s .is-so x) → (s .answer-f ys x ≡ s .answer-in ys x) × (s .row-f ys x ≡ s .row-in ys x)
-  pub says-not : (ys : List (s .T .D)) (x : s .X .Denot) → Holds (not (s .is-so x)) → (s .answer-h ys x ≡ s .answer-in ys x) × (s .row-h ys x ≡ s .row-in ys x)
+  pub says-so : (ys : List (s .T .D)) (x : s .X .Denot) → Holds (s .is-so x) → Told (s .answer-in) (s .row-in) ys x (s .answer-f ys x) (s .row-f ys x)
+  pub says-not : (ys : List (s .T .D)) (x : s .X .Denot) → Holds (not (s .is-so x)) → Told (s .answer-in) (s .row-in) ys x (s .answer-h ys x) (s .row-h ys x)
   pub plain-X : PlainType 𝓤 H A (s .X)
   pub plain-O : PlainType 𝓤 H A (s .O)
 
@@ -85,7 +85,7 @@ module _ {M : Type 1} (𝓤 : URA M) (H : Heap 𝓤) (A : Atoms 𝓤) (W : Given
     abbrev Ends : Val → SProp 𝓤
     Ends = Post W (form s) (k .plain-X, tt) (κ, tt) (q, tt) (ys, (x, tt))
 
-    done : (r : s .O .Denot) (zs : List (s .T .D)) → (r ≡ s .answer-in (now ys) x) × (zs ≡ s .row-in (now ys) x) → length zs ≡ length (now ys) → Is (s .O) r (k .plain-O .val r ∷ [])
+    done : (r : s .O .Denot) (zs : List (s .T .D)) → Told (s .answer-in) (s .row-in) (now ys) x r zs → length zs ≡ length (now ys) → Is (s .O) r (k .plain-O .val r ∷ [])
         → ent 𝓤 (⋆ 𝓤 H A (‵ (flft κ q) ∷ ‵ (finally (R s) (name ys) zs) ∷ [])) (Ends (k .plain-O .val r))
     done r zs e l is = exits W (form s) (k .plain-X, tt) (κ, tt) (q, tt) (ys, (x, tt)) (k .plain-O) (zs, tt) r _ e (l, tt) is
 

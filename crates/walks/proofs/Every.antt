@@ -6,7 +6,7 @@
 --     every            no record is bad
 --     function, form   g's MIR, and its form.        meets     g's MIR meets its contract, over any `Tables` in which f0 and f meet theirs
 -- What holds at the loop's test is that the records from the index on decide.
-use mathlib.Core.Path.{_≡_, refl, sym, _∙_}
+use mathlib.Core.Path.{_≡_, refl, _∙_}
 use mathlib.Core.Bool.{Bool, true, false, cond}
 use Prim.Native.Nat.{ℕ, _<_, _≤_, _+_}
 use native.Mathlib.Numerals.{add-one}

@@ -26,7 +26,7 @@ use Rattle.walks.proofs.Plain.{ty, PlainType, has, uint}
 use Rattle.walks.proofs.Walk.{cell}
 use Rattle.walks.proofs.Steps.{it, len-of, sets, steps, by-values, ref-to, slice-of, hands-to, fits-slice, var, len, fills, lands-in, hands-on, enters, ends-in}
 use Rattle.walks.proofs.Form.{Form, value, shown, Fulfils, met, calls, exits, Walk, meets-form}
-use Rattle.walks.proofs.Callee.{on-row, on-frame}
+use Rattle.walks.proofs.Callee.{Answers, Changes, OfFrame, FrameTold, on-row, on-frame}
 
 pub record Shape : Type 2 where
   -- the record, an element of the bytes and of the reply, what f1 makes, and what f2 and f3 return
@@ -41,13 +41,13 @@ pub record Shape : Type 2 where
   pub f3 : Name
   -- what their contracts say, and what g's says
   pub apart : List (E .Denot) → ℕ → X .Denot
-  pub answer-at : List (T .D) → X .Denot → Y .Denot
-  pub row-at : List (T .D) → X .Denot → List (T .D)
-  pub put-answer : List (G .Denot) → Y .Denot → O .Denot
-  pub put-out : List (G .Denot) → Y .Denot → List (G .Denot)
-  pub answer-of : List (T .D) → List (E .Denot) → List (G .Denot) → O .Denot
-  pub row-of : List (T .D) → List (E .Denot) → List (G .Denot) → List (T .D)
-  pub reply-of : List (T .D) → List (E .Denot) → List (G .Denot) → List (G .Denot)
+  pub answer-at : Answers (T .D) (X .Denot) (Y .Denot)
+  pub row-at : Changes (T .D) (X .Denot)
+  pub put-answer : Answers (G .Denot) (Y .Denot) (O .Denot)
+  pub put-out : Changes (G .Denot) (Y .Denot)
+  pub answer-of : OfFrame (T .D) (E .Denot) (G .Denot) (O .Denot)
+  pub row-of : OfFrame (T .D) (E .Denot) (G .Denot) (List (T .D))
+  pub reply-of : OfFrame (T .D) (E .Denot) (G .Denot) (List (G .Denot))
 
 module _ (s : Shape) where
   abbrev R : RattleType
@@ -76,7 +76,7 @@ module _ (s : Shape) where
 
 pub record Knows {M : Type 1} (𝓤 : URA M) (H : Heap 𝓤) (A : Atoms 𝓤) (s : Shape) : Type 2 where
   pub says-all : (ys : List (s .T .D)) (bs : List (s .E .Denot)) (rs : List (s .G .Denot)) (d : s .X .Denot) (y : s .Y .Denot) → d ≡ s .apart bs (length rs) → y ≡ s .answer-at ys d
-      → (s .put-answer rs y ≡ s .answer-of ys bs rs) × ((s .row-at ys d ≡ s .row-of ys bs rs) × (s .put-out rs y ≡ s .reply-of ys bs rs))
+      → FrameTold (s .answer-of) (s .row-of) (s .reply-of) ys bs rs (s .put-answer rs y) (s .row-at ys d) (s .put-out rs y)
   pub plain-X : PlainType 𝓤 H A (s .X)
   pub plain-Y : PlainType 𝓤 H A (s .Y)
   pub plain-O : PlainType 𝓤 H A (s .O)

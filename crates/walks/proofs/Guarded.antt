@@ -31,7 +31,7 @@ use Rattle.walks.proofs.Plain.{ty, PlainType, has, boolean}
 use Rattle.walks.proofs.Walk.{cell, room}
 use Rattle.walks.proofs.Steps.{it, steps, by-values, ref-to, slice-of, hands-to, fits-slice, var, lands-in, hands-on, lie-at, enters, ends-in, ends-within}
 use Rattle.walks.proofs.Form.{Form, Fulfils, met, calls, Post, exits, Walk, meets-form}
-use Rattle.walks.proofs.Callee.{a-value, of-slice, on-cells, calls-nothing, calls-slice}
+use Rattle.walks.proofs.Callee.{OfCells, CellsTold, a-value, of-slice, on-cells, calls-nothing, calls-slice}
 use Rattle.walks.proofs.Lent.{lent-as, settles, shows-row, row-home}
 
 pub record Shape : Type 2 where
@@ -46,11 +46,11 @@ pub record Shape : Type 2 where
   pub no : Name
   -- what the contracts of good, f and no say, and what g's says
   pub is-good : List (T .D) → Bool
-  pub answer-at : List (T .D) → N .Denot → X .Denot → List (E .Denot) → O .Denot
-  pub row-at : List (T .D) → N .Denot → X .Denot → List (E .Denot) → List (T .D)
+  pub answer-at : OfCells (T .D) (N .Denot) (X .Denot) (E .Denot) (O .Denot)
+  pub row-at : OfCells (T .D) (N .Denot) (X .Denot) (E .Denot) (List (T .D))
   pub none : O .Denot
-  pub answer-in : List (T .D) → N .Denot → X .Denot → List (E .Denot) → O .Denot
-  pub row-in : List (T .D) → N .Denot → X .Denot → List (E .Denot) → List (T .D)
+  pub answer-in : OfCells (T .D) (N .Denot) (X .Denot) (E .Denot) (O .Denot)
+  pub row-in : OfCells (T .D) (N .Denot) (X .Denot) (E .Denot) (List (T .D))
 
 module _ (s : Shape) where
   abbrev R : RattleType
@@ -75,8 +75,8 @@ module _ (s : Shape) where
   }
 
 pub record Knows {M : Type 1} (𝓤 : URA M) (H : Heap 𝓤) (A : Atoms 𝓤) (s : Shape) : Type 2 where
-  pub goes-on : (ys : List (s .T .D)) (n : s .N .Denot) (x : s .X .Denot) (cs : List (s .E .Denot)) → Holds (s .is-good ys) → (s .answer-at ys n x cs ≡ s .answer-in ys n x cs) × (s .row-at ys n x cs ≡ s .row-in ys n x cs)
-  pub refuses : (ys : List (s .T .D)) (n : s .N .Denot) (x : s .X .Denot) (cs : List (s .E .Denot)) → Holds (not (s .is-good ys)) → (s .none ≡ s .answer-in ys n x cs) × (ys ≡ s .row-in ys n x cs)
+  pub goes-on : (ys : List (s .T .D)) (n : s .N .Denot) (x : s .X .Denot) (cs : List (s .E .Denot)) → Holds (s .is-good ys) → CellsTold (s .answer-in) (s .row-in) ys n x cs (s .answer-at ys n x cs) (s .row-at ys n x cs)
+  pub refuses : (ys : List (s .T .D)) (n : s .N .Denot) (x : s .X .Denot) (cs : List (s .E .Denot)) → Holds (not (s .is-good ys)) → CellsTold (s .answer-in) (s .row-in) ys n x cs (s .none) ys
   pub plain-N : PlainType 𝓤 H A (s .N)
   pub plain-X : PlainType 𝓤 H A (s .X)
   pub plain-O : PlainType 𝓤 H A (s .O)
@@ -87,7 +87,7 @@ module _ {M : Type 1} (𝓤 : URA M) (H : Heap 𝓤) (A : Atoms 𝓤) (W : Given
     abbrev Ends : Val → SProp 𝓤
     Ends = Post W (form s) (k .plain-N, (k .plain-X, tt)) (κ, (κ₁, tt)) (q, (q₁, tt)) (ys, (n, (x, (cs, tt))))
 
-    done : (r : s .O .Denot) (zs : List (s .T .D)) → (r ≡ s .answer-in (now ys) n x (now cs)) × (zs ≡ s .row-in (now ys) n x (now cs)) → length zs ≡ length (now ys) → Is (s .O) r (k .plain-O .val r ∷ [])
+    done : (r : s .O .Denot) (zs : List (s .T .D)) → CellsTold (s .answer-in) (s .row-in) (now ys) n x (now cs) r zs → length zs ≡ length (now ys) → Is (s .O) r (k .plain-O .val r ∷ [])
         → ent 𝓤 (⋆ 𝓤 H A (‵ (flft κ q) ∷ ‵ (flft κ₁ q₁) ∷ ‵ (finally (R s) (name ys) zs) ∷ [])) (Ends (k .plain-O .val r))
     done r zs e l is = exits W (form s) (k .plain-N, (k .plain-X, tt)) (κ, (κ₁, tt)) (q, (q₁, tt)) (ys, (n, (x, (cs, tt)))) (k .plain-O) (zs, tt) r _ e (l, tt) is
 

@@ -31,7 +31,7 @@ use Rattle.walks.proofs.Plain.{ty, PlainType, has, boolean}
 use Rattle.walks.proofs.Walk.{cell, room}
 use Rattle.walks.proofs.Steps.{it, steps, by-values, ref-to, slice-of, hands-to, fits-slice, var, lands-in, hands-on, lie-at, enters, ends-in, ends-within}
 use Rattle.walks.proofs.Form.{Form, Fulfils, met, calls, Post, exits, Walk, meets-form}
-use Rattle.walks.proofs.Callee.{a-value, of-slice, on-row, calls-nothing, calls-slice}
+use Rattle.walks.proofs.Callee.{Answers, Changes, Told, a-value, of-slice, on-row, calls-nothing, calls-slice}
 use Rattle.walks.proofs.Lent.{lent-as, settles, shows-row, row-home}
 
 pub record Shape : Type 2 where
@@ -44,11 +44,11 @@ pub record Shape : Type 2 where
   pub no : Name
   -- what the contracts of good, f and no say, and what g's says
   pub is-good : List (T .D) → Bool
-  pub answer-at : List (T .D) → X .Denot → O .Denot
-  pub row-at : List (T .D) → X .Denot → List (T .D)
+  pub answer-at : Answers (T .D) (X .Denot) (O .Denot)
+  pub row-at : Changes (T .D) (X .Denot)
   pub none : O .Denot
-  pub answer-in : List (T .D) → X .Denot → O .Denot
-  pub row-in : List (T .D) → X .Denot → List (T .D)
+  pub answer-in : Answers (T .D) (X .Denot) (O .Denot)
+  pub row-in : Changes (T .D) (X .Denot)
 
 module _ (s : Shape) where
   abbrev R : RattleType
@@ -70,8 +70,8 @@ module _ (s : Shape) where
   }
 
 pub record Knows {M : Type 1} (𝓤 : URA M) (H : Heap 𝓤) (A : Atoms 𝓤) (s : Shape) : Type 2 where
-  pub goes-on : (ys : List (s .T .D)) (x : s .X .Denot) → Holds (s .is-good ys) → (s .answer-at ys x ≡ s .answer-in ys x) × (s .row-at ys x ≡ s .row-in ys x)
-  pub refuses : (ys : List (s .T .D)) (x : s .X .Denot) → Holds (not (s .is-good ys)) → (s .none ≡ s .answer-in ys x) × (ys ≡ s .row-in ys x)
+  pub goes-on : (ys : List (s .T .D)) (x : s .X .Denot) → Holds (s .is-good ys) → Told (s .answer-in) (s .row-in) ys x (s .answer-at ys x) (s .row-at ys x)
+  pub refuses : (ys : List (s .T .D)) (x : s .X .Denot) → Holds (not (s .is-good ys)) → Told (s .answer-in) (s .row-in) ys x (s .none) ys
   pub plain-X : PlainType 𝓤 H A (s .X)
   pub plain-O : PlainType 𝓤 H A (s .O)
 
@@ -81,7 +81,7 @@ module _ {M : Type 1} (𝓤 : URA M) (H : Heap 𝓤) (A : Atoms 𝓤) (W : Given
     abbrev Ends : Val → SProp 𝓤
     Ends = Post W (form s) (k .plain-X, tt) (κ, tt) (q, tt) (ys, (x, tt))
 
-    done : (r : s .O .Denot) (zs : List (s .T .D)) → (r ≡ s .answer-in (now ys) x) × (zs ≡ s .row-in (now ys) x) → length zs ≡ length (now ys) → Is (s .O) r (k .plain-O .val r ∷ [])
+    done : (r : s .O .Denot) (zs : List (s .T .D)) → Told (s .answer-in) (s .row-in) (now ys) x r zs → length zs ≡ length (now ys) → Is (s .O) r (k .plain-O .val r ∷ [])
         → ent 𝓤 (⋆ 𝓤 H A (‵ (flft κ q) ∷ ‵ (finally (R s) (name ys) zs) ∷ [])) (Ends (k .plain-O .val r))
     done r zs e l is = exits W (form s) (k .plain-X, tt) (κ, tt) (q, tt) (ys, (x, tt)) (k .plain-O) (zs, tt) r _ e (l, tt) is
 

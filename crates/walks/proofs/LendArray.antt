@@ -152,12 +152,16 @@ module _ {M : Type 1} {𝓤 : URA M} {H : Heap 𝓤} {A : Atoms 𝓤} {T : D.Dec
   pub has-made : (z : Q .D) (v : Val) → Is (D.row Q) z (v ∷ []) → Holds (hasTy (pair-ty Q (Array (D.row T) N) O) v) × WT v
   has-made z v is = subst (λ (τ : Ty). Holds (hasTy τ v) × WT v) (P .laid-out) (has-at (P .both) z v is)
 
--- ---- an array of a declared type T as a field of a struct: the field's row is over the tuples of T's fields
-each-into : (T : D.Declared) (xs : List (T .D)) (us : List Val) → shadow (each (T .D) (D.row T .own) xs us) → shadow (each (D.field T .row .Denot) (D.field T .row .own) (map (T .to) xs) us)
-each-into T [] [] s = s
-each-into T [] (u ∷ us) s = s
-each-into T (x ∷ xs) [] s = s
-each-into T (x ∷ xs) (u ∷ us) s = (s .0, each-into T xs us (s .1))
+-- ---- as a field of a struct, an array of the declared type T is one of the tuples of T's fields
+module _ (T : D.Declared) where
+  abbrev Tuple : RattleType
+  Tuple = D.field T .row
 
-pub array-into : (T : D.Declared) (n : ℕ) (xs : List (T .D)) (vs : List Val) → Is (Array (D.row T) n) xs vs → Is (Array (D.field T .row) n) (map (T .to) xs) vs
-array-into T n xs vs p = (p .0, ((p .1 .0 .0, length-map xs (T .to) ∙ p .1 .0 .1), each-into T xs (p .0) (p .1 .1)))
+  tuples : (xs : List (T .D)) (us : List Val) → shadow (each (T .D) (D.row T .own) xs us) → shadow (each (Tuple .Denot) (Tuple .own) (map (T .to) xs) us)
+  tuples [] [] is = is
+  tuples [] (u ∷ us) is = is
+  tuples (x ∷ xs) [] is = is
+  tuples (x ∷ xs) (u ∷ us) is = (is .0, tuples xs us (is .1))
+
+  pub array-into : (n : ℕ) (xs : List (T .D)) (vs : List Val) → Is (Array (D.row T) n) xs vs → Is (Array Tuple n) (map (T .to) xs) vs
+  array-into n xs vs (us, ((spelled, long), is)) = (us, ((spelled, length-map xs (T .to) ∙ long), tuples xs us is))

@@ -30,7 +30,7 @@ use Rattle.walks.proofs.Plain.{ty, PlainType, has, uint}
 use Rattle.walks.proofs.Walk.{cell, room}
 use Rattle.walks.proofs.Steps.{it, len-of, sets, steps, by-values, ref-to, slice-of, finds-elem, fits-slice, fits-offset, var, len, ptr, fills, lands-in, reaches-elem, lie-at, enters, ends-in, ends-within}
 use Rattle.walks.proofs.Form.{Form, value, shown, behind, Fulfils, met, calls, Post, exits, Walk, meets-form}
-use Rattle.walks.proofs.Callee.{a-value, of-one, on-cells, calls-nothing, calls-one}
+use Rattle.walks.proofs.Callee.{OfCells, CellsTold, a-value, of-one, on-cells, calls-nothing, calls-one}
 use Rattle.walks.proofs.Lent.{lent-as, elem, settles, lends-elem, elem-home}
 
 pub record Shape : Type 2 where
@@ -50,8 +50,8 @@ pub record Shape : Type 2 where
   pub none : O .Denot
   -- what stands past the end, and what g's contract says
   pub empty : T .D
-  pub answer-at : List (T .D) → N .Denot → X .Denot → List (E .Denot) → O .Denot
-  pub row-at : List (T .D) → N .Denot → X .Denot → List (E .Denot) → List (T .D)
+  pub answer-at : OfCells (T .D) (N .Denot) (X .Denot) (E .Denot) (O .Denot)
+  pub row-at : OfCells (T .D) (N .Denot) (X .Denot) (E .Denot) (List (T .D))
 
 module _ (s : Shape) where
   abbrev R : RattleType
@@ -85,8 +85,8 @@ module _ (s : Shape) where
 
 pub record Knows {M : Type 1} (𝓤 : URA M) (H : Heap 𝓤) (A : Atoms 𝓤) (s : Shape) : Type 2 where
   pub within : (ys : List (s .T .D)) (n : s .N .Denot) (x : s .X .Denot) (cs : List (s .E .Denot)) → s .place-of n < length ys
-      → (s .answer-one (getD ys (s .place-of n) (s .empty)) x cs ≡ s .answer-at ys n x cs) × (set ys (s .place-of n) (s .record-one (getD ys (s .place-of n) (s .empty)) x cs) ≡ s .row-at ys n x cs)
-  pub past : (ys : List (s .T .D)) (n : s .N .Denot) (x : s .X .Denot) (cs : List (s .E .Denot)) → length ys ≤ s .place-of n → (s .none ≡ s .answer-at ys n x cs) × (ys ≡ s .row-at ys n x cs)
+      → CellsTold (s .answer-at) (s .row-at) ys n x cs (s .answer-one (getD ys (s .place-of n) (s .empty)) x cs) (set ys (s .place-of n) (s .record-one (getD ys (s .place-of n) (s .empty)) x cs))
+  pub past : (ys : List (s .T .D)) (n : s .N .Denot) (x : s .X .Denot) (cs : List (s .E .Denot)) → length ys ≤ s .place-of n → CellsTold (s .answer-at) (s .row-at) ys n x cs (s .none) ys
   pub plain-N : PlainType 𝓤 H A (s .N)
   pub plain-X : PlainType 𝓤 H A (s .X)
   pub plain-O : PlainType 𝓤 H A (s .O)
@@ -97,7 +97,7 @@ module _ {M : Type 1} (𝓤 : URA M) (H : Heap 𝓤) (A : Atoms 𝓤) (W : Given
     abbrev Ends : Val → SProp 𝓤
     Ends = Post W (form s) (k .plain-N, (k .plain-X, tt)) (κ, (κ₁, tt)) (q, (q₁, tt)) (ys, (n, (x, (cs, tt))))
 
-    done : (r : s .O .Denot) (zs : List (s .T .D)) → (r ≡ s .answer-at (now ys) n x (now cs)) × (zs ≡ s .row-at (now ys) n x (now cs)) → length zs ≡ length (now ys) → Is (s .O) r (k .plain-O .val r ∷ [])
+    done : (r : s .O .Denot) (zs : List (s .T .D)) → CellsTold (s .answer-at) (s .row-at) (now ys) n x (now cs) r zs → length zs ≡ length (now ys) → Is (s .O) r (k .plain-O .val r ∷ [])
         → ent 𝓤 (⋆ 𝓤 H A (‵ (flft κ q) ∷ ‵ (flft κ₁ q₁) ∷ ‵ (finally (R s) (name ys) zs) ∷ [])) (Ends (k .plain-O .val r))
     done r zs e l is = exits W (form s) (k .plain-N, (k .plain-X, tt)) (κ, (κ₁, tt)) (q, (q₁, tt)) (ys, (n, (x, (cs, tt)))) (k .plain-O) (zs, tt) r _ e (l, tt) is
 

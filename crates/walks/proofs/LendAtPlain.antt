@@ -30,7 +30,7 @@ use Rattle.walks.proofs.Plain.{ty, PlainType, has, uint}
 use Rattle.walks.proofs.Walk.{cell, room}
 use Rattle.walks.proofs.Steps.{it, len-of, sets, steps, by-values, ref-to, slice-of, finds-elem, fits-slice, fits-offset, var, len, ptr, fills, lands-in, reaches-elem, lie-at, enters, ends-in, ends-within}
 use Rattle.walks.proofs.Form.{Form, value, behind, Fulfils, met, calls, Post, exits, Walk, meets-form}
-use Rattle.walks.proofs.Callee.{a-value, of-one, on-row, calls-nothing, calls-one}
+use Rattle.walks.proofs.Callee.{Answers, Changes, Told, a-value, of-one, on-row, calls-nothing, calls-one}
 use Rattle.walks.proofs.Lent.{lent-as, elem, settles, lends-elem, elem-home}
 
 pub record Shape : Type 2 where
@@ -48,8 +48,8 @@ pub record Shape : Type 2 where
   pub none : O .Denot
   -- what stands past the end, and what g's contract says
   pub empty : T .D
-  pub answer-at : List (T .D) → X .Denot → O .Denot
-  pub row-at : List (T .D) → X .Denot → List (T .D)
+  pub answer-at : Answers (T .D) (X .Denot) (O .Denot)
+  pub row-at : Changes (T .D) (X .Denot)
 
 module _ (s : Shape) where
   abbrev R : RattleType
@@ -78,8 +78,8 @@ module _ (s : Shape) where
 
 pub record Knows {M : Type 1} (𝓤 : URA M) (H : Heap 𝓤) (A : Atoms 𝓤) (s : Shape) : Type 2 where
   pub within : (ys : List (s .T .D)) (x : s .X .Denot) → s .place-of x < length ys
-      → (s .answer-one (getD ys (s .place-of x) (s .empty)) x ≡ s .answer-at ys x) × (set ys (s .place-of x) (s .record-one (getD ys (s .place-of x) (s .empty)) x) ≡ s .row-at ys x)
-  pub past : (ys : List (s .T .D)) (x : s .X .Denot) → length ys ≤ s .place-of x → (s .none ≡ s .answer-at ys x) × (ys ≡ s .row-at ys x)
+      → Told (s .answer-at) (s .row-at) ys x (s .answer-one (getD ys (s .place-of x) (s .empty)) x) (set ys (s .place-of x) (s .record-one (getD ys (s .place-of x) (s .empty)) x))
+  pub past : (ys : List (s .T .D)) (x : s .X .Denot) → length ys ≤ s .place-of x → Told (s .answer-at) (s .row-at) ys x (s .none) ys
   pub plain-X : PlainType 𝓤 H A (s .X)
   pub plain-O : PlainType 𝓤 H A (s .O)
 
@@ -89,7 +89,7 @@ module _ {M : Type 1} (𝓤 : URA M) (H : Heap 𝓤) (A : Atoms 𝓤) (W : Given
     abbrev Ends : Val → SProp 𝓤
     Ends = Post W (form s) (k .plain-X, tt) (κ, tt) (q, tt) (ys, (x, tt))
 
-    done : (r : s .O .Denot) (zs : List (s .T .D)) → (r ≡ s .answer-at (now ys) x) × (zs ≡ s .row-at (now ys) x) → length zs ≡ length (now ys) → Is (s .O) r (k .plain-O .val r ∷ [])
+    done : (r : s .O .Denot) (zs : List (s .T .D)) → Told (s .answer-at) (s .row-at) (now ys) x r zs → length zs ≡ length (now ys) → Is (s .O) r (k .plain-O .val r ∷ [])
         → ent 𝓤 (⋆ 𝓤 H A (‵ (flft κ q) ∷ ‵ (finally (R s) (name ys) zs) ∷ [])) (Ends (k .plain-O .val r))
     done r zs e l is = exits W (form s) (k .plain-X, tt) (κ, tt) (q, tt) (ys, (x, tt)) (k .plain-O) (zs, tt) r _ e (l, tt) is
 

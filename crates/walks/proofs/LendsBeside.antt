@@ -4,7 +4,7 @@
 -- T is a declared struct of plain fields, K, X and O are plain, E is what a slice can hold, and Q is a declared struct of the array and the answer. f says the answer and the whole row at exit. g says `r ≡ all boards n k x (now (cells .entry))`. g's parameters are plain but for the slice, so whoever calls it needs no walk.
 --     Shape, Knows     what g is made of; what the contract says, and what is to be known of the types
 --     function, form   g's MIR, and its form.        inner     the form of f.        meets     g's MIR meets its contract, over any `Tables` in which f meets its own
-use mathlib.Core.Path.{_≡_, refl, _∙_}
+use mathlib.Core.Path.{_≡_, refl}
 use Prim.Native.Nat.{ℕ, _≤_}
 use mathlib.Core.List.{[], _∷_, _++_, List}
 use lib.ListN.{length, take, drop as dropN}
@@ -29,7 +29,7 @@ use Rattle.walks.proofs.Plain.{ty, PlainType, pair-ty, has, uint, array
 use Rattle.walks.proofs.Walk.{cell}
 use Rattle.walks.proofs.Steps.{it, sets, steps, by-values, ref-to, slice-of, firsts-of, fits-slice, var, fills, lands-in, takes-firsts, enters, ends-in}
 use Rattle.walks.proofs.Form.{Form, value, shown, Plains, FulfilsIf, met, calls, exits, Walk, meets-if}
-use Rattle.walks.proofs.Callee.{on-cells}
+use Rattle.walks.proofs.Callee.{OfCells, on-cells}
 use Rattle.walks.proofs.LendArray.{first-many, first-room, PlainMade, has-made, first-as, lends-first, first-home}
 
 pub record Shape : Type 2 where
@@ -43,8 +43,8 @@ pub record Shape : Type 2 where
   pub N : ℕ
   pub f : Name
   -- what f's contract says, what is made of the array and the answer, and what g's contract says
-  pub answer-at : List (T .D) → K .Denot → X .Denot → List (E .Denot) → O .Denot
-  pub row-at : List (T .D) → K .Denot → X .Denot → List (E .Denot) → List (T .D)
+  pub answer-at : OfCells (T .D) (K .Denot) (X .Denot) (E .Denot) (O .Denot)
+  pub row-at : OfCells (T .D) (K .Denot) (X .Denot) (E .Denot) (List (T .D))
   pub made : List (T .D) → O .Denot → Q .D
   pub all : List (T .D) → ℕ → K .Denot → X .Denot → List (E .Denot) → Q .D
 

@@ -29,7 +29,7 @@ use Rattle.walks.proofs.Plain.{ty, PlainType, pair-ty, has, uint, array
 use Rattle.walks.proofs.Walk.{cell}
 use Rattle.walks.proofs.Steps.{it, sets, steps, by-values, ref-to, slice-of, hands-to, firsts-of, fits-slice, var, fills, lands-in, hands-on, takes-firsts, enters, ends-in}
 use Rattle.walks.proofs.Form.{Form, value, shown, handed, Plains, FulfilsIf, met, calls, exits, Walk, meets-if}
-use Rattle.walks.proofs.Callee.{on-frame}
+use Rattle.walks.proofs.Callee.{OfFrame, OfLine, on-frame}
 use Rattle.walks.proofs.LendArray.{first-many, first-room, PlainMade, has-made, first-as, lends-first, first-home}
 
 pub record Shape : Type 2 where
@@ -42,12 +42,12 @@ pub record Shape : Type 2 where
   pub N : ℕ
   pub f : Name
   -- what f's contract says, what is made of the array and the answer, and what g's contract says
-  pub answer-of : List (T .D) → List (E .Denot) → List (G .Denot) → O .Denot
-  pub row-of : List (T .D) → List (E .Denot) → List (G .Denot) → List (T .D)
-  pub reply-of : List (T .D) → List (E .Denot) → List (G .Denot) → List (G .Denot)
+  pub answer-of : OfFrame (T .D) (E .Denot) (G .Denot) (O .Denot)
+  pub row-of : OfFrame (T .D) (E .Denot) (G .Denot) (List (T .D))
+  pub reply-of : OfFrame (T .D) (E .Denot) (G .Denot) (List (G .Denot))
   pub made : List (T .D) → O .Denot → Q .D
-  pub all : List (T .D) → ℕ → List (E .Denot) → List (G .Denot) → Q .D
-  pub out : List (T .D) → ℕ → List (E .Denot) → List (G .Denot) → List (G .Denot)
+  pub all : OfLine (T .D) ℕ (E .Denot) (G .Denot) (Q .D)
+  pub out : OfLine (T .D) ℕ (E .Denot) (G .Denot) (List (G .Denot))
 
 module _ (s : Shape) where
   abbrev R : RattleType

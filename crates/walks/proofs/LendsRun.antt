@@ -29,7 +29,7 @@ use Rattle.walks.proofs.Plain.{ty, PlainType, pair-ty, has, uint, array
 use Rattle.walks.proofs.Walk.{cell}
 use Rattle.walks.proofs.Steps.{it, sets, steps, by-values, ref-to, slice-of, hands-to, firsts-of, fits-slice, var, fills, lands-in, hands-on, takes-firsts, enters, ends-in}
 use Rattle.walks.proofs.Form.{Form, value, shown, handed, Plains, FulfilsIf, met, calls, exits, Walk, meets-if}
-use Rattle.walks.proofs.Callee.{on-line}
+use Rattle.walks.proofs.Callee.{OfLine, on-line}
 use Rattle.walks.proofs.LendArray.{first-many, first-room, PlainMade, has-made, first-as, lends-first, first-home}
 
 pub record Shape : Type 2 where
@@ -43,9 +43,9 @@ pub record Shape : Type 2 where
   pub N : ℕ
   pub f : Name
   -- what f's contract says, what is made of the array and f's result, and what g's contract says
-  pub answer-of : List (T .D) → S .Denot → List (E .Denot) → List (G .Denot) → O .Denot
-  pub row-of : List (T .D) → S .Denot → List (E .Denot) → List (G .Denot) → List (T .D)
-  pub out-of : List (T .D) → S .Denot → List (E .Denot) → List (G .Denot) → List (G .Denot)
+  pub answer-of : OfLine (T .D) (S .Denot) (E .Denot) (G .Denot) (O .Denot)
+  pub row-of : OfLine (T .D) (S .Denot) (E .Denot) (G .Denot) (List (T .D))
+  pub out-of : OfLine (T .D) (S .Denot) (E .Denot) (G .Denot) (List (G .Denot))
   pub made : List (T .D) → O .Denot → Q .D
   pub all : List (T .D) → ℕ → S .Denot → List (E .Denot) → List (G .Denot) → Q .D
   pub out : List (T .D) → ℕ → S .Denot → List (E .Denot) → List (G .Denot) → List (G .Denot)
@@ -66,7 +66,7 @@ module _ (s : Shape) where
   }
 
   abbrev pub inner : Form
-  inner = on-line (s .O) R (s .S) (s .E) (s .G) (s .answer-of) (s .row-of) (s .out-of)
+  inner = on-line (s .O) R (s .E) (s .G) (s .S) (s .answer-of) (s .row-of) (s .out-of)
 
   abbrev pub function : Fn
   function = record {

@@ -25,7 +25,7 @@ use Rattle.walks.proofs.Plain.{ty, PlainType, has}
 use Rattle.walks.proofs.Walk.{cell}
 use Rattle.walks.proofs.Steps.{it, steps, by-values, ref-to, slice-of, hands-to, fits-slice, var, lands-in, hands-on, enters, ends-in}
 use Rattle.walks.proofs.Form.{Form, value, shown, handed, Fulfils, met, calls, exits, Walk, meets-form}
-use Rattle.walks.proofs.Callee.{on-row, on-line}
+use Rattle.walks.proofs.Callee.{Answers, Changes, OfLine, LineTold, on-row, on-line}
 
 pub record Shape : Type 2 where
   -- the record, the state, an element of the block and of the output, what f1 makes, and what f2 and f3 return
@@ -41,20 +41,20 @@ pub record Shape : Type 2 where
   pub f3 : Name
   -- what their contracts say, and what g's says
   pub asks : S .Denot → List (E .Denot) → X .Denot
-  pub answer-at : List (T .D) → X .Denot → Y .Denot
-  pub row-at : List (T .D) → X .Denot → List (T .D)
+  pub answer-at : Answers (T .D) (X .Denot) (Y .Denot)
+  pub row-at : Changes (T .D) (X .Denot)
   pub put-answer : List (G .Denot) → X .Denot → Y .Denot → O .Denot
   pub put-out : List (G .Denot) → X .Denot → Y .Denot → List (G .Denot)
-  pub answer-of : List (T .D) → S .Denot → List (E .Denot) → List (G .Denot) → O .Denot
-  pub row-of : List (T .D) → S .Denot → List (E .Denot) → List (G .Denot) → List (T .D)
-  pub out-of : List (T .D) → S .Denot → List (E .Denot) → List (G .Denot) → List (G .Denot)
+  pub answer-of : OfLine (T .D) (S .Denot) (E .Denot) (G .Denot) (O .Denot)
+  pub row-of : OfLine (T .D) (S .Denot) (E .Denot) (G .Denot) (List (T .D))
+  pub out-of : OfLine (T .D) (S .Denot) (E .Denot) (G .Denot) (List (G .Denot))
 
 module _ (s : Shape) where
   abbrev R : RattleType
   R = D.row (s .T)
 
   abbrev pub form : Form
-  form = on-line (s .O) R (s .S) (s .E) (s .G) (s .answer-of) (s .row-of) (s .out-of)
+  form = on-line (s .O) R (s .E) (s .G) (s .S) (s .answer-of) (s .row-of) (s .out-of)
 
   abbrev pub takes-line : Form
   takes-line = record { lifetimes = 1; params = value (s .S) ∷ shown 0 tt (s .E) ∷ []; result = s .X; says-of = λ κs a r e. r ≡ s .asks (a .0) (now (a .1 .0)) }
@@ -81,7 +81,7 @@ module _ (s : Shape) where
 
 pub record Knows {M : Type 1} (𝓤 : URA M) (H : Heap 𝓤) (A : Atoms 𝓤) (s : Shape) : Type 2 where
   pub says-all : (ys : List (s .T .D)) (x : s .S .Denot) (bs : List (s .E .Denot)) (rs : List (s .G .Denot)) (d : s .X .Denot) (y : s .Y .Denot) → d ≡ s .asks x bs → y ≡ s .answer-at ys d
-      → (s .put-answer rs d y ≡ s .answer-of ys x bs rs) × ((s .row-at ys d ≡ s .row-of ys x bs rs) × (s .put-out rs d y ≡ s .out-of ys x bs rs))
+      → LineTold (s .answer-of) (s .row-of) (s .out-of) ys x bs rs (s .put-answer rs d y) (s .row-at ys d) (s .put-out rs d y)
   pub plain-S : PlainType 𝓤 H A (s .S)
   pub plain-X : PlainType 𝓤 H A (s .X)
   pub plain-Y : PlainType 𝓤 H A (s .Y)

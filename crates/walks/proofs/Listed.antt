@@ -30,7 +30,7 @@ use Rattle.walks.proofs.Plain.{ty, PlainType, has, uint, array}
 use Rattle.walks.proofs.Walk.{cell}
 use Rattle.walks.proofs.Steps.{it, sets, steps, by-values, ref-to, slice-of, hands-to, firsts-of, fits-slice, var, fills, lands-in, hands-on, takes-firsts, enters, ends-in}
 use Rattle.walks.proofs.Form.{Form, Fulfils, met, calls, exits, Walk, meets-form}
-use Rattle.walks.proofs.Callee.{of-one, on-row, on-cells, calls-one}
+use Rattle.walks.proofs.Callee.{Answers, Changes, Told, OfCells, of-one, on-row, on-cells, calls-one}
 use Rattle.walks.proofs.LendArray.{first-many, first-room, first-as, shows-first, shown-home}
 
 pub record Shape : Type 2 where
@@ -54,11 +54,11 @@ pub record Shape : Type 2 where
   pub other : X .Denot → Z .Denot
   pub cells : X .Denot → List (E .Denot)
   pub many : X .Denot → ℕ
-  pub answer-at : List (T .D) → N .Denot → Z .Denot → List (E .Denot) → Y .Denot
-  pub row-at : List (T .D) → N .Denot → Z .Denot → List (E .Denot) → List (T .D)
+  pub answer-at : OfCells (T .D) (N .Denot) (Z .Denot) (E .Denot) (Y .Denot)
+  pub row-at : OfCells (T .D) (N .Denot) (Z .Denot) (E .Denot) (List (T .D))
   pub told : Y .Denot → O .Denot
-  pub answer-in : List (T .D) → X .Denot → O .Denot
-  pub row-in : List (T .D) → X .Denot → List (T .D)
+  pub answer-in : Answers (T .D) (X .Denot) (O .Denot)
+  pub row-in : Changes (T .D) (X .Denot)
 
 module _ (s : Shape) where
   abbrev R : RattleType
@@ -85,7 +85,7 @@ module _ (s : Shape) where
 
 pub record Knows {M : Type 1} (𝓤 : URA M) (H : Heap 𝓤) (A : Atoms 𝓤) (s : Shape) : Type 2 where
   pub says-all : (ys : List (s .T .D)) (x : s .X .Denot)
-      → (s .told (s .answer-at ys (s .number x) (s .other x) (take (s .many x) (s .cells x))) ≡ s .answer-in ys x) × (s .row-at ys (s .number x) (s .other x) (take (s .many x) (s .cells x)) ≡ s .row-in ys x)
+      → Told (s .answer-in) (s .row-in) ys x (s .told (s .answer-at ys (s .number x) (s .other x) (take (s .many x) (s .cells x)))) (s .row-at ys (s .number x) (s .other x) (take (s .many x) (s .cells x)))
   pub few : (x : s .X .Denot) → s .many x ≤ s .K
   pub plain-X : PlainType 𝓤 H A (s .X)
   pub plain-N : PlainType 𝓤 H A (s .N)

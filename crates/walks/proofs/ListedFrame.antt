@@ -32,7 +32,7 @@ use Rattle.walks.proofs.Plain.{ty, PlainType, has, uint, array}
 use Rattle.walks.proofs.Walk.{size-op, size-lit, cell}
 use Rattle.walks.proofs.Steps.{it, sets, steps, by-values, ref-to, slice-of, hands-to, firsts-of, fits-slice, var, fills, lands-in, hands-on, takes-firsts, enters, ends-in}
 use Rattle.walks.proofs.Form.{Form, Fulfils, met, calls, exits, Walk, meets-form}
-use Rattle.walks.proofs.Callee.{a-value, of-one, on-row, on-frame, calls-nothing, calls-one}
+use Rattle.walks.proofs.Callee.{Answers, Changes, Told, OfFrame, a-value, of-one, on-row, on-frame, calls-nothing, calls-one}
 use Rattle.walks.proofs.LendArray.{first-many, first-room, first-as, lends-first, first-home, shows-first, shown-home}
 
 pub record Shape : Type 2 where
@@ -54,12 +54,12 @@ pub record Shape : Type 2 where
   pub bytes : X .Denot → List (E .Denot)
   pub many : X .Denot → ℕ
   pub blank : List (G .Denot)
-  pub answer-of : List (T .D) → List (E .Denot) → List (G .Denot) → Y .Denot
-  pub row-of : List (T .D) → List (E .Denot) → List (G .Denot) → List (T .D)
-  pub reply-of : List (T .D) → List (E .Denot) → List (G .Denot) → List (G .Denot)
+  pub answer-of : OfFrame (T .D) (E .Denot) (G .Denot) (Y .Denot)
+  pub row-of : OfFrame (T .D) (E .Denot) (G .Denot) (List (T .D))
+  pub reply-of : OfFrame (T .D) (E .Denot) (G .Denot) (List (G .Denot))
   pub told : Y .Denot → O .Denot
-  pub answer-in : List (T .D) → X .Denot → O .Denot
-  pub row-in : List (T .D) → X .Denot → List (T .D)
+  pub answer-in : Answers (T .D) (X .Denot) (O .Denot)
+  pub row-in : Changes (T .D) (X .Denot)
 
 module _ (s : Shape) where
   abbrev R : RattleType
@@ -90,7 +90,7 @@ module _ (s : Shape) where
 
 pub record Knows {M : Type 1} (𝓤 : URA M) (H : Heap 𝓤) (A : Atoms 𝓤) (s : Shape) : Type 2 where
   pub says-all : (ys : List (s .T .D)) (x : s .X .Denot)
-      → (s .told (s .answer-of ys (take (s .many x) (s .bytes x)) (s .blank)) ≡ s .answer-in ys x) × (s .row-of ys (take (s .many x) (s .bytes x)) (s .blank) ≡ s .row-in ys x)
+      → Told (s .answer-in) (s .row-in) ys x (s .told (s .answer-of ys (take (s .many x) (s .bytes x)) (s .blank))) (s .row-of ys (take (s .many x) (s .bytes x)) (s .blank))
   pub few : (x : s .X .Denot) → s .many x ≤ s .K
   pub plain-X : PlainType 𝓤 H A (s .X)
   pub plain-E : PlainType 𝓤 H A (s .E)
@@ -137,7 +137,7 @@ module _ {M : Type 1} (𝓤 : URA M) (H : Heap 𝓤) (A : Atoms 𝓤) (W : Given
       all-of-it = take-all (s .L) (s .blank) (subst (λ (n : ℕ). n ≤ s .L) (sym long) (le-refl (s .L)))
 
       -- what the contract says, of the reply as it is lent
-      said : (s .told (s .answer-of (now ys) us vs) ≡ s .answer-in (now ys) x) × (s .row-of (now ys) us vs ≡ s .row-in (now ys) x)
+      said : Told (s .answer-in) (s .row-in) (now ys) x (s .told (s .answer-of (now ys) us vs)) (s .row-of (now ys) us vs)
       said = (ap (λ (l : List (s .G .Denot)). s .told (s .answer-of (now ys) us l)) all-of-it ∙ k .says-all (now ys) x .0, ap (s .row-of (now ys) us) all-of-it ∙ k .says-all (now ys) x .1)
 
     walk : Room (R s) (length (now ys)) → Is (s .X) x (k .plain-X .val x ∷ []) → Walk W (form s) (k .plain-X, tt) 𝓣 (function s) (κ, tt) (q, tt) (ys, (x, tt))

@@ -11,10 +11,10 @@
 use mathlib.Core.Path.{_≡_, refl, sym, subst}
 use mathlib.Core.Bool.{Bool, true, false}
 use mathlib.Core.WellFounded.{WellFounded, InvImage·wf}
-use Prim.Native.Nat.{ℕ, zero, _<_, _≤_, _+_, _-_, _*_, _^_}
+use Prim.Native.Nat.{ℕ, _<_, _≤_, _+_, _-_, _*_, _^_}
 use native.Mathlib.Omega.{arith}
 use mathlib.Core.List.{[], _∷_, List, _++_}
-use lib.Dec.{T as Holds, ltb, ltb→lt, nltb→le}
+use lib.Dec.{T as Holds}
 use lib.ListN.{length, getD}
 use lib.WfN.{Nat·lt-wfRel}
 use borrow.Author.Tests.{lt-ltb, le-ltb}
@@ -27,20 +27,31 @@ use base.Fml.{Lft, Share, fobor, flft}
 use prog.Wp.{Heap, Env, Wp, Tables, spotOf, afterSeq, afterBlock, afterTurn, atReturn, returns as returned, next, exits}
 use ghost.Atoms.{Atoms}
 use types.Kit.{Go, Goal, Soaks, Given, Item, ‵, prop, runs, anyQ, atRet, post, Post, Seq, Step, step, _$_, !, move, drop, fsplit, rewrite}
-use types.Run.{Below, look, look-raw, init, store, forget, stop, hop, from, load, lit, of-opd, bin, assigns-last, first, blocks, loops, again, stays, leaves-loop, exec}
+use types.Run.{Below, look, look-raw, store, forget, stop, hop, from, load, lit, of-opd, bin, assigns-last, first, blocks, loops, again, stays, leaves-loop, exec}
 use types.Share.{arr-parts}
 use denote.RattleType.{RattleType}
 use denote.Laws.{Is, shows}
-use denote.Memory.{mem, shares}
+use denote.Memory.{mem, cellAt, shares}
+use denote.Steps.{owned}
 use denote.Ref.{RefT, now}
-use denote.Slice.{sliceTy, sliceVal, Room}
-use denote.Index.{row, looks-slice}
+use denote.Slice.{sliceTy, Room}
+use denote.Index.{row, others, elem-out, elem-back, looks-slice}
 use denote.Index as Index
 use denote.Struct.Declared as D
-use Rattle.walks.proofs.Plain.{ty, PlainType, has, elem-plain, elem-kept}
-use Rattle.walks.proofs.Walk.{falls, cases}
+use Rattle.walks.proofs.Plain.{ty, PlainType, has}
+use Rattle.walks.proofs.Walk.{falls, below}
 use Rattle.walks.proofs.Form.{shared}
 use Rattle.walks.proofs.Steps.{it, len-of, sets, steps, finds-elem, fits-offset, Has, Free, Sliced, var, len, ptr, fills, reaches-elem}
+
+-- the element at i of a row of plain records, at its machine value: [the row]  to  [the element's cell; the others], and back as it was
+module _ {M : Type 1} {𝓤 : URA M} {H : Heap 𝓤} {A : Atoms 𝓤} {K : Type 0} {W : Given 𝓤 H A} {Γ : List (Item 𝓤)} {G : Goal 𝓤 H} (R : RattleType) (P : PlainType 𝓤 H A R) (y : RefT (List (R .Denot))) (q : Share) (i : ℕ) (none : R .Denot) (l : i < length (now y)) where
+  takes-out : K → (Is R (getD (now y) i none) (P .val (getD (now y) i none) ∷ []) → Seq K W (‵ (cellAt q (R .mir) (P .val (getD (now y) i none) ∷ []) (y .ptr .0) (Index.place (mem R .size) (y .ptr .1) i)) ∷ ‵ (others (shares R) q (now y) i (y .ptr .0) (y .ptr .1)) ∷ Γ) G)
+      → Seq K W (‵ (row R q (now y) (y .ptr .0) (y .ptr .1)) ∷ Γ) G
+  takes-out t k = elem-out t R (Is R) (shows 𝓤 H A R) (λ x. P .val x ∷ []) (P .tells) q (now y) i none (y .ptr .0) (y .ptr .1) l (λ g. move t (1 ∷ []) $ drop t $ k g)
+
+  puts-in : K → Is R (getD (now y) i none) (P .val (getD (now y) i none) ∷ [])
+      → Step K W (‵ (row R q (now y) (y .ptr .0) (y .ptr .1)) ∷ Γ) G (‵ (cellAt q (R .mir) (P .val (getD (now y) i none) ∷ []) (y .ptr .0) (Index.place (mem R .size) (y .ptr .1) i)) ∷ ‵ (others (shares R) q (now y) i (y .ptr .0) (y .ptr .1)) ∷ Γ) G
+  puts-in t g = step (λ s. owned t R (Is R) (P .makes) (getD (now y) i none) _ g $ move t (1 ∷ 0 ∷ []) $ elem-back t R q (now y) i none _ (y .ptr .0) (y .ptr .1) l $ s)
 
 -- ---- the code
 pub record Locals : Type 0 where
@@ -118,9 +129,9 @@ module _ {M : Type 1} {𝓤 : URA M} {H : Heap 𝓤} {A : Atoms 𝓤} (W : Given
           fills ! (of-opd ! (len ! 1 refl (at .row-is))) 3 refl (word _ (tt, record { fits = space .0 })) $ fills ! (bin ! (var ! 2 refl) (var ! 3 refl) tt) 4 refl (typed-as _ (at .c-is) (tt, tt)) $
           rewrite ! 4 (λ (t : Bool). Has 𝓤 H E (L .c) fullShare (vbool t)) (lt-ltb x (length (now y)) l) refl $ stays ! (var ! 4 refl) $
           reaches-elem ! R space l (var ! 2 refl) (store ! 3 refl (word _ (fits-offset R (length (now y)) x space l))) (ptr ! 1 refl (at .row-is)) (var ! 3 refl) 5 refl (typed-as _ (at .p-is) (tt, tt)) $
-          elem-plain ! R P q′ (now y) x none (y .ptr .0) (y .ptr .1) l (λ g.
+          takes-out R P y q′ x none l ! (λ g.
           -- [the element; the others; the slice; the index; the offset; the test; the pointer; room for the element]
-          fills ! (of-opd ! (load ! (from ! (hop ! (look ! 6 refl) (stop !))) (look-raw ! 0 refl))) 7 refl (typed-as _ (at .r-is) (has P (h x) g)) $ elem-kept ! R P q′ (now y) x none (y .ptr .0) (y .ptr .1) l g $ k g)
+          fills ! (of-opd ! (load ! (from ! (hop ! (look ! 6 refl) (stop !))) (look-raw ! 0 refl))) 7 refl (typed-as _ (at .r-is) (has P (h x) g)) $ puts-in R P y q′ x none l ! g $ k g)
 
       -- there is none, and the loop is left
       stops : (x : ℕ) → length (now y) ≤ x → (Γ : List (Item 𝓤)) (turn : Code) (Q : Post 𝓤 H) → Seq (Go {0}) W (Over x ++ Γ) (prop (post 𝓤 H Q (exits 1))) → Seq (Go {0}) W (Front x ++ Γ) (runs (𝓣 .C) (𝓣 .Λ) E (turn-code R L turn) Q)
@@ -170,7 +181,7 @@ module _ {M : Type 1} {𝓤 : URA M} {H : Heap 𝓤} {A : Atoms 𝓤} (W : Given
         is-left t past = stops (t .x) past (Γ (t .a)) turn (After t) (exec ! (𝓣 .C) (𝓣 .Λ) E after (atRet E Kf) $ ends (t .x) (t .a) past (t .inv))
 
         pub loops-over : (x : ℕ) (a : X) → Inv x a → Seq (Go {0}) W (Front x ++ Γ a) (runs (𝓣 .C) (𝓣 .Λ) E (loop-code R L turn after) (atRet E Kf))
-        loops-over x a inv = first ! $ blocks ! $ loops ! 𝓣 fewer fewer-wf I (λ u. cases (ltb (u .x) (length (now y))) (λ so. goes-on u (ltb→lt (u .x) (length (now y)) so)) (λ so. is-left u (nltb→le (u .x) (length (now y)) so))) (record { x = x; a = a; inv = inv })
+        loops-over x a inv = first ! $ blocks ! $ loops ! 𝓣 fewer fewer-wf I (λ u. below (u .x) (length (now y)) (goes-on u) (is-left u)) (record { x = x; a = a; inv = inv })
 
 module _ {M : Type 1} {𝓤 : URA M} {H : Heap 𝓤} {A : Atoms 𝓤} {K : Type 0} {W : Given 𝓤 H A} {Γ : List (Item 𝓤)} {G : Goal 𝓤 H} where
   -- a shared row is looked into: [the token; the row]  to  [its elements, at some share; the open borrow]

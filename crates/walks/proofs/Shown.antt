@@ -25,7 +25,7 @@ use Rattle.walks.proofs.Plain.{ty, PlainType, has}
 use Rattle.walks.proofs.Walk.{cell}
 use Rattle.walks.proofs.Steps.{it, steps, by-values, ref-to, slice-of, hands-to, fits-slice, var, lands-in, hands-on, enters, ends-in}
 use Rattle.walks.proofs.Form.{Form, Fulfils, met, exits, Walk, meets-form}
-use Rattle.walks.proofs.Callee.{of-one, of-slice, on-row, calls-one, calls-slice}
+use Rattle.walks.proofs.Callee.{Answers, Changes, of-one, of-slice, on-row, calls-one, calls-slice}
 use Rattle.walks.proofs.Lent.{lent-as, settles, shows-row, row-home}
 
 pub record Shape : Type 2 where
@@ -39,8 +39,8 @@ pub record Shape : Type 2 where
   -- what the contracts of f and h say, and what g's says
   pub F : List (T .D) → B .Denot
   pub G : B .Denot → O .Denot
-  pub answer-in : List (T .D) → X .Denot → O .Denot
-  pub row-in : List (T .D) → X .Denot → List (T .D)
+  pub answer-in : Answers (T .D) (X .Denot) (O .Denot)
+  pub row-in : Changes (T .D) (X .Denot)
 
 module _ (s : Shape) where
   abbrev R : RattleType

@@ -31,10 +31,10 @@ use denote.Slice.{sliceVal, Room}
 use denote.Struct.Declared as D
 use denote.Triple.Statement.{Triple}
 use Rattle.walks.proofs.Plain.{ty, PlainType, has, boolean}
-use Rattle.walks.proofs.Walk.{cases, is-true, is-false, cell, room}
+use Rattle.walks.proofs.Walk.{decide, cell, room}
 use Rattle.walks.proofs.Steps.{it, sets, steps, by-values, ref-to, slice-of, hands-to, fits-slice, Has, Free, Dies, var, fills, lands-in, hands-on, Blocks, lie-at, enters, ends-in}
 use Rattle.walks.proofs.Form.{Form, Fulfils, met, slice-val, shared, mut-slice, calls-last, Post, exits, Walk, meets-form}
-use Rattle.walks.proofs.Callee.{of-one, on-line, keeps-copy, calls-one}
+use Rattle.walks.proofs.Callee.{OfLine, LineTold, of-one, on-line, keeps-copy, calls-one}
 use Rattle.walks.proofs.Lent.{lent-as, settles, lends-row, lent-home}
 
 pub record Shape : Type 2 where
@@ -47,12 +47,12 @@ pub record Shape : Type 2 where
   pub f : Name
   -- what the contracts of more and f say, what g's says, and the turns that are left
   pub goes-on : S .Denot → Bool
-  pub state-at : List (T .D) → S .Denot → List (E .Denot) → List (G .Denot) → S .Denot
-  pub row-at : List (T .D) → S .Denot → List (E .Denot) → List (G .Denot) → List (T .D)
-  pub out-at : List (T .D) → S .Denot → List (E .Denot) → List (G .Denot) → List (G .Denot)
-  pub state-of : List (T .D) → S .Denot → List (E .Denot) → List (G .Denot) → S .Denot
-  pub row-of : List (T .D) → S .Denot → List (E .Denot) → List (G .Denot) → List (T .D)
-  pub out-of : List (T .D) → S .Denot → List (E .Denot) → List (G .Denot) → List (G .Denot)
+  pub state-at : OfLine (T .D) (S .Denot) (E .Denot) (G .Denot) (S .Denot)
+  pub row-at : OfLine (T .D) (S .Denot) (E .Denot) (G .Denot) (List (T .D))
+  pub out-at : OfLine (T .D) (S .Denot) (E .Denot) (G .Denot) (List (G .Denot))
+  pub state-of : OfLine (T .D) (S .Denot) (E .Denot) (G .Denot) (S .Denot)
+  pub row-of : OfLine (T .D) (S .Denot) (E .Denot) (G .Denot) (List (T .D))
+  pub out-of : OfLine (T .D) (S .Denot) (E .Denot) (G .Denot) (List (G .Denot))
   pub left : S .Denot → ℕ → ℕ
 
 module _ (s : Shape) where
@@ -60,10 +60,10 @@ module _ (s : Shape) where
   R = D.row (s .T)
 
   abbrev pub form : Form
-  form = on-line (s .S) R (s .S) (s .E) (s .G) (s .state-of) (s .row-of) (s .out-of)
+  form = on-line (s .S) R (s .E) (s .G) (s .S) (s .state-of) (s .row-of) (s .out-of)
 
   abbrev pub one : Form
-  one = on-line (s .S) R (s .S) (s .E) (s .G) (s .state-at) (s .row-at) (s .out-at)
+  one = on-line (s .S) R (s .E) (s .G) (s .S) (s .state-at) (s .row-at) (s .out-at)
 
   abbrev turn-code : Code
   turn-code = steps (call (s .more) (it 5 ∷ []) (place 6 []) ∷ cond (it 6) skip (exit 1) ∷ []) (steps (hands-to R 1 7 8) (steps (hands-to (s .G) 4 9 10) (call (s .f) (it 8 ∷ it 5 ∷ it 3 ∷ it 10 ∷ []) (place 5 []))))
@@ -80,11 +80,14 @@ module _ (s : Shape) where
     body = steps (sets 5 (rvOpd (it 2)) ∷ block (loop turn-code) ∷ []) returned;
   }
 
+  -- what g says from one state of things is what it says from another
+  abbrev pub Same : List (s .T .D) → s .S .Denot → List (s .E .Denot) → List (s .G .Denot) → List (s .T .D) → s .S .Denot → List (s .G .Denot) → Type 0
+  Same ys x bs rs zs z us = LineTold (s .state-of) (s .row-of) (s .out-of) ys x bs rs (s .state-of zs z bs us) (s .row-of zs z bs us) (s .out-of zs z bs us)
+
 pub record Knows {M : Type 1} (𝓤 : URA M) (H : Heap 𝓤) (A : Atoms 𝓤) (s : Shape) : Type 2 where
-  pub stops : (ys : List (s .T .D)) (x : s .S .Denot) (bs : List (s .E .Denot)) (rs : List (s .G .Denot)) → s .goes-on x ≡ false → (x ≡ s .state-of ys x bs rs) × ((ys ≡ s .row-of ys x bs rs) × (rs ≡ s .out-of ys x bs rs))
+  pub stops : (ys : List (s .T .D)) (x : s .S .Denot) (bs : List (s .E .Denot)) (rs : List (s .G .Denot)) → s .goes-on x ≡ false → LineTold (s .state-of) (s .row-of) (s .out-of) ys x bs rs x ys rs
   pub turns : (ys : List (s .T .D)) (x : s .S .Denot) (bs : List (s .E .Denot)) (rs : List (s .G .Denot)) → s .goes-on x ≡ true
-      → (s .state-of (s .row-at ys x bs rs) (s .state-at ys x bs rs) bs (s .out-at ys x bs rs) ≡ s .state-of ys x bs rs)
-      × ((s .row-of (s .row-at ys x bs rs) (s .state-at ys x bs rs) bs (s .out-at ys x bs rs) ≡ s .row-of ys x bs rs) × (s .out-of (s .row-at ys x bs rs) (s .state-at ys x bs rs) bs (s .out-at ys x bs rs) ≡ s .out-of ys x bs rs))
+      → Same s ys x bs rs (s .row-at ys x bs rs) (s .state-at ys x bs rs) (s .out-at ys x bs rs)
   pub falls : (ys : List (s .T .D)) (x : s .S .Denot) (bs : List (s .E .Denot)) (rs : List (s .G .Denot)) → s .goes-on x ≡ true → s .left (s .state-at ys x bs rs) (length bs) < s .left x (length bs)
   pub plain-S : PlainType 𝓤 H A (s .S)
 
@@ -93,19 +96,13 @@ module _ {M : Type 1} (𝓤 : URA M) (H : Heap 𝓤) (A : Atoms 𝓤) (W : Given
   St = k .plain-S
 
   module _ (κ κ₁ κ₂ : Lft) (q q₁ q₂ : Share) (ys : RefT (List (s .T .D))) (x : s .S .Denot) (bs : RefT (List (s .E .Denot))) (rs : RefT (List (s .G .Denot))) (space : Room (D.row (s .T)) (length (now ys))) (space₂ : Room (s .G) (length (now rs))) where
-    -- what g says from a row, a state and an output is what it says from the first
-    record Same (row : List (s .T .D)) (st : s .S .Denot) (out : List (s .G .Denot)) : Type 0 where
-      states : s .state-of row st (now bs) out ≡ s .state-of (now ys) x (now bs) (now rs)
-      rows : s .row-of row st (now bs) out ≡ s .row-of (now ys) x (now bs) (now rs)
-      outs : s .out-of row st (now bs) out ≡ s .out-of (now ys) x (now bs) (now rs)
-
     record State : Type 0 where
       row : List (s .T .D)
       st : s .S .Denot
       out : List (s .G .Denot)
       row-long : length row ≡ length (now ys)
       out-long : length out ≡ length (now rs)
-      same : Same row st out
+      same : Same s (now ys) x (now bs) (now rs) row st out
       is : Is (s .S) st (k .plain-S .val st ∷ [])
 
     abbrev fewer : State → State → Type 0
@@ -133,13 +130,12 @@ module _ {M : Type 1} (𝓤 : URA M) (H : Heap 𝓤) (A : Atoms 𝓤) (W : Given
 
       -- one turn further
       module _ (so : s .goes-on (t .st) ≡ true) (z : s .S .Denot) (zs : List (s .T .D)) (us : List (s .G .Denot))
-          (e : (z ≡ s .state-at (t .row) (t .st) (now bs) (t .out)) × ((zs ≡ s .row-at (t .row) (t .st) (now bs) (t .out)) × (us ≡ s .out-at (t .row) (t .st) (now bs) (t .out)))) where
-        still : Same zs z us
-        still = record {
-          states = (λ i. s .state-of (e .1 .0 i) (e .0 i) (now bs) (e .1 .1 i)) ∙ (k .turns (t .row) (t .st) (now bs) (t .out) so .0 ∙ t .same .states);
-          rows = (λ i. s .row-of (e .1 .0 i) (e .0 i) (now bs) (e .1 .1 i)) ∙ (k .turns (t .row) (t .st) (now bs) (t .out) so .1 .0 ∙ t .same .rows);
-          outs = (λ i. s .out-of (e .1 .0 i) (e .0 i) (now bs) (e .1 .1 i)) ∙ (k .turns (t .row) (t .st) (now bs) (t .out) so .1 .1 ∙ t .same .outs);
-        }
+          (e : LineTold (s .state-at) (s .row-at) (s .out-at) (t .row) (t .st) (now bs) (t .out) z zs us) where
+        still : Same s (now ys) x (now bs) (now rs) zs z us
+        still = (
+          (λ i. s .state-of (e .1 .0 i) (e .0 i) (now bs) (e .1 .1 i)) ∙ (k .turns (t .row) (t .st) (now bs) (t .out) so .0 ∙ t .same .0),
+          ((λ i. s .row-of (e .1 .0 i) (e .0 i) (now bs) (e .1 .1 i)) ∙ (k .turns (t .row) (t .st) (now bs) (t .out) so .1 .0 ∙ t .same .1 .0), (λ i. s .out-of (e .1 .0 i) (e .0 i) (now bs) (e .1 .1 i)) ∙ (k .turns (t .row) (t .st) (now bs) (t .out) so .1 .1 ∙ t .same .1 .1)),
+        )
 
         fell : s .left z (length (now bs)) < s .left (t .st) (length (now bs))
         fell = subst (λ (y : s .S .Denot). s .left y (length (now bs)) < s .left (t .st) (length (now bs))) (sym (e .0)) (k .falls (t .row) (t .st) (now bs) (t .out) so)
@@ -148,10 +144,10 @@ module _ {M : Type 1} (𝓤 : URA M) (H : Heap 𝓤) (A : Atoms 𝓤) (W : Given
         next l l₂ is = record { row = zs; st = z; out = us; row-long = l ∙ t .row-long; out-long = l₂ ∙ t .out-long; same = still; is = is }
 
       -- what g says where the loop stops
-      told : s .goes-on (t .st) ≡ false → (t .st ≡ s .state-of (now ys) x (now bs) (now rs)) × ((t .row ≡ s .row-of (now ys) x (now bs) (now rs)) × (t .out ≡ s .out-of (now ys) x (now bs) (now rs)))
+      told : s .goes-on (t .st) ≡ false → LineTold (s .state-of) (s .row-of) (s .out-of) (now ys) x (now bs) (now rs) (t .st) (t .row) (t .out)
       told over =
           let stops = k .stops (t .row) (t .st) (now bs) (t .out) over in
-          (stops .0 ∙ t .same .states, (stops .1 .0 ∙ t .same .rows, stops .1 .1 ∙ t .same .outs))
+          (stops .0 ∙ t .same .0, (stops .1 .0 ∙ t .same .1 .0, stops .1 .1 ∙ t .same .1 .1))
 
     module _ (ls : Blocks (function s .locals)) where
       abbrev En : Env 𝓤 H
@@ -193,12 +189,12 @@ module _ {M : Type 1} (𝓤 : URA M) (H : Heap 𝓤) (A : Atoms 𝓤) (W : Given
           by ! (exits W (form s) (St, tt) (κ, (κ₁, (κ₂, tt))) (q, (q₁, (q₂, tt))) (ys, (x, (bs, (rs, tt)))) St (t .row, (t .out, tt)) (t .st) _ (told t over) (t .row-long, (t .out-long, tt)) (t .is)))
 
       looped : (t : State) → Seq (Go {0}) W (Γ t) (runs (𝓣 .C) (𝓣 .Λ) En (seq (block (loop (turn-code s))) (returned s)) (atRet En Ends))
-      looped t = first ! $ blocks ! $ loops ! 𝓣 fewer fewer-wf Γ (λ u. cases (s .goes-on (u .st)) (λ so. goes-round u (is-true (s .goes-on (u .st)) so)) (λ so. is-over u (is-false (s .goes-on (u .st)) so))) t
+      looped t = first ! $ blocks ! $ loops ! 𝓣 fewer fewer-wf Γ (λ u. decide (s .goes-on (u .st)) (goes-round u) (is-over u)) t
 
     walk : Is (s .S) x (k .plain-S .val x ∷ []) → Room (s .E) (length (now bs)) → Walk W (form s) (St, tt) 𝓣 (function s) (κ, (κ₁, (κ₂, tt))) (q, (q₁, (q₂, tt))) (ys, (x, (bs, (rs, tt))))
     walk x-is space₁ = enters (function s) ! (λ ls. params1 ! $ pass1 ! (init ! 18 refl (fits-slice (space .0))) $ pass1 ! (init ! 16 refl (has St x x-is)) $ pass1 ! (init ! 14 refl (fits-slice (space₁ .0))) $ pass1 ! (init ! 12 refl (fits-slice (space₂ .0))) $ pass0 ! $
         fills ! (of-opd ! (var ! 16 refl)) 10 refl (has St x x-is) $ move ! (22 ∷ 25 ∷ 24 ∷ 27 ∷ 23 ∷ 26 ∷ []) $
-        looped ls (record { row = now ys; st = x; out = now rs; row-long = refl; out-long = refl; same = record { states = refl; rows = refl; outs = refl }; is = x-is }))
+        looped ls (record { row = now ys; st = x; out = now rs; row-long = refl; out-long = refl; same = (refl, (refl, refl)); is = x-is }))
 
   pub meets : Fulfils 𝓤 H A (form s) 𝓣 (function s)
   meets = meets-form W (form s) (k .plain-S, tt) 𝓣 (function s) (λ κs qs a so. walk (κs .0) (κs .1 .0) (κs .1 .1 .0) (qs .0) (qs .1 .0) (qs .1 .1 .0) (a .0) (a .1 .0) (a .1 .1 .0) (a .1 .1 .1 .0) (so .0) (so .1 .1 .1 .0) (so .1 .0) (so .1 .1 .0))
