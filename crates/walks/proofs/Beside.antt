@@ -76,7 +76,7 @@ module _ {M : Type 1} (𝓤 : URA M) (H : Heap 𝓤) (A : Atoms 𝓤) (W : Given
   walk : (κ κ₁ : Lft) (q q₁ : Share) (y : RefT (s .T .D)) (x : s .X .Denot) (cs : RefT (List (s .E .Denot))) → Is (s .X) x (k .plain-X .val x ∷ []) → Room (s .E) (length (now cs))
       → Walk W (form s) (k .plain-X, tt) 𝓣 (function s) (κ, (κ₁, tt)) (q, (q₁, tt)) (y, (x, (cs, tt)))
   walk κ κ₁ q q₁ y x cs x-is space = enters (function s) ! (λ bs. params1 ! $ pass1 ! (init ! 8 refl (tt, tt)) $ pass1 ! (init ! 6 refl (has (k .plain-X) x x-is)) $ pass1 ! (init ! 4 refl (fits-slice (space .0))) $ pass0 ! $
-      move ! (12 ∷ 14 ∷ []) $ opens-ref ! tt (R s) (k .pair-Q .first) y (λ g.
+      move ! (12 ∷ 14 ∷ []) $ opens-ref (R s) (k .pair-Q .first) y ! tt (λ g.
       -- [the record's cell; the open borrow; _5: 2; _4: 4; _3: 6; _2: 8; _1: 10; _0: 12; the cells' token; the cells]
       fills ! (of-opd ! (load ! (from ! (hop ! (look ! 10 refl) (stop !))) (look-raw ! 0 refl))) 2 refl (has (k .pair-Q .first) (now y) g) $ move ! (14 ∷ 15 ∷ []) $
       calls W (by-value s) (k .pair-Q .first, (k .plain-X, tt)) (κ₁, tt) (q₁, tt) (now y, (x, (cs, tt))) (k .pair-Q .both) 𝓣 known (g, (x-is, tt)) !
@@ -84,7 +84,7 @@ module _ {M : Type 1} (𝓤 : URA M) (H : Heap 𝓤) (A : Atoms 𝓤) (W : Given
       -- [the record's cell; the open borrow; the cells' token; _5: 3; _4: 5; _3: 7; _2: 9; _1: 11; _0: 13]
       lands-in ! 5 refl (has-pair (k .pair-Q) z is) $ rewrite ! 5 (λ (u : Val). ‵ (fat fullShare (pair-ty (s .Q) (R s) (s .O)) (bs .1 .1 .1 .1 .0) 0 u)) (k .pair-Q .spelled z) refl $
       assigns ! (of-opd ! (part ! 5 0 refl refl refl)) (from ! (hop ! (look ! 11 refl) (stop !))) (store-raw ! 0 refl (has (k .pair-Q .first) (s .record-of z) (k .pair-Q .owed z is .0))) $
-      fills ! (of-opd ! (part ! 5 1 refl refl refl)) 13 refl (has (k .pair-Q .second) (s .answer-of z) (k .pair-Q .owed z is .1)) $ settles-ref ! tt (R s) (k .pair-Q .first) y (s .record-of z) (k .pair-Q .owed z is .0) $
+      fills ! (of-opd ! (part ! 5 1 refl refl refl)) 13 refl (has (k .pair-Q .second) (s .answer-of z) (k .pair-Q .owed z is .1)) $ settles-ref (R s) (k .pair-Q .first) y ! tt (s .record-of z) (k .pair-Q .owed z is .0) $
       ends-in ! 13 refl (cell, (cell, (cell, (cell, (cell, (cell, tt)))))) $ move ! (0 ∷ 2 ∷ []) $
       by ! (exits W (form s) (k .plain-X, tt) (κ, (κ₁, tt)) (q, (q₁, tt)) (y, (x, (cs, tt))) (k .pair-Q .second) (s .record-of z, tt) (s .answer-of z) _ (ap (s .answer-of) e, ap (s .record-of) e) tt (k .pair-Q .owed z is .1)))))
 

@@ -44,7 +44,7 @@ pub record Shape : Type 2 where
   pub f : Name
   pub bad-count : ℕ → Bool
   pub bad : T .D → Bool
-  -- what stands past the end, and what the contract says
+  -- a record for where there is none, and what g says
   pub empty : T .D
   pub all : List (T .D) → Bool
 

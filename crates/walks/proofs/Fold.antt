@@ -3,7 +3,7 @@
 --     fn g(row: &[T]) -> B { let mut acc = init(); let mut i = 0; while i < row.len() { acc = f(acc, i, row[i]); i += 1; } acc }
 -- T is a declared struct of plain fields and B is plain. init and f are covered and say `r ≡ start` and `r ≡ F acc i b`. g says `r ≡ all (now (row .entry))`, the fold of F over the row.
 --     Shape, Knows     what g is made of; that the contract says the fold, and what is to be known of the types
---     folded           the fold: F at each place from i on
+--     folded           F at each place in turn, from the place i on
 --     function, form   g's MIR, and its form.        adds     the form of f.        meets     g's MIR meets its contract, over any `Tables` in which init and f meet theirs
 -- What holds at the loop's test is that the fold from the index on, of what is carried, is the whole.
 use mathlib.Core.Path.{_≡_, refl, sym, _∙_, subst}
@@ -47,7 +47,7 @@ pub record Shape : Type 2 where
   pub f : Name
   pub start : B .Denot
   pub F : B .Denot → ℕ → T .D → B .Denot
-  -- what stands past the end, and what the contract says
+  -- a record for where there is none, and what g says
   pub empty : T .D
   pub all : List (T .D) → B .Denot
 

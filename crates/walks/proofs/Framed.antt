@@ -39,7 +39,7 @@ pub record Shape : Type 2 where
   pub f1 : Name
   pub f2 : Name
   pub f3 : Name
-  -- what their contracts say, and what g's says
+  -- of f1, f2 and f3, and of g: what is asked, the answers, and what is left in the row and in the reply
   pub apart : List (E .Denot) → ℕ → X .Denot
   pub answer-at : Answers (T .D) (X .Denot) (Y .Denot)
   pub row-at : Changes (T .D) (X .Denot)

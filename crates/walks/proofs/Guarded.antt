@@ -44,7 +44,7 @@ pub record Shape : Type 2 where
   pub good : Name
   pub f : Name
   pub no : Name
-  -- what the contracts of good, f and no say, and what g's says
+  -- of the callees: whether a row is good, f's answer and row, and the refusal; and what g says
   pub is-good : List (T .D) → Bool
   pub answer-at : OfCells (T .D) (N .Denot) (X .Denot) (E .Denot) (O .Denot)
   pub row-at : OfCells (T .D) (N .Denot) (X .Denot) (E .Denot) (List (T .D))
@@ -95,9 +95,9 @@ module _ {M : Type 1} (𝓤 : URA M) (H : Heap 𝓤) (A : Atoms 𝓤) (W : Given
     walk space n-is x-is space₁ = enters (function s) ! (λ bs. params1 ! $ pass1 ! (init ! 16 refl (fits-slice (space .0))) $ pass1 ! (init ! 14 refl (has (k .plain-N) n n-is)) $ pass1 ! (init ! 12 refl (has (k .plain-X) x x-is)) $ pass1 ! (init ! 10 refl (fits-slice (space₁ .0))) $ pass0 ! $
         move ! (20 ∷ 22 ∷ 21 ∷ 23 ∷ []) $
         -- [the token; the row; the cells' token; the cells; _9: 4; _8: 6; _7: 8; _6: 10; _5: 12; _4: 14; _3: 16; _2: 18; _1: 20; _0: 22]
-        hands-on ! 20 10 8 refl refl refl refl refl refl (tt, tt) (fits-slice (space .0)) $ shows-row ! tt (R s) ys space (λ ν δ.
+        hands-on ! 20 10 8 refl refl refl refl refl refl (tt, tt) (fits-slice (space .0)) $ shows-row (R s) ys ! tt space (λ ν δ.
         -- [ν's token; the row as it is shown; what the lender keeps; the cells' token; the cells; _9: 5; ..]
-        calls-slice ! 𝓣 (R s) (boolean 𝓤 H A W) (s .is-good) known-good (ν ∷ []) fullShare (lent-as (R s) ys δ (now ys)) (and-then ! (var ! 9 refl) (no-more !)) (λ t e₀ _. lands-in ! 13 refl (tt, tt) $ row-home ! tt (R s) ys space ν δ $
+        calls-slice ! 𝓣 (R s) (boolean 𝓤 H A W) (s .is-good) known-good (ν ∷ []) fullShare (lent-as (R s) ys δ (now ys)) (and-then ! (var ! 9 refl) (no-more !)) (λ t e₀ _. lands-in ! 13 refl (tt, tt) $ row-home (R s) ys ! tt space ν δ $
         first ! $ branches ! (var ! 12 refl)
         (λ so. hands-on ! 20 6 4 refl refl refl refl refl refl (tt, tt) (fits-slice (space .0)) $ move ! (0 ∷ 2 ∷ 1 ∷ 3 ∷ []) $
         calls W (inner s) (k .plain-N, (k .plain-X, tt)) (κ, (κ₁, tt)) (q, (q₁, tt)) (ys, (n, (x, (cs, tt)))) (k .plain-O) 𝓣 known (n-is, (x-is, tt)) !
@@ -106,7 +106,7 @@ module _ {M : Type 1} (𝓤 : URA M) (H : Heap 𝓤) (A : Atoms 𝓤) (W : Given
         by ! (done r (ws .0) (e .0 ∙ k .goes-on (now ys) n x (now cs) (subst Holds e₀ so) .0, e .1 ∙ k .goes-on (now ys) n x (now cs) (subst Holds e₀ so) .1) (l .0) is)))
         -- a row that is not good
         (λ so. skips ! $ exec ! (𝓣 .C) (𝓣 .Λ) (lie-at 𝓤 H (function s .locals) bs) (refusal s) (atRet _ Ends) $ calls-nothing ! 𝓣 (s .O) (k .plain-O) (s .none) known-no (λ is. lands-in ! 22 refl (has (k .plain-O) (s .none) is) $
-        move ! (1 ∷ []) $ settles ! (R s) κ ys $ ends-in ! 22 refl (cell, (cell, (cell, (cell, (cell, (cell, (cell, (cell, (room, (room, tt)))))))))) $ keep ! (1 ∷ 2 ∷ 0 ∷ []) $
+        move ! (1 ∷ []) $ settles (R s) ys ! κ $ ends-in ! 22 refl (cell, (cell, (cell, (cell, (cell, (cell, (cell, (cell, (room, (room, tt)))))))))) $ keep ! (1 ∷ 2 ∷ 0 ∷ []) $
         by ! (done (s .none) (now ys) (k .refuses (now ys) n x (now cs) (subst (λ (v : Bool). Holds (not v)) e₀ so)) refl is))))))
 
   pub meets : Fulfils 𝓤 H A (form s) 𝓣 (function s)

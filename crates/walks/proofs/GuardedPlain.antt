@@ -42,7 +42,7 @@ pub record Shape : Type 2 where
   pub good : Name
   pub f : Name
   pub no : Name
-  -- what the contracts of good, f and no say, and what g's says
+  -- of the callees: whether a row is good, f's answer and row, and the refusal; and what g says
   pub is-good : List (T .D) → Bool
   pub answer-at : Answers (T .D) (X .Denot) (O .Denot)
   pub row-at : Changes (T .D) (X .Denot)
@@ -88,16 +88,16 @@ module _ {M : Type 1} (𝓤 : URA M) (H : Heap 𝓤) (A : Atoms 𝓤) (W : Given
     walk : Room (R s) (length (now ys)) → Is (s .X) x (k .plain-X .val x ∷ []) → Walk W (form s) (k .plain-X, tt) 𝓣 (function s) (κ, tt) (q, tt) (ys, (x, tt))
     walk space x-is = enters (function s) ! (λ bs. params1 ! $ pass1 ! (init ! 12 refl (fits-slice (space .0))) $ pass1 ! (init ! 10 refl (has (k .plain-X) x x-is)) $ pass0 ! $ move ! (16 ∷ 17 ∷ []) $
         -- [the token; the row; _7: 2; _6: 4; _5: 6; _4: 8; _3: 10; _2: 12; _1: 14; _0: 16]
-        hands-on ! 14 8 6 refl refl refl refl refl refl (tt, tt) (fits-slice (space .0)) $ shows-row ! tt (R s) ys space (λ ν δ.
+        hands-on ! 14 8 6 refl refl refl refl refl refl (tt, tt) (fits-slice (space .0)) $ shows-row (R s) ys ! tt space (λ ν δ.
         -- [ν's token; the row as it is shown; what the lender keeps; _7: 3; ..]
-        calls-slice ! 𝓣 (R s) (boolean 𝓤 H A W) (s .is-good) known-good (ν ∷ []) fullShare (lent-as (R s) ys δ (now ys)) (and-then ! (var ! 7 refl) (no-more !)) (λ t e₀ _. lands-in ! 11 refl (tt, tt) $ row-home ! tt (R s) ys space ν δ $
+        calls-slice ! 𝓣 (R s) (boolean 𝓤 H A W) (s .is-good) known-good (ν ∷ []) fullShare (lent-as (R s) ys δ (now ys)) (and-then ! (var ! 7 refl) (no-more !)) (λ t e₀ _. lands-in ! 11 refl (tt, tt) $ row-home (R s) ys ! tt space ν δ $
         first ! $ branches ! (var ! 10 refl)
         (λ so. hands-on ! 14 4 2 refl refl refl refl refl refl (tt, tt) (fits-slice (space .0)) $
         calls W (on-row (s .O) (R s) (s .X) (s .answer-at) (s .row-at)) (k .plain-X, tt) (κ, tt) (q, tt) (ys, (x, tt)) (k .plain-O) 𝓣 known (x-is, tt) ! (and-then ! (var ! 1 refl) (and-then ! (var ! 11 refl) (no-more !))) (λ r ws e l is. lands-in ! 16 refl (has (k .plain-O) r is) $
         ends-within ! 16 Ends refl refl (cell, (cell, (cell, (cell, (cell, (cell, (cell, (cell, tt)))))))) $ by ! (done r (ws .0) (e .0 ∙ k .goes-on (now ys) x (subst Holds e₀ so) .0, e .1 ∙ k .goes-on (now ys) x (subst Holds e₀ so) .1) (l .0) is)))
         -- a row that is not good
         (λ so. skips ! $ exec ! (𝓣 .C) (𝓣 .Λ) (lie-at 𝓤 H (function s .locals) bs) (refusal s) (atRet _ Ends) $ calls-nothing ! 𝓣 (s .O) (k .plain-O) (s .none) known-no (λ is. lands-in ! 16 refl (has (k .plain-O) (s .none) is) $
-        move ! (1 ∷ []) $ settles ! (R s) κ ys $ ends-in ! 16 refl (cell, (cell, (cell, (cell, (cell, (cell, (room, (room, tt)))))))) $ keep ! (1 ∷ 0 ∷ []) $ by ! (done (s .none) (now ys) (k .refuses (now ys) x (subst (λ (v : Bool). Holds (not v)) e₀ so)) refl is))))))
+        move ! (1 ∷ []) $ settles (R s) ys ! κ $ ends-in ! 16 refl (cell, (cell, (cell, (cell, (cell, (cell, (room, (room, tt)))))))) $ keep ! (1 ∷ 0 ∷ []) $ by ! (done (s .none) (now ys) (k .refuses (now ys) x (subst (λ (v : Bool). Holds (not v)) e₀ so)) refl is))))))
 
   pub meets : Fulfils 𝓤 H A (form s) 𝓣 (function s)
   meets = meets-form W (form s) (k .plain-X, tt) 𝓣 (function s) (λ κs qs a so. walk (κs .0) (qs .0) (a .0) (a .1 .0) (so .0) (so .1 .0))

@@ -37,7 +37,7 @@ pub record Shape : Type 2 where
   pub good : Name
   pub f : Name
   pub no : Name
-  -- what the contracts of good, f and no say, and what g's says
+  -- of the callees: whether a row is good, f's answer, and the refusal; and what g says
   pub is-good : List (T .D) → Bool
   pub answer-at : List (T .D) → O .Denot
   pub none : O .Denot

@@ -1,5 +1,6 @@
 -- A local array whose first k elements are lent for one call, as a `&mut [T]` or as a `&[T]`, and taken back.
 -- Assumes nothing.
+--     MadeOf           that what is returned is made of the array and the answer
 --     first-many, first-room     the first k of N are k, and have room
 --     lends-first, first-home     [the array's cell] to [the new token; what the `&mut [T]` owns; what the lender keeps], and back with what the callee left
 --     shows-first, shown-home     the same with a `&[T]`, and back as it was
@@ -40,6 +41,10 @@ use borrow.Table.Elements.{at, cut-app, join-app, same-len}
 use borrow.Table.OneValue.{part-in, part-out}
 use Rattle.walks.proofs.Plain.{ty, PlainType, has-at, pair-ty, array-val, array}
 use Rattle.walks.proofs.Form.{shared, mut-slice}
+
+-- what is returned is made of the array, with what was left of its first n, and of the answer
+abbrev pub MadeOf : {Y O Q : Type 0} → (List Y → O → Q) → List Y → ℕ → (List Y → O) → (List Y → List Y) → Q → Type 0
+MadeOf {Y} {O} made ys n F B all = (r : O) (zs : List Y) → r ≡ F (take n ys) → zs ≡ B (take n ys) → made (zs ++ dropN n ys) r ≡ all
 
 -- the first k of an array of N are k, and have room where N have
 pub first-many : {X : Type 0} (l : List X) (k n : ℕ) → length l ≡ n → k ≤ n → k ≡ length (take k l)
@@ -112,30 +117,30 @@ module _ {M : Type 1} {𝓤 : URA M} {H : Heap 𝓤} {A : Atoms 𝓤} {K : Type 
       facts t (Array R N) (Is (Array R N)) (shows 𝓤 H A (Array R N)) (zs ++ dropN k xs) (w ∷ []) (λ is.
       rewrite t 0 (λ (v : Val). ‵ (cell-of R N b v)) (ap only (array 𝓤 H A W R P N .tells (zs ++ dropN k xs) (w ∷ []) is)) refl $ go (subst (Is (Array R N) (zs ++ dropN k xs)) (array 𝓤 H A W R P N .tells (zs ++ dropN k xs) (w ∷ []) is) is)))
 
-module _ {M : Type 1} {𝓤 : URA M} {H : Heap 𝓤} {A : Atoms 𝓤} {K : Type 0} {W : Given 𝓤 H A} {Γ : List (Item 𝓤)} {G : Goal 𝓤 H} where
-  pub lends-first : K → Soaks G → (R : RattleType) (P : PlainType 𝓤 H A R) (N b : ℕ) (xs : List (R .Denot)) (k : ℕ) → Single (R .mir) → Is-array R P N xs → Room R (length (take k xs))
+module _ {M : Type 1} {𝓤 : URA M} {H : Heap 𝓤} {A : Atoms 𝓤} {K : Type 0} {W : Given 𝓤 H A} {Γ : List (Item 𝓤)} {G : Goal 𝓤 H} (R : RattleType) (P : PlainType 𝓤 H A R) (N b : ℕ) (xs : List (R .Denot)) (k : ℕ) where
+  pub lends-first : K → Soaks G → Single (R .mir) → Is-array R P N xs → Room R (length (take k xs))
       → ((ν : ℕ) (γ : GName) → Seq K W (‵ (flft (ν ∷ []) fullShare) ∷ ‵ (mut-slice R (ν ∷ []) (first-as R N b γ (take k xs))) ∷ ‵ (FirstKept R N b xs k ν γ) ∷ Γ) G) → Seq K W (holds R P N b xs ∷ Γ) G
-  lends-first t z R P N b xs k single is room go =
+  lends-first t z single is room go =
       parts R P N b xs k t single is $ lft-new t z (λ ν. move t (1 ∷ []) $
       use1 W (later (some (λ (γ : GName). ‵ (mut-slice R (ν ∷ []) (first-as R N b γ (take k xs))) ⊛ ‵ (way R N b xs k ν γ)))) (lends-slice 𝓤 H A W R (named 0) (ν ∷ []) (take k xs) b 0 room) $ await t z $ pick t (λ γ. split t $
       move t (1 ∷ 3 ∷ []) $ fjoin t $ move t (2 ∷ 1 ∷ 0 ∷ []) $ go ν γ))
 
-  pub first-home : K → Soaks G → (R : RattleType) (P : PlainType 𝓤 H A R) (N b : ℕ) (xs : List (R .Denot)) (k ν : ℕ) (γ : GName) (zs : List (R .Denot)) → length xs ≡ N
+  pub first-home : K → Soaks G → (ν : ℕ) (γ : GName) (zs : List (R .Denot)) → length xs ≡ N
       → (Is-array R P N (zs ++ dropN k xs) → Seq K W (holds R P N b (zs ++ dropN k xs) ∷ Γ) G) → Seq K W (‵ (flft (ν ∷ []) fullShare) ∷ ‵ (finally R γ zs) ∷ ‵ (FirstKept R N b xs k ν γ) ∷ Γ) G
-  first-home t z R P N b xs k ν γ zs l go =
+  first-home t z ν γ zs l go =
       lft-end t z $ move t (2 ∷ []) $ fsplit t $ move t (2 ∷ 0 ∷ 3 ∷ []) $ use3 W (later (‵ (Arr (mem R) (length (take k xs)) .lies zs b 0))) (slice-back 𝓤 H A W R (ν ∷ []) γ zs (length (take k xs)) b 0) $ await t z $ fsplit t $ feqL t (λ e. wholes R P N b xs k t zs e l go)
 
-  pub shows-first : K → Soaks G → (R : RattleType) (P : PlainType 𝓤 H A R) (N b : ℕ) (xs : List (R .Denot)) (k : ℕ) → Single (R .mir) → Is-array R P N xs → Room R (length (take k xs))
+  pub shows-first : K → Soaks G → Single (R .mir) → Is-array R P N xs → Room R (length (take k xs))
       → ((ν : ℕ) (γ : GName) → Seq K W (‵ (flft (ν ∷ []) fullShare) ∷ ‵ (shared R (ν ∷ []) (first-as R N b γ (take k xs))) ∷ ‵ (ShownKept R N b xs k ν) ∷ Γ) G) → Seq K W (holds R P N b xs ∷ Γ) G
-  shows-first t z R P N b xs k single is room go =
+  shows-first t z single is room go =
       parts R P N b xs k t single is $ use1 W (‵ (row R fullShare (take k xs) b 0)) (whole-out 𝓤 H A W R (take k xs) b 0) $ feqI t ℕ (length (take k xs)) (length (take k xs)) refl $ fjoin t $ lft-new t z (λ ν. move t (1 ∷ []) $
       use1 W (later (some (λ (γ : GName). ‵ (shared R (ν ∷ []) (first-as R N b γ (take k xs))) ⊛ ‵ (shared-way R N b xs k ν)))) (lends-shr-slice 𝓤 H A W R (named 0) (ν ∷ []) fullShare (take k xs) b 0 room) $ await t z $ pick t (λ γ. split t $
       move t (1 ∷ 3 ∷ []) $ fjoin t $ move t (2 ∷ 1 ∷ 0 ∷ []) $ go ν γ))
 
   -- what was shown need not come home: its token and what the lender keeps do
-  pub shown-home : K → Soaks G → (R : RattleType) (P : PlainType 𝓤 H A R) (N b : ℕ) (xs : List (R .Denot)) (k ν : ℕ) → length xs ≡ N
+  pub shown-home : K → Soaks G → (ν : ℕ) → length xs ≡ N
       → (Is-array R P N (take k xs ++ dropN k xs) → Seq K W (holds R P N b (take k xs ++ dropN k xs) ∷ Γ) G) → Seq K W (‵ (flft (ν ∷ []) fullShare) ∷ ‵ (ShownKept R N b xs k ν) ∷ Γ) G
-  shown-home t z R P N b xs k ν l go =
+  shown-home t z ν l go =
       lft-end t z $ move t (1 ∷ []) $ fsplit t $ move t (2 ∷ 0 ∷ []) $ lent-back t z $ fsplit t $ drop t $ use1 W (‵ (cells (mem R) (take k xs) b 0)) (whole-in 𝓤 H A W R (take k xs) b 0) $ wholes R P N b xs k t (take k xs) refl l go
 
 -- ---- a declared struct Q of an array of N records and an answer, as it is made of them

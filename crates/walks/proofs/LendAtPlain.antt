@@ -110,15 +110,15 @@ module _ {M : Type 1} (𝓤 : URA M) (H : Heap 𝓤) (A : Atoms 𝓤) (W : Given
         fills ! (of-opd ! (len ! 16 refl refl)) 10 refl (tt, record { fits = space .0 }) $ fills ! (bin ! (var ! 12 refl) (var ! 10 refl) tt) 8 refl (tt, tt) $ first ! $ branches ! (var ! 8 refl)
         (λ so.
         reaches-elem ! (R s) space (inside so) (var ! 12 refl) (init ! 6 refl (fits-offset (R s) (length (now ys)) i space (inside so))) (ptr ! 16 refl refl) (var ! 6 refl) 4 refl (tt, tt) $ fills ! (addr ! (from ! (hop ! (look ! 4 refl) (stop !)))) 2 refl (tt, tt) $
-        lends-elem ! tt (R s) ys i (s .empty) (inside so) (λ ν δ.
+        lends-elem (R s) ys ! tt i (s .empty) (inside so) (λ ν δ.
         -- [ν's token; the element; what the lender keeps; _8: 3; ..]
         calls W (on-one s) (k .plain-X, tt) (ν ∷ [], tt) (fullShare, tt) (elem (R s) ys i δ h, (x, tt)) (k .plain-O) 𝓣 known (x-is, tt) ! (and-then ! (var ! 2 refl) (and-then ! (var ! 14 refl) (no-more !))) (λ r ws e _ is. lands-in ! 19 refl (has (k .plain-O) r is) $
-        elem-home ! tt (R s) ys i ν δ (ws .0) (inside so) space $ move ! (1 ∷ []) $ settles ! (R s) κ (lent-as (R s) ys (name ys) (set (now ys) i (ws .0))) $
+        elem-home (R s) ys ! tt i ν δ (ws .0) (inside so) space $ move ! (1 ∷ []) $ settles (R s) (lent-as (R s) ys (name ys) (set (now ys) i (ws .0))) ! κ $
         ends-within ! 18 Ends refl refl (cell, (cell, (cell, (cell, (cell, (cell, (cell, (cell, (cell, tt))))))))) $ keep ! (1 ∷ 0 ∷ []) $
         by ! (done r (set (now ys) i (ws .0)) (e .0 ∙ k .within (now ys) x (inside so) .0, ap (set (now ys) i) (e .1) ∙ k .within (now ys) x (inside so) .1) (length-set (now ys) i (ws .0)) is))))
         -- past the end
         (λ so. skips ! $ exec ! (𝓣 .C) (𝓣 .Λ) (lie-at 𝓤 H (function s .locals) bs) (past-end s) (atRet _ Ends) $ calls-nothing ! 𝓣 (s .O) (k .plain-O) (s .none) known-no (λ is. lands-in ! 18 refl (has (k .plain-O) (s .none) is) $
-        move ! (1 ∷ []) $ settles ! (R s) κ ys $ ends-in ! 18 refl (cell, (cell, (cell, (cell, (cell, (cell, (room, (room, (room, tt))))))))) $ keep ! (1 ∷ 0 ∷ []) $ by ! (done (s .none) (now ys) (k .past (now ys) x (nltb→le i (length (now ys)) so)) refl is)))))
+        move ! (1 ∷ []) $ settles (R s) ys ! κ $ ends-in ! 18 refl (cell, (cell, (cell, (cell, (cell, (cell, (room, (room, (room, tt))))))))) $ keep ! (1 ∷ 0 ∷ []) $ by ! (done (s .none) (now ys) (k .past (now ys) x (nltb→le i (length (now ys)) so)) refl is)))))
 
   pub meets : Fulfils 𝓤 H A (form s) 𝓣 (function s)
   meets = meets-form W (form s) (k .plain-X, tt) 𝓣 (function s) (λ κs qs a so. walk (κs .0) (qs .0) (a .0) (a .1 .0) (so .0) (so .1 .0))

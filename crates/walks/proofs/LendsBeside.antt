@@ -30,7 +30,7 @@ use Rattle.walks.proofs.Walk.{cell}
 use Rattle.walks.proofs.Steps.{it, sets, steps, by-values, ref-to, slice-of, firsts-of, fits-slice, var, fills, lands-in, takes-firsts, enters, ends-in}
 use Rattle.walks.proofs.Form.{Form, value, shown, Plains, FulfilsIf, met, calls, exits, Walk, meets-if}
 use Rattle.walks.proofs.Callee.{OfCells, on-cells}
-use Rattle.walks.proofs.LendArray.{first-many, first-room, PlainMade, has-made, first-as, lends-first, first-home}
+use Rattle.walks.proofs.LendArray.{MadeOf, first-many, first-room, PlainMade, has-made, first-as, lends-first, first-home}
 
 pub record Shape : Type 2 where
   -- the record, the two other arguments, an element of the slice, the answer, what is returned and the array's length
@@ -42,7 +42,7 @@ pub record Shape : Type 2 where
   pub Q : D.Declared
   pub N : ℕ
   pub f : Name
-  -- what f's contract says, what is made of the array and the answer, and what g's contract says
+  -- what f says, what is made of the array and f's answer, and what g says of its result
   pub answer-at : OfCells (T .D) (K .Denot) (X .Denot) (E .Denot) (O .Denot)
   pub row-at : OfCells (T .D) (K .Denot) (X .Denot) (E .Denot) (List (T .D))
   pub made : List (T .D) → O .Denot → Q .D
@@ -71,7 +71,7 @@ module _ (s : Shape) where
   }
 
 pub record Knows {M : Type 1} (𝓤 : URA M) (H : Heap 𝓤) (A : Atoms 𝓤) (s : Shape) : Type 2 where
-  pub says-all : (ys : List (s .T .D)) (n : ℕ) (k : s .K .Denot) (x : s .X .Denot) (cs : List (s .E .Denot)) (r : s .O .Denot) (zs : List (s .T .D)) → r ≡ s .answer-at (take n ys) k x cs → zs ≡ s .row-at (take n ys) k x cs → s .made (zs ++ dropN n ys) r ≡ s .all ys n k x cs
+  pub says-all : (ys : List (s .T .D)) (n : ℕ) (k : s .K .Denot) (x : s .X .Denot) (cs : List (s .E .Denot)) → MadeOf (s .made) ys n (λ l. s .answer-at l k x cs) (λ l. s .row-at l k x cs) (s .all ys n k x cs)
   pub plain-K : PlainType 𝓤 H A (s .K)
   pub plain-X : PlainType 𝓤 H A (s .X)
   pub made-Q : PlainMade 𝓤 H A (s .T) (s .N) (s .O) (s .Q) (s .made)
@@ -95,11 +95,11 @@ module _ {M : Type 1} (𝓤 : URA M) (H : Heap 𝓤) (A : Atoms 𝓤) (W : Given
       pass1 ! (init ! 18 refl (has At ys isA)) $ pass1 ! (init ! 16 refl (tt, record { fits = n-is .1 })) $ pass1 ! (init ! 14 refl (has (d .plain-K) k k-is)) $ pass1 ! (init ! 12 refl (has (d .plain-X) x x-is)) $ pass1 ! (init ! 10 refl (fits-slice (space .0))) $ pass0 ! $
       -- [_10: 0; _9: 2; _8: 4; _7: 6; _6: 8; _5: 10; _4: 12; _3: 14; _2: 16; _1: 18; _0: 20; the cells' token; the cells]
       fills ! (of-opd ! (var ! 18 refl)) 8 refl (has At ys isA) $ takes-firsts ! 4 2 refl (tt, tt) (first-many ys n (s .N) (isA .1 .0 .1) few) refl (var ! 16 refl) refl (fits-slice (first-room (R s) ys n (s .N) (d .made-Q .room) (isA .1 .0 .1) few .0)) $
-      move ! (8 ∷ []) $ lends-first ! tt (R s) Tt (s .N) (bs .1 .1 .1 .1 .1 .1 .0) ys n tt isA (first-room (R s) ys n (s .N) (d .made-Q .room) (isA .1 .0 .1) few) (λ ν γ. move ! (0 ∷ 24 ∷ 1 ∷ 25 ∷ []) $
+      move ! (8 ∷ []) $ lends-first (R s) Tt (s .N) (bs .1 .1 .1 .1 .1 .1 .0) ys n ! tt tt isA (first-room (R s) ys n (s .N) (d .made-Q .room) (isA .1 .0 .1) few) (λ ν γ. move ! (0 ∷ 24 ∷ 1 ∷ 25 ∷ []) $
       -- [ν's token; the cells' token; the row; the cells; what the lender keeps; _10: 5; ..]
       calls W (inner s) (d .plain-K, (d .plain-X, tt)) (ν ∷ [], (κ, tt)) (fullShare, (q, tt)) (first-as (R s) (s .N) (bs .1 .1 .1 .1 .1 .1 .0) γ (take n ys), (k, (x, (cs, tt)))) Ot 𝓣 known (k-is, (x-is, tt)) !
       (and-then ! (var ! 4 refl) (and-then ! (var ! 15 refl) (and-then ! (var ! 13 refl) (and-then ! (var ! 11 refl) (no-more !))))) (λ r ws e _ is. lands-in ! 10 refl (has Ot r is) $
-      move ! (0 ∷ 2 ∷ 3 ∷ []) $ first-home ! tt (R s) Tt (s .N) (bs .1 .1 .1 .1 .1 .1 .0) ys n ν γ (ws .0) (isA .1 .0 .1) (λ isB.
+      move ! (0 ∷ 2 ∷ 3 ∷ []) $ first-home (R s) Tt (s .N) (bs .1 .1 .1 .1 .1 .1 .0) ys n ! tt ν γ (ws .0) (isA .1 .0 .1) (λ isB.
       -- [_6; the cells' token; _10: 2; _9: 4; _8: 6; _7: 8; ..; _5: 11; ..; _0: 21], and in their order again
       fills ! (of-opd ! (var ! 0 refl)) 2 refl (has At (ws .0 ++ dropN n ys) isB) $ fills ! (agg ! (and-then ! (var ! 2 refl) (and-then ! (var ! 8 refl) (no-more !)))) 21 refl (has-made (d .made-Q) (s .made (ws .0 ++ dropN n ys) r) _ (d .made-Q .made-is (ws .0 ++ dropN n ys) r isB is)) $
       move ! (1 ∷ 2 ∷ 3 ∷ 4 ∷ 5 ∷ 6 ∷ 7 ∷ 8 ∷ 9 ∷ 0 ∷ []) $ ends-in ! 21 refl (cell, (cell, (cell, (cell, (cell, (cell, (cell, (cell, (cell, (cell, (cell, tt))))))))))) $

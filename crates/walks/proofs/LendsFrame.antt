@@ -30,7 +30,7 @@ use Rattle.walks.proofs.Walk.{cell}
 use Rattle.walks.proofs.Steps.{it, sets, steps, by-values, ref-to, slice-of, hands-to, firsts-of, fits-slice, var, fills, lands-in, hands-on, takes-firsts, enters, ends-in}
 use Rattle.walks.proofs.Form.{Form, value, shown, handed, Plains, FulfilsIf, met, calls, exits, Walk, meets-if}
 use Rattle.walks.proofs.Callee.{OfFrame, OfLine, on-frame}
-use Rattle.walks.proofs.LendArray.{first-many, first-room, PlainMade, has-made, first-as, lends-first, first-home}
+use Rattle.walks.proofs.LendArray.{MadeOf, first-many, first-room, PlainMade, has-made, first-as, lends-first, first-home}
 
 pub record Shape : Type 2 where
   -- the record, an element of the bytes and of the reply, the answer, what is returned and the array's length
@@ -41,7 +41,7 @@ pub record Shape : Type 2 where
   pub Q : D.Declared
   pub N : ℕ
   pub f : Name
-  -- what f's contract says, what is made of the array and the answer, and what g's contract says
+  -- what f says, what is made of the array and f's answer, and what g says of its result and of the reply
   pub answer-of : OfFrame (T .D) (E .Denot) (G .Denot) (O .Denot)
   pub row-of : OfFrame (T .D) (E .Denot) (G .Denot) (List (T .D))
   pub reply-of : OfFrame (T .D) (E .Denot) (G .Denot) (List (G .Denot))
@@ -77,7 +77,7 @@ module _ (s : Shape) where
   }
 
 pub record Knows {M : Type 1} (𝓤 : URA M) (H : Heap 𝓤) (A : Atoms 𝓤) (s : Shape) : Type 2 where
-  pub says-all : (ys : List (s .T .D)) (n : ℕ) (bs : List (s .E .Denot)) (rs : List (s .G .Denot)) (r : s .O .Denot) (zs : List (s .T .D)) → r ≡ s .answer-of (take n ys) bs rs → zs ≡ s .row-of (take n ys) bs rs → s .made (zs ++ dropN n ys) r ≡ s .all ys n bs rs
+  pub says-all : (ys : List (s .T .D)) (n : ℕ) (bs : List (s .E .Denot)) (rs : List (s .G .Denot)) → MadeOf (s .made) ys n (λ l. s .answer-of l bs rs) (λ l. s .row-of l bs rs) (s .all ys n bs rs)
   pub says-out : (ys : List (s .T .D)) (n : ℕ) (bs : List (s .E .Denot)) (rs : List (s .G .Denot)) → s .reply-of (take n ys) bs rs ≡ s .out ys n bs rs
   pub made-Q : PlainMade 𝓤 H A (s .T) (s .N) (s .O) (s .Q) (s .made)
 
@@ -101,10 +101,10 @@ module _ {M : Type 1} (𝓤 : URA M) (H : Heap 𝓤) (A : Atoms 𝓤) (W : Given
       -- [_11: 0; _10: 2; _9: 4; _8: 6; _7: 8; _6: 10; _5: 12; _4: 14; _3: 16; _2: 18; _1: 20; _0: 22; the bytes' token; the reply's; the bytes; the reply]
       fills ! (of-opd ! (var ! 20 refl)) 12 refl (has At ys isA) $ takes-firsts ! 8 6 refl (tt, tt) (first-many ys n (s .N) (isA .1 .0 .1) few) refl (var ! 18 refl) refl (fits-slice (first-room (R s) ys n (s .N) (d .made-Q .room) (isA .1 .0 .1) few .0)) $
       hands-on ! 14 4 2 refl refl refl refl refl refl (tt, tt) (fits-slice (space₁ .0)) $
-      move ! (12 ∷ []) $ lends-first ! tt (R s) Tt (s .N) (bs .1 .1 .1 .1 .1 .0) ys n tt isA (first-room (R s) ys n (s .N) (d .made-Q .room) (isA .1 .0 .1) few) (λ ν γ. move ! (0 ∷ 26 ∷ 27 ∷ 1 ∷ 28 ∷ 29 ∷ []) $
+      move ! (12 ∷ []) $ lends-first (R s) Tt (s .N) (bs .1 .1 .1 .1 .1 .0) ys n ! tt tt isA (first-room (R s) ys n (s .N) (d .made-Q .room) (isA .1 .0 .1) few) (λ ν γ. move ! (0 ∷ 26 ∷ 27 ∷ 1 ∷ 28 ∷ 29 ∷ []) $
       -- [ν's token; the bytes' token; the reply's; the row; the bytes; the reply; what the lender keeps; _11: 7; ..]
       calls W (inner s) tt (ν ∷ [], (κ, (κ₁, tt))) (fullShare, (q, (q₁, tt))) (first-as (R s) (s .N) (bs .1 .1 .1 .1 .1 .0) γ (take n ys), (cs, (rs, tt))) Ot 𝓣 known tt ! (and-then ! (var ! 8 refl) (and-then ! (var ! 17 refl) (and-then ! (var ! 4 refl) (no-more !)))) (λ r ws e l is.
-      lands-in ! 16 refl (has Ot r is) $ move ! (0 ∷ 3 ∷ 5 ∷ []) $ first-home ! tt (R s) Tt (s .N) (bs .1 .1 .1 .1 .1 .0) ys n ν γ (ws .0) (isA .1 .0 .1) (λ isB.
+      lands-in ! 16 refl (has Ot r is) $ move ! (0 ∷ 3 ∷ 5 ∷ []) $ first-home (R s) Tt (s .N) (bs .1 .1 .1 .1 .1 .0) ys n ! tt ν γ (ws .0) (isA .1 .0 .1) (λ isB.
       -- [_5; the bytes' token; the reply's; the last reply; _11: 4; _10: 6; _9: 8; _8: 10; _7: 12; _6: 14; ..; _4: 17; ..; _0: 25], and in their order again
       fills ! (of-opd ! (var ! 0 refl)) 4 refl (has At (ws .0 ++ dropN n ys) isB) $ fills ! (agg ! (and-then ! (var ! 4 refl) (and-then ! (var ! 14 refl) (no-more !)))) 25 refl (has-made (d .made-Q) (s .made (ws .0 ++ dropN n ys) r) _ (d .made-Q .made-is (ws .0 ++ dropN n ys) r isB is)) $
       move ! (1 ∷ 2 ∷ 3 ∷ 4 ∷ 5 ∷ 6 ∷ 7 ∷ 8 ∷ 9 ∷ 10 ∷ 11 ∷ 12 ∷ 13 ∷ 14 ∷ 15 ∷ 0 ∷ []) $ ends-in ! 25 refl (cell, (cell, (cell, (cell, (cell, (cell, (cell, (cell, (cell, (cell, (cell, (cell, tt)))))))))))) $

@@ -30,7 +30,7 @@ use Rattle.walks.proofs.Walk.{cell}
 use Rattle.walks.proofs.Steps.{it, sets, steps, by-values, ref-to, slice-of, hands-to, firsts-of, fits-slice, var, fills, lands-in, hands-on, takes-firsts, enters, ends-in}
 use Rattle.walks.proofs.Form.{Form, value, shown, handed, Plains, FulfilsIf, met, calls, exits, Walk, meets-if}
 use Rattle.walks.proofs.Callee.{OfLine, on-line}
-use Rattle.walks.proofs.LendArray.{first-many, first-room, PlainMade, has-made, first-as, lends-first, first-home}
+use Rattle.walks.proofs.LendArray.{MadeOf, first-many, first-room, PlainMade, has-made, first-as, lends-first, first-home}
 
 pub record Shape : Type 2 where
   -- the record, the state, an element of the block and of the output, what f returns, what is returned and the array's length
@@ -79,7 +79,7 @@ module _ (s : Shape) where
   }
 
 pub record Knows {M : Type 1} (𝓤 : URA M) (H : Heap 𝓤) (A : Atoms 𝓤) (s : Shape) : Type 2 where
-  pub says-all : (ys : List (s .T .D)) (n : ℕ) (x : s .S .Denot) (bs : List (s .E .Denot)) (rs : List (s .G .Denot)) (r : s .O .Denot) (zs : List (s .T .D)) → r ≡ s .answer-of (take n ys) x bs rs → zs ≡ s .row-of (take n ys) x bs rs → s .made (zs ++ dropN n ys) r ≡ s .all ys n x bs rs
+  pub says-all : (ys : List (s .T .D)) (n : ℕ) (x : s .S .Denot) (bs : List (s .E .Denot)) (rs : List (s .G .Denot)) → MadeOf (s .made) ys n (λ l. s .answer-of l x bs rs) (λ l. s .row-of l x bs rs) (s .all ys n x bs rs)
   pub says-out : (ys : List (s .T .D)) (n : ℕ) (x : s .S .Denot) (bs : List (s .E .Denot)) (rs : List (s .G .Denot)) → s .out-of (take n ys) x bs rs ≡ s .out ys n x bs rs
   pub plain-S : PlainType 𝓤 H A (s .S)
   pub made-Q : PlainMade 𝓤 H A (s .T) (s .N) (s .O) (s .Q) (s .made)
@@ -104,11 +104,11 @@ module _ {M : Type 1} (𝓤 : URA M) (H : Heap 𝓤) (A : Atoms 𝓤) (W : Given
       -- [_12: 0; _11: 2; _10: 4; _9: 6; _8: 8; _7: 10; _6: 12; _5: 14; _4: 16; _3: 18; _2: 20; _1: 22; _0: 24; the block's token; the output's; the block; the output]
       fills ! (of-opd ! (var ! 22 refl)) 12 refl (has At ys isA) $ takes-firsts ! 8 6 refl (tt, tt) (first-many ys n (s .N) (isA .1 .0 .1) few) refl (var ! 20 refl) refl (fits-slice (first-room (R s) ys n (s .N) (d .made-Q .room) (isA .1 .0 .1) few .0)) $
       hands-on ! 14 4 2 refl refl refl refl refl refl (tt, tt) (fits-slice (space₁ .0)) $
-      move ! (12 ∷ []) $ lends-first ! tt (R s) Tt (s .N) (bs .1 .1 .1 .1 .1 .1 .0) ys n tt isA (first-room (R s) ys n (s .N) (d .made-Q .room) (isA .1 .0 .1) few) (λ ν γ. move ! (0 ∷ 28 ∷ 29 ∷ 1 ∷ 30 ∷ 31 ∷ []) $
+      move ! (12 ∷ []) $ lends-first (R s) Tt (s .N) (bs .1 .1 .1 .1 .1 .1 .0) ys n ! tt tt isA (first-room (R s) ys n (s .N) (d .made-Q .room) (isA .1 .0 .1) few) (λ ν γ. move ! (0 ∷ 28 ∷ 29 ∷ 1 ∷ 30 ∷ 31 ∷ []) $
       -- [ν's token; the block's token; the output's; the row; the block; the output; what the lender keeps; _12: 7; ..]
       calls W (inner s) (d .plain-S, tt) (ν ∷ [], (κ, (κ₁, tt))) (fullShare, (q, (q₁, tt))) (first-as (R s) (s .N) (bs .1 .1 .1 .1 .1 .1 .0) γ (take n ys), (x, (cs, (rs, tt)))) Ot 𝓣 known (x-is, tt) !
       (and-then ! (var ! 8 refl) (and-then ! (var ! 19 refl) (and-then ! (var ! 17 refl) (and-then ! (var ! 4 refl) (no-more !))))) (λ r ws e l is. lands-in ! 16 refl (has Ot r is) $
-      move ! (0 ∷ 3 ∷ 5 ∷ []) $ first-home ! tt (R s) Tt (s .N) (bs .1 .1 .1 .1 .1 .1 .0) ys n ν γ (ws .0) (isA .1 .0 .1) (λ isB.
+      move ! (0 ∷ 3 ∷ 5 ∷ []) $ first-home (R s) Tt (s .N) (bs .1 .1 .1 .1 .1 .1 .0) ys n ! tt ν γ (ws .0) (isA .1 .0 .1) (λ isB.
       -- [_6; the block's token; the output's; the last output; _12: 4; _11: 6; _10: 8; _9: 10; _8: 12; _7: 14; ..; _5: 17; ..; _0: 27], and in their order again
       fills ! (of-opd ! (var ! 0 refl)) 4 refl (has At (ws .0 ++ dropN n ys) isB) $ fills ! (agg ! (and-then ! (var ! 4 refl) (and-then ! (var ! 14 refl) (no-more !)))) 27 refl (has-made (d .made-Q) (s .made (ws .0 ++ dropN n ys) r) _ (d .made-Q .made-is (ws .0 ++ dropN n ys) r isB is)) $
       move ! (1 ∷ 2 ∷ 3 ∷ 4 ∷ 5 ∷ 6 ∷ 7 ∷ 8 ∷ 9 ∷ 10 ∷ 11 ∷ 12 ∷ 13 ∷ 14 ∷ 15 ∷ 0 ∷ []) $ ends-in ! 27 refl (cell, (cell, (cell, (cell, (cell, (cell, (cell, (cell, (cell, (cell, (cell, (cell, (cell, tt))))))))))))) $

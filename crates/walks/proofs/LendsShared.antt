@@ -75,10 +75,10 @@ module _ {M : Type 1} (𝓤 : URA M) (H : Heap 𝓤) (A : Atoms 𝓤) (W : Given
   walk ys n isA n-is few = enters (function s) ! (λ bs. params1 ! $ pass1 ! (init ! 8 refl (has At ys isA)) $ pass1 ! (init ! 6 refl (tt, record { fits = n-is .1 })) $ pass0 ! $
       -- [_5: 0; _4: 2; _3: 4; _2: 6; _1: 8; _0: 10]
       fills ! (of-opd ! (var ! 8 refl)) 4 refl (has At ys isA) $ takes-firsts ! 2 0 refl (tt, tt) (first-many ys n (s .N) (isA .1 .0 .1) few) refl (var ! 6 refl) refl (fits-slice (first-room (R s) ys n (s .N) (k .room) (isA .1 .0 .1) few .0)) $
-      move ! (4 ∷ []) $ shows-first ! tt (R s) (k .plain-T) (s .N) (bs .1 .1 .1 .0) ys n tt isA (first-room (R s) ys n (s .N) (k .room) (isA .1 .0 .1) few) (λ ν γ.
+      move ! (4 ∷ []) $ shows-first (R s) (k .plain-T) (s .N) (bs .1 .1 .1 .0) ys n ! tt tt isA (first-room (R s) ys n (s .N) (k .room) (isA .1 .0 .1) few) (λ ν γ.
       -- [ν's token; the slice; what the lender keeps; _5: 3; ..]
       calls W (of-slice (s .O) (R s) (s .F)) tt (ν ∷ [], tt) (fullShare, tt) (first-as (R s) (s .N) (bs .1 .1 .1 .0) γ (take n ys), tt) (k .plain-O) 𝓣 known tt ! (and-then ! (var ! 2 refl) (no-more !)) (λ r _ e _ is. lands-in ! 11 refl (has (k .plain-O) r is) $
-      shown-home ! tt (R s) (k .plain-T) (s .N) (bs .1 .1 .1 .0) ys n ν (isA .1 .0 .1) (λ _. move ! (1 ∷ 2 ∷ 3 ∷ 4 ∷ 0 ∷ []) $ ends-in ! 10 refl (cell, (cell, (cell, (cell, (cell, (cell, tt)))))) $
+      shown-home (R s) (k .plain-T) (s .N) (bs .1 .1 .1 .0) ys n ! tt ν (isA .1 .0 .1) (λ _. move ! (1 ∷ 2 ∷ 3 ∷ 4 ∷ 0 ∷ []) $ ends-in ! 10 refl (cell, (cell, (cell, (cell, (cell, (cell, tt)))))) $
       by ! (exits W (form s) N tt tt (ys, (n, tt)) (k .plain-O) tt r _ (e ∙ k .says-all ys n) tt is)))))
 
   pub meets : FulfilsIf 𝓤 H A (form s) (λ κs a. a .1 .0 ≤ s .N) 𝓣 (function s)

@@ -74,63 +74,63 @@ module _ (R : RattleType) (y : RefT (List (R .Denot))) where
   abbrev pub LentKept : Lft → Share → ℕ → GName → Fml
   LentKept κ q ν δ = fsep (lent-row ν δ) (Open κ q)
 
-module _ {M : Type 1} {𝓤 : URA M} {H : Heap 𝓤} {A : Atoms 𝓤} {K : Type 0} {W : Given 𝓤 H A} {Γ : List (Item 𝓤)} {G : Goal 𝓤 H} where
-  opens-row : K → Soaks G → (R : RattleType) (y : RefT (List (R .Denot))) {κ : Lft} {q : Share} → Step K W (‵ (elems R y (now y)) ∷ ‵ (Open R y κ q) ∷ Γ) G (‵ (flft κ q) ∷ ‵ (mut-slice R κ y) ∷ Γ) G
-  opens-row t z R y = step (λ s. move t (1 ∷ []) $ fsplit t $ drop t $ fsplit t $ opens-slice t z R (now y) (y .ptr .0) (y .ptr .1) $ move t (2 ∷ 3 ∷ []) $ fjoin t $ move t (2 ∷ 0 ∷ []) $ fjoin t $ move t (1 ∷ 0 ∷ []) $ s)
+module _ {M : Type 1} {𝓤 : URA M} {H : Heap 𝓤} {A : Atoms 𝓤} {K : Type 0} {W : Given 𝓤 H A} {Γ : List (Item 𝓤)} {G : Goal 𝓤 H} (R : RattleType) (y : RefT (List (R .Denot))) where
+  opens-row : K → Soaks G → {κ : Lft} {q : Share} → Step K W (‵ (elems R y (now y)) ∷ ‵ (Open R y κ q) ∷ Γ) G (‵ (flft κ q) ∷ ‵ (mut-slice R κ y) ∷ Γ) G
+  opens-row t z = step (λ s. move t (1 ∷ []) $ fsplit t $ drop t $ fsplit t $ opens-slice t z R (now y) (y .ptr .0) (y .ptr .1) $ move t (2 ∷ 3 ∷ []) $ fjoin t $ move t (2 ∷ 0 ∷ []) $ fjoin t $ move t (1 ∷ 0 ∷ []) $ s)
 
-  shuts-row : K → Soaks G → (R : RattleType) (y : RefT (List (R .Denot))) {κ : Lft} {q : Share} → Room R (length (now y)) → (zs : List (R .Denot)) → length zs ≡ length (now y)
+  shuts-row : K → Soaks G → {κ : Lft} {q : Share} → Room R (length (now y)) → (zs : List (R .Denot)) → length zs ≡ length (now y)
       → Step K W (‵ (flft κ q) ∷ ‵ (mut-slice R κ (lent-as R y (name y) zs)) ∷ Γ) G (‵ (elems R y zs) ∷ ‵ (Open R y κ q) ∷ Γ) G
-  shuts-row t z R y space zs e = step (λ s.
+  shuts-row t z space zs e = step (λ s.
       move t (1 ∷ []) $ fsplit t $ move t (1 ∷ []) $ fsplit t $ move t (3 ∷ 2 ∷ 0 ∷ 1 ∷ []) $ closes-slice t z R (now y) zs e (y .ptr .0) (y .ptr .1) $ fjoin t $
       pureI t (at-slice R (lent-as R y (name y) zs) (slice-vals (lent-as R y (name y) zs))) (tt, (tt, tt)) (refl, subst (Room R) (sym e) space) $ fjoin t $ move t (1 ∷ 0 ∷ []) $ s)
 
-  pub settles : K → (R : RattleType) (κ : Lft) (y : RefT (List (R .Denot))) → Step K W (‵ (finally R (name y) (now y)) ∷ Γ) G (‵ (mut-slice R κ y) ∷ Γ) G
-  settles t R κ y = step (λ s.
+  pub settles : K → (κ : Lft) → Step K W (‵ (finally R (name y) (now y)) ∷ Γ) G (‵ (mut-slice R κ y) ∷ Γ) G
+  settles t κ = step (λ s.
       fsplit t $ drop t $ fsplit t $ use1 W (‵ (fres (name y) (codedHoleys R .code (heres R (now y))))) (W .names .obs-res (name y) (codedHoleys R .code (heres R (now y)))) $
       use1 W (‵ (finally R (name y) (now y))) (res-finally 𝓤 H A W (named 0) κ R (name y) (now y)) $ move t (1 ∷ []) $ drop t $ s)
 
-module _ {M : Type 1} {𝓤 : URA M} {H : Heap 𝓤} {A : Atoms 𝓤} {K : Type 0} {W : Given 𝓤 H A} {Γ : List (Item 𝓤)} {G : Goal 𝓤 H} where
-  pub lends-elem : K → Soaks G → (R : RattleType) (y : RefT (List (R .Denot))) {κ : Lft} {q : Share} (i : ℕ) (none : R .Denot) → i < length (now y)
+module _ {M : Type 1} {𝓤 : URA M} {H : Heap 𝓤} {A : Atoms 𝓤} {K : Type 0} {W : Given 𝓤 H A} {Γ : List (Item 𝓤)} {G : Goal 𝓤 H} (R : RattleType) (y : RefT (List (R .Denot))) where
+  pub lends-elem : K → Soaks G → {κ : Lft} {q : Share} (i : ℕ) (none : R .Denot) → i < length (now y)
       → ((ν : ℕ) (δ : GName) → Seq K W (‵ (flft (ν ∷ []) fullShare) ∷ ‵ (mut-ref R (ν ∷ []) (elem R y i δ (getD (now y) i none))) ∷ ‵ (ElemKept R y κ q i ν δ) ∷ Γ) G) → Seq K W (‵ (flft κ q) ∷ ‵ (mut-slice R κ y) ∷ Γ) G
-  lends-elem t z R y i none l k =
+  lends-elem t z i none l k =
       let h = getD (now y) i none in
-      opens-row t z R y $ use1 W (‵ (partAt R fullShare h (y .ptr .0) (elem-at R y i)) ⊛ ‵ (others (shares R) fullShare (now y) i (y .ptr .0) (y .ptr .1))) (takes (shares R) fullShare 𝓤 H A W (now y) i none (y .ptr .0) (y .ptr .1) l) $
+      opens-row R y t z $ use1 W (‵ (partAt R fullShare h (y .ptr .0) (elem-at R y i)) ⊛ ‵ (others (shares R) fullShare (now y) i (y .ptr .0) (y .ptr .1))) (takes (shares R) fullShare 𝓤 H A W (now y) i none (y .ptr .0) (y .ptr .1) l) $
       split t $ move t (1 ∷ 2 ∷ []) $ fjoin t $ lft-new t z (λ ν. move t (2 ∷ []) $
       use1 W (later (some (λ (δ : GName). ‵ (mut-ref R (ν ∷ []) (elem R y i δ h)) ⊛ ‵ (lent-elem R y i ν δ)))) (lends-ref 𝓤 H A W R (named 0) (ν ∷ []) h (y .ptr .0) (elem-at R y i)) $ await t z $ pick t (λ δ. split t $
       -- [the element's reference; the lender's part; the new token; the others and the open borrow]
       move t (1 ∷ 3 ∷ []) $ fjoin t $ move t (2 ∷ 1 ∷ 0 ∷ []) $ k ν δ))
 
-  pub elem-home : K → Soaks G → (R : RattleType) (y : RefT (List (R .Denot))) {κ : Lft} {q : Share} (i ν : ℕ) (δ : GName) (h : R .Denot) → i < length (now y) → Room R (length (now y))
+  pub elem-home : K → Soaks G → {κ : Lft} {q : Share} (i ν : ℕ) (δ : GName) (h : R .Denot) → i < length (now y) → Room R (length (now y))
       → Step K W (‵ (flft κ q) ∷ ‵ (mut-slice R κ (lent-as R y (name y) (set (now y) i h))) ∷ Γ) G (‵ (flft (ν ∷ []) fullShare) ∷ ‵ (fres δ (R .coded .code h)) ∷ ‵ (ElemKept R y κ q i ν δ) ∷ Γ) G
-  elem-home t z R y i ν δ h l space = step (λ s.
+  elem-home t z i ν δ h l space = step (λ s.
       lft-end t z $ move t (2 ∷ []) $ fsplit t $ move t (2 ∷ 0 ∷ 3 ∷ []) $ use3 W (later (‵ (mem R .lies h (y .ptr .0) (elem-at R y i)))) (ref-back 𝓤 H A W R (ν ∷ []) δ h (y .ptr .0) (elem-at R y i)) $ await t z $ move t (1 ∷ []) $ fsplit t $ move t (2 ∷ 0 ∷ []) $
-      use2 W (‵ (elems R y (set (now y) i h))) (puts (shares R) fullShare 𝓤 H A W (now y) i h (y .ptr .0) (y .ptr .1) l) $ shuts-row t z R y space (set (now y) i h) (length-set (now y) i h) $ s)
+      use2 W (‵ (elems R y (set (now y) i h))) (puts (shares R) fullShare 𝓤 H A W (now y) i h (y .ptr .0) (y .ptr .1) l) $ shuts-row R y t z space (set (now y) i h) (length-set (now y) i h) $ s)
 
-  pub shows-row : K → Soaks G → (R : RattleType) (y : RefT (List (R .Denot))) {κ : Lft} {q : Share} → Room R (length (now y))
+  pub shows-row : K → Soaks G → {κ : Lft} {q : Share} → Room R (length (now y))
       → ((ν : ℕ) (δ : GName) → Seq K W (‵ (flft (ν ∷ []) fullShare) ∷ ‵ (shared R (ν ∷ []) (lent-as R y δ (now y))) ∷ ‵ (RowKept R y κ q ν) ∷ Γ) G) → Seq K W (‵ (flft κ q) ∷ ‵ (mut-slice R κ y) ∷ Γ) G
-  shows-row t z R y space k =
-      opens-row t z R y $ feqI t ℕ (length (now y)) (length (now y)) refl $ fjoin t $ lft-new t z (λ ν. move t (1 ∷ []) $
+  shows-row t z space k =
+      opens-row R y t z $ feqI t ℕ (length (now y)) (length (now y)) refl $ fjoin t $ lft-new t z (λ ν. move t (1 ∷ []) $
       use1 W (later (some (λ (δ : GName). ‵ (shared R (ν ∷ []) (lent-as R y δ (now y))) ⊛ ‵ (shown-row R y ν)))) (lends-shr-slice 𝓤 H A W R (named 0) (ν ∷ []) fullShare (now y) (y .ptr .0) (y .ptr .1) space) $ await t z $ pick t (λ δ. split t $
       -- [the slice; the lender's part; the new token; the open borrow]
       move t (1 ∷ 3 ∷ []) $ fjoin t $ move t (2 ∷ 1 ∷ 0 ∷ []) $ k ν δ))
 
-  pub row-home : K → Soaks G → (R : RattleType) (y : RefT (List (R .Denot))) {κ : Lft} {q : Share} → Room R (length (now y)) → (ν : ℕ) (δ : GName)
+  pub row-home : K → Soaks G → {κ : Lft} {q : Share} → Room R (length (now y)) → (ν : ℕ) (δ : GName)
       → Step K W (‵ (flft κ q) ∷ ‵ (mut-slice R κ y) ∷ Γ) G (‵ (flft (ν ∷ []) fullShare) ∷ ‵ (shared R (ν ∷ []) (lent-as R y δ (now y))) ∷ ‵ (RowKept R y κ q ν) ∷ Γ) G
-  row-home t z R y space ν δ = step (λ s. lft-end t z $ move t (1 ∷ []) $ drop t $ move t (1 ∷ []) $ fsplit t $ move t (2 ∷ 0 ∷ []) $ lent-back t z $ fsplit t $ drop t $ shuts-row t z R y space (now y) refl $ s)
+  row-home t z space ν δ = step (λ s. lft-end t z $ move t (1 ∷ []) $ drop t $ move t (1 ∷ []) $ fsplit t $ move t (2 ∷ 0 ∷ []) $ lent-back t z $ fsplit t $ drop t $ shuts-row R y t z space (now y) refl $ s)
 
-  pub lends-row : K → Soaks G → (R : RattleType) (y : RefT (List (R .Denot))) {κ : Lft} {q : Share} → Room R (length (now y))
+  pub lends-row : K → Soaks G → {κ : Lft} {q : Share} → Room R (length (now y))
       → ((ν : ℕ) (δ : GName) → Seq K W (‵ (flft (ν ∷ []) fullShare) ∷ ‵ (mut-slice R (ν ∷ []) (lent-as R y δ (now y))) ∷ ‵ (LentKept R y κ q ν δ) ∷ Γ) G) → Seq K W (‵ (flft κ q) ∷ ‵ (mut-slice R κ y) ∷ Γ) G
-  lends-row t z R y space k =
-      opens-row t z R y $ use1 W (‵ (cells (mem R) (now y) (y .ptr .0) (y .ptr .1))) (whole-in 𝓤 H A W R (now y) (y .ptr .0) (y .ptr .1)) $ lft-new t z (λ ν. move t (1 ∷ []) $
+  lends-row t z space k =
+      opens-row R y t z $ use1 W (‵ (cells (mem R) (now y) (y .ptr .0) (y .ptr .1))) (whole-in 𝓤 H A W R (now y) (y .ptr .0) (y .ptr .1)) $ lft-new t z (λ ν. move t (1 ∷ []) $
       use1 W (later (some (λ (δ : GName). ‵ (mut-slice R (ν ∷ []) (lent-as R y δ (now y))) ⊛ ‵ (lent-row R y ν δ)))) (lends-slice 𝓤 H A W R (named 0) (ν ∷ []) (now y) (y .ptr .0) (y .ptr .1) space) $ await t z $ pick t (λ δ. split t $
       -- [the row; the lender's part; the new token; the open borrow]
       move t (1 ∷ 3 ∷ []) $ fjoin t $ move t (2 ∷ 1 ∷ 0 ∷ []) $ k ν δ))
 
-  pub lent-home : K → Soaks G → (R : RattleType) (y : RefT (List (R .Denot))) {κ : Lft} {q : Share} → Room R (length (now y)) → (ν : ℕ) (δ : GName) (zs : List (R .Denot)) → length zs ≡ length (now y)
+  pub lent-home : K → Soaks G → {κ : Lft} {q : Share} → Room R (length (now y)) → (ν : ℕ) (δ : GName) (zs : List (R .Denot)) → length zs ≡ length (now y)
       → Step K W (‵ (flft κ q) ∷ ‵ (mut-slice R κ (lent-as R y (name y) zs)) ∷ Γ) G (‵ (flft (ν ∷ []) fullShare) ∷ ‵ (finally R δ zs) ∷ ‵ (LentKept R y κ q ν δ) ∷ Γ) G
-  lent-home t z R y space ν δ zs e = step (λ s.
+  lent-home t z space ν δ zs e = step (λ s.
       lft-end t z $ move t (2 ∷ []) $ fsplit t $ move t (2 ∷ 0 ∷ 3 ∷ []) $ use3 W (later (‵ (Arr (mem R) (length (now y)) .lies zs (y .ptr .0) (y .ptr .1)))) (slice-back 𝓤 H A W R (ν ∷ []) δ zs (length (now y)) (y .ptr .0) (y .ptr .1)) $ await t z $ fsplit t $ drop t $
-      use1 W (‵ (elems R y zs)) (whole-out 𝓤 H A W R zs (y .ptr .0) (y .ptr .1)) $ shuts-row t z R y space zs e $ s)
+      use1 W (‵ (elems R y zs)) (whole-out 𝓤 H A W R zs (y .ptr .0) (y .ptr .1)) $ shuts-row R y t z space zs e $ s)
 
 -- ---- the record behind a `&mut T`, at its machine value
 abbrev OpenRef : (R : RattleType) → RefT (R .Denot) → Lft → Share → Fml
@@ -139,16 +139,16 @@ OpenRef R y κ q = fsep (fobor κ q (Body (mem R) (y .ptr .0) (y .ptr .1) (name 
 abbrev pub held-at : (R : RattleType) → RefT (R .Denot) → Val → Fml
 held-at R y v = cellAt fullShare (R .mir) (v ∷ []) (y .ptr .0) (y .ptr .1)
 
-module _ {M : Type 1} {𝓤 : URA M} {H : Heap 𝓤} {A : Atoms 𝓤} {K : Type 0} {W : Given 𝓤 H A} {Γ : List (Item 𝓤)} {G : Goal 𝓤 H} where
-  pub opens-ref : K → Soaks G → (R : RattleType) (P : PlainType 𝓤 H A R) (y : RefT (R .Denot)) {κ : Lft} {q : Share} → (Is R (now y) (P .val (now y) ∷ []) → Seq K W (‵ (held-at R y (P .val (now y))) ∷ ‵ (OpenRef R y κ q) ∷ Γ) G) → Seq K W (‵ (flft κ q) ∷ ‵ (mut-ref R κ y) ∷ Γ) G
-  opens-ref t z R P y k =
+module _ {M : Type 1} {𝓤 : URA M} {H : Heap 𝓤} {A : Atoms 𝓤} {K : Type 0} {W : Given 𝓤 H A} {Γ : List (Item 𝓤)} {G : Goal 𝓤 H} (R : RattleType) (P : PlainType 𝓤 H A R) (y : RefT (R .Denot)) where
+  pub opens-ref : K → Soaks G → {κ : Lft} {q : Share} → (Is R (now y) (P .val (now y) ∷ []) → Seq K W (‵ (held-at R y (P .val (now y))) ∷ ‵ (OpenRef R y κ q) ∷ Γ) G) → Seq K W (‵ (flft κ q) ∷ ‵ (mut-ref R κ y) ∷ Γ) G
+  opens-ref t z k =
       move t (1 ∷ []) $ fsplit3 t $ drop t $ opens t z R {h = now y} (y .ptr .0) (y .ptr .1) (λ vs. spelt t R (Is R) (shows 𝓤 H A R) (λ x. P .val x ∷ []) (P .tells) fullShare (now y) vs (y .ptr .0) (y .ptr .1) $
       -- [the cell; what the record owns; the open borrow; what is seen; what is said]
       move t (3 ∷ 4 ∷ []) $ fjoin t $ move t (3 ∷ 0 ∷ []) $ fjoin t $ move t (2 ∷ []) $ facts t R (Is R) (shows 𝓤 H A R) (now y) (P .val (now y) ∷ []) (λ g. move t (1 ∷ []) $ k g))
 
   -- what the record owns is made anew of the relation
-  pub settles-ref : K → Soaks G → (R : RattleType) (P : PlainType 𝓤 H A R) (y : RefT (R .Denot)) {κ : Lft} {q : Share} (h : R .Denot) → Is R h (P .val h ∷ [])
+  pub settles-ref : K → Soaks G → {κ : Lft} {q : Share} (h : R .Denot) → Is R h (P .val h ∷ [])
       → Step K W (‵ (flft κ q) ∷ ‵ (fres (name y) (R .coded .code h)) ∷ Γ) G (‵ (held-at R y (P .val h)) ∷ ‵ (OpenRef R y κ q) ∷ Γ) G
-  settles-ref t z R P y h g = step (λ s.
+  settles-ref t z h g = step (λ s.
       move t (1 ∷ []) $ fsplit t $ move t (1 ∷ []) $ fsplit t $ owned t R (Is R) (P .makes) h (P .val h ∷ []) g $ move t (4 ∷ 0 ∷ 3 ∷ 1 ∷ 2 ∷ []) $ closes t z R h (P .val h ∷ []) (y .ptr .0) (y .ptr .1) $
       use1 W (‵ (fres (name y) (R .coded .code h))) (W .names .obs-res (name y) (R .coded .code h)) $ move t (2 ∷ 0 ∷ []) $ move t (2 ∷ []) $ drop t $ s)

@@ -121,11 +121,11 @@ module _ {M : Type 1} (𝓤 : URA M) (H : Heap 𝓤) (A : Atoms 𝓤) (W : Given
         calls-one ! 𝓣 (k .plain-X) At (s .cells) known₃ x x-is (and-then ! (var ! 23 refl) (no-more !)) (λ isA. lands-in ! 10 refl (has At (s .cells x) isA) $ fills ! (of-opd ! (var ! 10 refl)) 16 refl (has At (s .cells x) isA) $
         calls-one ! 𝓣 (k .plain-X) (uint 𝓤 H A W w64) (s .many) known₄ x x-is (and-then ! (var ! 23 refl) (no-more !)) (λ m-is. lands-in ! 14 refl (tt, record { fits = m-is .1 }) $
         hands-on ! 24 8 6 refl refl refl refl refl refl (tt, tt) (fits-slice (space .0)) $ takes-firsts ! 4 2 refl (tt, tt) (many (isA .1 .0 .1)) refl (var ! 14 refl) refl (fits-slice (room (isA .1 .0 .1) .0)) $
-        move ! (16 ∷ []) $ shows-first ! tt (s .E) (k .plain-E) (s .K) (bs .1 .1 .1 .1 .1 .0) (s .cells x) (s .many x) (k .single-E) isA (room (isA .1 .0 .1)) (λ ν γ. move ! (3 ∷ 0 ∷ 4 ∷ 1 ∷ []) $
+        move ! (16 ∷ []) $ shows-first (s .E) (k .plain-E) (s .K) (bs .1 .1 .1 .1 .1 .0) (s .cells x) (s .many x) ! tt (k .single-E) isA (room (isA .1 .0 .1)) (λ ν γ. move ! (3 ∷ 0 ∷ 4 ∷ 1 ∷ []) $
         -- [the token; ν's token; the row; the cells; what the lender keeps; _12: 5; ..]
         calls W (inner s) (k .plain-N, (k .plain-Z, tt)) (κ, (ν ∷ [], tt)) (q, (fullShare, tt)) (ys, (s .number x, (s .other x, (first-as (s .E) (s .K) (bs .1 .1 .1 .1 .1 .0) γ us, tt)))) (k .plain-Y) 𝓣 known (n-is, (z-is, tt)) !
         (and-then ! (var ! 6 refl) (and-then ! (var ! 19 refl) (and-then ! (var ! 17 refl) (and-then ! (var ! 2 refl) (no-more !))))) (λ y ws e l y-is. lands-in ! 14 refl (has (k .plain-Y) y y-is) $
-        move ! (1 ∷ 3 ∷ []) $ shown-home ! tt (s .E) (k .plain-E) (s .K) (bs .1 .1 .1 .1 .1 .0) (s .cells x) (s .many x) ν (isA .1 .0 .1) (λ _.
+        move ! (1 ∷ 3 ∷ []) $ shown-home (s .E) (k .plain-E) (s .K) (bs .1 .1 .1 .1 .1 .0) (s .cells x) (s .many x) ! tt ν (isA .1 .0 .1) (λ _.
         -- [_5; the token; the last row; _12: 3; _11: 5; _10: 7; _9: 9; _8: 11; _7: 13; _6: 15; ..; _4: 18; ..; _0: 26], and in their order again
         calls-one ! 𝓣 (k .plain-Y) (k .plain-O) (s .told) known-h y y-is (and-then ! (var ! 14 refl) (no-more !)) (λ is. lands-in ! 26 refl (has (k .plain-O) (s .told y) is) $ move ! (1 ∷ 2 ∷ 3 ∷ 4 ∷ 5 ∷ 6 ∷ 7 ∷ 8 ∷ 9 ∷ 10 ∷ 11 ∷ 12 ∷ 13 ∷ 14 ∷ 15 ∷ 16 ∷ 0 ∷ []) $
         ends-in ! 26 refl (cell, (cell, (cell, (cell, (cell, (cell, (cell, (cell, (cell, (cell, (cell, (cell, (cell, tt))))))))))))) $

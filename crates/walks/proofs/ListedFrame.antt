@@ -148,14 +148,14 @@ module _ {M : Type 1} (𝓤 : URA M) (H : Heap 𝓤) (A : Atoms 𝓤) (W : Given
         calls-nothing ! 𝓣 (Reply s) Gt (s .blank) known₃ (λ isG. lands-in ! 14 refl (has Gt (s .blank) isG) $ fills ! (of-opd ! (var ! 14 refl)) 20 refl (has Gt (s .blank) isG) $
         hands-on ! 28 12 10 refl refl refl refl refl refl (tt, tt) (fits-slice (space .0)) $ takes-firsts ! 8 6 refl (tt, tt) (many (isB .1 .0 .1)) refl (var ! 22 refl) refl (fits-slice (room (isB .1 .0 .1) .0)) $
         takes-firsts ! 4 2 refl (tt, tt) (many₂ (isG .1 .0 .1)) refl (size-lit ! (k .reply-room .0)) refl (fits-slice (room₂ (isG .1 .0 .1) .0)) $
-        move ! (24 ∷ []) $ shows-first ! tt (s .E) (k .plain-E) (s .K) (bs .1 .1 .1 .0) (s .bytes x) (s .many x) (k .single-E) isB (room (isB .1 .0 .1)) (λ ν γ.
+        move ! (24 ∷ []) $ shows-first (s .E) (k .plain-E) (s .K) (bs .1 .1 .1 .0) (s .bytes x) (s .many x) ! tt (k .single-E) isB (room (isB .1 .0 .1)) (λ ν γ.
         -- [ν's token; the bytes; what their lender keeps; the token; the row; _14: 5; ..; _5: 23; ..]
-        move ! (23 ∷ []) $ lends-first ! tt (s .G) (k .plain-G) (s .L) (bs .1 .1 .1 .1 .1 .0) (s .blank) (s .L) (k .single-G) isG (room₂ (isG .1 .0 .1)) (λ ν₂ γ₂. move ! (6 ∷ 3 ∷ 0 ∷ 7 ∷ 4 ∷ 1 ∷ []) $
+        move ! (23 ∷ []) $ lends-first (s .G) (k .plain-G) (s .L) (bs .1 .1 .1 .1 .1 .0) (s .blank) (s .L) ! tt (k .single-G) isG (room₂ (isG .1 .0 .1)) (λ ν₂ γ₂. move ! (6 ∷ 3 ∷ 0 ∷ 7 ∷ 4 ∷ 1 ∷ []) $
         -- [the token; ν's token; ν₂'s; the row; the bytes; the reply; what the reply's lender keeps; what the bytes' keeps; _14: 8; ..]
         calls W (inner s) tt (κ, (ν ∷ [], (ν₂ ∷ [], tt))) (q, (fullShare, (fullShare, tt))) (ys, (first-as (s .E) (s .K) (bs .1 .1 .1 .0) γ us, (first-as (s .G) (s .L) (bs .1 .1 .1 .1 .1 .0) γ₂ vs, tt))) (k .plain-Y) 𝓣 known tt !
         (and-then ! (var ! 11 refl) (and-then ! (var ! 7 refl) (and-then ! (var ! 3 refl) (no-more !)))) (λ y ws e l y-is. lands-in ! 23 refl (has (k .plain-Y) y y-is) $
-        move ! (2 ∷ 4 ∷ 5 ∷ []) $ first-home ! tt (s .G) (k .plain-G) (s .L) (bs .1 .1 .1 .1 .1 .0) (s .blank) (s .L) ν₂ γ₂ (ws .1 .1 .0) (isG .1 .0 .1) (λ _.
-        move ! (2 ∷ 4 ∷ []) $ shown-home ! tt (s .E) (k .plain-E) (s .K) (bs .1 .1 .1 .0) (s .bytes x) (s .many x) ν (isB .1 .0 .1) (λ _.
+        move ! (2 ∷ 4 ∷ 5 ∷ []) $ first-home (s .G) (k .plain-G) (s .L) (bs .1 .1 .1 .1 .1 .0) (s .blank) (s .L) ! tt ν₂ γ₂ (ws .1 .1 .0) (isG .1 .0 .1) (λ _.
+        move ! (2 ∷ 4 ∷ []) $ shown-home (s .E) (k .plain-E) (s .K) (bs .1 .1 .1 .0) (s .bytes x) (s .many x) ! tt ν (isB .1 .0 .1) (λ _.
         -- [_3; _5; the token; the last row; _14: 4; _13: 6; _12: 8; _11: 10; _10: 12; _9: 14; _8: 16; _7: 18; _6: 20; ..; _4: 23; ..; _2: 26; ..; _0: 30], and in their order again
         calls-one ! 𝓣 (k .plain-Y) (k .plain-O) (s .told) known-h y y-is (and-then ! (var ! 21 refl) (no-more !)) (λ is. lands-in ! 30 refl (has (k .plain-O) (s .told y) is) $
         move ! (2 ∷ 3 ∷ 4 ∷ 5 ∷ 6 ∷ 7 ∷ 8 ∷ 9 ∷ 10 ∷ 11 ∷ 12 ∷ 13 ∷ 14 ∷ 15 ∷ 16 ∷ 17 ∷ 18 ∷ 19 ∷ 20 ∷ 21 ∷ 1 ∷ 22 ∷ 23 ∷ 24 ∷ 0 ∷ []) $

@@ -69,9 +69,9 @@ module _ {M : Type 1} (𝓤 : URA M) (H : Heap 𝓤) (A : Atoms 𝓤) (W : Given
   walk : (κ : Lft) (q : Share) (ys : RefT (List (s .T .D))) (x : s .X .Denot) → Room (R s) (length (now ys)) → Is (s .X) x (k .plain-X .val x ∷ []) → Walk W (form s) (k .plain-X, tt) 𝓣 (function s) (κ, tt) (q, tt) (ys, (x, tt))
   walk κ q ys x space x-is = enters (function s) ! (λ bs. params1 ! $ pass1 ! (init ! 8 refl (fits-slice (space .0))) $ pass1 ! (init ! 6 refl (has (k .plain-X) x x-is)) $ pass0 ! $ move ! (12 ∷ 13 ∷ []) $
       -- [the token; the row; _5: 2; _4: 4; _3: 6; _2: 8; _1: 10; _0: 12]
-      hands-on ! 10 4 2 refl refl refl refl refl refl (tt, tt) (fits-slice (space .0)) $ shows-row ! tt (R s) ys space (λ ν δ.
-      calls-slice ! 𝓣 (R s) (k .plain-B) (s .F) known-f (ν ∷ []) fullShare (lent-as (R s) ys δ (now ys)) (and-then ! (var ! 3 refl) (no-more !)) (λ v e v-is. lands-in ! 7 refl (has (k .plain-B) v v-is) $ row-home ! tt (R s) ys space ν δ $
-      calls-one ! 𝓣 (k .plain-B) (k .plain-O) (s .G) known-h v v-is (and-then ! (var ! 7 refl) (no-more !)) (λ is. lands-in ! 12 refl (has (k .plain-O) (s .G v) is) $ move ! (1 ∷ []) $ settles ! (R s) κ ys $
+      hands-on ! 10 4 2 refl refl refl refl refl refl (tt, tt) (fits-slice (space .0)) $ shows-row (R s) ys ! tt space (λ ν δ.
+      calls-slice ! 𝓣 (R s) (k .plain-B) (s .F) known-f (ν ∷ []) fullShare (lent-as (R s) ys δ (now ys)) (and-then ! (var ! 3 refl) (no-more !)) (λ v e v-is. lands-in ! 7 refl (has (k .plain-B) v v-is) $ row-home (R s) ys ! tt space ν δ $
+      calls-one ! 𝓣 (k .plain-B) (k .plain-O) (s .G) known-h v v-is (and-then ! (var ! 7 refl) (no-more !)) (λ is. lands-in ! 12 refl (has (k .plain-O) (s .G v) is) $ move ! (1 ∷ []) $ settles (R s) ys ! κ $
       ends-in ! 12 refl (cell, (cell, (cell, (cell, (cell, (cell, tt)))))) $ keep ! (1 ∷ 0 ∷ []) $
       by ! (exits W (form s) (k .plain-X, tt) (κ, tt) (q, tt) (ys, (x, tt)) (k .plain-O) (now ys, tt) (s .G v) _ (ap (s .G) e ∙ k .says-all (now ys) x, k .as-it-was (now ys) x) (refl, tt) is)))))
 

@@ -62,13 +62,13 @@ pub record Knows {M : Type 1} (𝓤 : URA M) (H : Heap 𝓤) (A : Atoms 𝓤) (s
 
 module _ {M : Type 1} (𝓤 : URA M) (H : Heap 𝓤) (A : Atoms 𝓤) (W : Given 𝓤 H A) (s : Shape) (k : Knows 𝓤 H A s) (𝓣 : Tables 𝓤 H) (known : Triple 𝓤 (𝓣 .C (s .f)) (met (by-value s) 𝓤 H A)) where
   walk : (κ : Lft) (q : Share) (y : RefT (s .T .D)) (x : s .X .Denot) → Is (s .X) x (k .plain-X .val x ∷ []) → Walk W (form s) (k .plain-X, tt) 𝓣 (function s) (κ, tt) (q, tt) (y, (x, tt))
-  walk κ q y x x-is = enters (function s) ! (λ bs. params1 ! $ pass1 ! (init ! 6 refl (tt, tt)) $ pass1 ! (init ! 4 refl (has (k .plain-X) x x-is)) $ pass0 ! $ move ! (10 ∷ 11 ∷ []) $ opens-ref ! tt (R s) (k .pair-Q .first) y (λ g.
+  walk κ q y x x-is = enters (function s) ! (λ bs. params1 ! $ pass1 ! (init ! 6 refl (tt, tt)) $ pass1 ! (init ! 4 refl (has (k .plain-X) x x-is)) $ pass0 ! $ move ! (10 ∷ 11 ∷ []) $ opens-ref (R s) (k .pair-Q .first) y ! tt (λ g.
       -- [the record's cell; the open borrow; _4: 2; _3: 4; _2: 6; _1: 8; _0: 10]
       fills ! (of-opd ! (load ! (from ! (hop ! (look ! 8 refl) (stop !))) (look-raw ! 0 refl))) 2 refl (has (k .pair-Q .first) (now y) g) $
       calls W (by-value s) (k .pair-Q .first, (k .plain-X, tt)) tt tt (now y, (x, tt)) (k .pair-Q .both) 𝓣 known (g, (x-is, tt)) ! (and-then ! (var ! 3 refl) (and-then ! (var ! 7 refl) (no-more !))) (λ z _ e _ is. lands-in ! 4 refl (has-pair (k .pair-Q) z is) $
       rewrite ! 4 (λ (u : Val). ‵ (fat fullShare (pair-ty (s .Q) (R s) (s .O)) (bs .1 .1 .1 .0) 0 u)) (k .pair-Q .spelled z) refl $
       assigns ! (of-opd ! (part ! 4 0 refl refl refl)) (from ! (hop ! (look ! 8 refl) (stop !))) (store-raw ! 0 refl (has (k .pair-Q .first) (s .record-of z) (k .pair-Q .owed z is .0))) $
-      fills ! (of-opd ! (part ! 4 1 refl refl refl)) 10 refl (has (k .pair-Q .second) (s .answer-of z) (k .pair-Q .owed z is .1)) $ settles-ref ! tt (R s) (k .pair-Q .first) y (s .record-of z) (k .pair-Q .owed z is .0) $
+      fills ! (of-opd ! (part ! 4 1 refl refl refl)) 10 refl (has (k .pair-Q .second) (s .answer-of z) (k .pair-Q .owed z is .1)) $ settles-ref (R s) (k .pair-Q .first) y ! tt (s .record-of z) (k .pair-Q .owed z is .0) $
       ends-in ! 10 refl (cell, (cell, (cell, (cell, (cell, tt))))) $
       by ! (exits W (form s) (k .plain-X, tt) (κ, tt) (q, tt) (y, (x, tt)) (k .pair-Q .second) (s .record-of z, tt) (s .answer-of z) _ (ap (s .answer-of) e, ap (s .record-of) e) tt (k .pair-Q .owed z is .1)))))
 

@@ -169,13 +169,13 @@ module _ {M : Type 1} (𝓤 : URA M) (H : Heap 𝓤) (A : Atoms 𝓤) (W : Given
           calls-one ! 𝓣 St (boolean 𝓤 H A W) (s .goes-on) known-more (t .st) (t .is) (and-then ! (var ! 17 refl) (no-more !)) (λ _. lands-in ! 14 refl (tt, tt) $ rewrite ! 14 (λ (y : Bool). Has 𝓤 H En 6 fullShare (vbool y)) so refl $ stays ! (var ! 14 refl) $
           hands-on ! 24 12 10 refl refl refl refl refl refl (tt, tt) (fits-slice (space .0)) $ rewrite ! 10 (λ (m : ℕ). Has 𝓤 H En 8 fullShare (sliceVal (ys .ptr) m)) (sym (t .row-long)) refl $
           hands-on ! 18 8 6 refl refl refl refl refl refl (tt, tt) (fits-slice (space₂ .0)) $ rewrite ! 6 (λ (m : ℕ). Has 𝓤 H En 10 fullShare (sliceVal (rs .ptr) m)) (sym (t .out-long)) refl $
-          lends-row ! tt (R s) (row-now t) (row-room t) (λ ν δ. move ! (3 ∷ 4 ∷ []) $ lends-row ! tt (s .G) (out-now t) (out-room t) (λ ν₂ δ₂.
+          lends-row (R s) (row-now t) ! tt (row-room t) (λ ν δ. move ! (3 ∷ 4 ∷ []) $ lends-row (s .G) (out-now t) ! tt (out-room t) (λ ν₂ δ₂.
           -- [ν₂'s token; the output; what its lender keeps; ν's token; the row; what its lender keeps; the block's token; the block; _10: 8; ..]
           move ! (7 ∷ []) $ keeps-copy ! (s .E) κ₁ bs $ move ! (5 ∷ 8 ∷ 2 ∷ 6 ∷ 0 ∷ 3 ∷ []) $
           calls-last W (one s) (St, tt) (ν ∷ [], (κ₁, (ν₂ ∷ [], tt))) (fullShare, (q₁, (fullShare, tt))) (lent-as (R s) ys δ (t .row), (t .st, (bs, (lent-as (s .G) rs δ₂ (t .out), tt)))) St 𝓣 known (t .is, tt) !
           (and-then ! (var ! 8 refl) (and-then ! (var ! 14 refl) (and-then ! (var ! 18 refl) (and-then ! (var ! 4 refl) (no-more !))))) (λ z ws e l is.
           -- [ν's token; the block's; ν₂'s; the last row; the last output; the block; what the output's lender keeps; what the row's keeps; _10: 8; ..]
-          move ! (0 ∷ 3 ∷ 7 ∷ []) $ lent-home ! tt (R s) (row-now t) (row-room t) ν δ (ws .0) (l .0) $ move ! (3 ∷ 4 ∷ 6 ∷ []) $ lent-home ! tt (s .G) (out-now t) (out-room t) ν₂ δ₂ (ws .1 .1 .1 .0) (l .1 .0) $ move ! (2 ∷ 3 ∷ []) $
+          move ! (0 ∷ 3 ∷ 7 ∷ []) $ lent-home (R s) (row-now t) ! tt (row-room t) ν δ (ws .0) (l .0) $ move ! (3 ∷ 4 ∷ 6 ∷ []) $ lent-home (s .G) (out-now t) ! tt (out-room t) ν₂ δ₂ (ws .1 .1 .1 .0) (l .1 .0) $ move ! (2 ∷ 3 ∷ []) $
           land-last ! (from ! (stop !)) (store ! 16 refl (has St z is)) $ forget ! 6 refl $ forget ! 8 refl $ forget ! 10 refl $ forget ! 12 refl $ forget ! 14 refl $
           again ! fewer Γ t (next t so z (ws .0) (ws .1 .1 .1 .0) e (l .0) (l .1 .0) is) (fell t so z (ws .0) (ws .1 .1 .1 .0) e)))))
 
@@ -183,7 +183,7 @@ module _ {M : Type 1} (𝓤 : URA M) (H : Heap 𝓤) (A : Atoms 𝓤) (W : Given
       unfolding afterTurn
       is-over t over =
           calls-one ! 𝓣 St (boolean 𝓤 H A W) (s .goes-on) known-more (t .st) (t .is) (and-then ! (var ! 17 refl) (no-more !)) (λ _. lands-in ! 14 refl (tt, tt) $ rewrite ! 14 (λ (y : Bool). Has 𝓤 H En 6 fullShare (vbool y)) over refl $ leaves-loop ! (var ! 14 refl) $
-          exec ! (𝓣 .C) (𝓣 .Λ) En (returned s) (atRet En Ends) $ fills ! (of-opd ! (var ! 16 refl)) 26 refl (has St (t .st) (t .is)) $ move ! (1 ∷ []) $ settles ! (R s) κ (row-now t) $ move ! (3 ∷ []) $ settles ! (s .G) κ₂ (out-now t) $
+          exec ! (𝓣 .C) (𝓣 .Λ) En (returned s) (atRet En Ends) $ fills ! (of-opd ! (var ! 16 refl)) 26 refl (has St (t .st) (t .is)) $ move ! (1 ∷ []) $ settles (R s) (row-now t) ! κ $ move ! (3 ∷ []) $ settles (s .G) (out-now t) ! κ₂ $
           -- [the last output; the last row; the row's token; the output's; the block's; the block; ..]
           ends-in ! 26 refl (cell, (cell, (cell, (cell, (cell, (cell, (cell, (room, (room, (room, (room, tt))))))))))) $ keep ! (2 ∷ 4 ∷ 3 ∷ 1 ∷ 0 ∷ []) $
           by ! (exits W (form s) (St, tt) (κ, (κ₁, (κ₂, tt))) (q, (q₁, (q₂, tt))) (ys, (x, (bs, (rs, tt)))) St (t .row, (t .out, tt)) (t .st) _ (told t over) (t .row-long, (t .out-long, tt)) (t .is)))
