@@ -3,7 +3,7 @@
 --     fn g(row: &mut [T], x: X) -> O { if test(x) { return f(row, x); } h(row, x) }
 -- T is a declared struct of plain fields, X and O are plain. test is covered and says `r ≡ is-so x`. f and h say the answer and the whole row at exit, and so does g.
 --     Shape, Knows     what g is made of; what the contract says where the test holds and where not, and what is to be known of the types
---     function, form   g's MIR, and its form.        form-f, form-h     those of f and h.        meets     g's MIR meets its contract, over any `Tables` in which test, f and h meet theirs
+--     function, form   g's MIR, and its form.        form-f, form-h     those of f and h.        meets     g's MIR fulfils that form wherever its callees fulfil theirs
 use mathlib.Core.Path.{_≡_, refl, _∙_}
 use mathlib.Core.Bool.{Bool, not}
 use mathlib.Core.List.{[], _∷_, List}

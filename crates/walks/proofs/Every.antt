@@ -4,7 +4,7 @@
 -- T is a declared struct of plain fields. f0 and f are covered and say `r ≡ bad-count n` and `r ≡ bad b`. g says `r ≡ all (now (row .entry))`: neither the count nor a record is bad.
 --     Shape, Knows     what g is made of; what the contract says, and what is to be known of the type
 --     every            no record is bad
---     function, form   g's MIR, and its form.        meets     g's MIR meets its contract, over any `Tables` in which f0 and f meet theirs
+--     function, form   g's MIR, and its form.        meets     g's MIR fulfils that form wherever its callees fulfil theirs
 -- What holds at the loop's test is that the records from the index on decide.
 use mathlib.Core.Path.{_≡_, refl, _∙_}
 use mathlib.Core.Bool.{Bool, true, false, cond}

@@ -4,7 +4,7 @@
 -- T is a declared struct of plain fields and B is plain. init and f are covered and say `r ≡ start` and `r ≡ F acc i b`. g says `r ≡ all (now (row .entry))`, the fold of F over the row.
 --     Shape, Knows     what g is made of; that the contract says the fold, and what is to be known of the types
 --     folded           F at each place in turn, from the place i on
---     function, form   g's MIR, and its form.        adds     the form of f.        meets     g's MIR meets its contract, over any `Tables` in which init and f meet theirs
+--     function, form   g's MIR, and its form.        adds     the form of f.        meets     g's MIR fulfils that form wherever its callees fulfil theirs
 -- What holds at the loop's test is that the fold from the index on, of what is carried, is the whole.
 use mathlib.Core.Path.{_≡_, refl, sym, _∙_, subst}
 use Prim.Native.Nat.{ℕ, suc, _<_, _≤_, _+_, _^_}

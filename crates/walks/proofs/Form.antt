@@ -2,7 +2,8 @@
 -- Assumes nothing.
 --     Kind             how a parameter comes: by value, as a `&[R]`, as a `&mut [R]` or as a `&mut R`
 --     Form             the kinds, the type of the result, and what is said of the arguments, the result and the arguments at exit
---     ended-of, clauses-of, clauses-if, contract     the signature with each parameter's `Kept`, the clauses, also with a `requires`, and the contract
+--     slice-val, shared, mut-slice, mut-ref     the machine value of a lent slice, and what a `&[R]`, a `&mut [R]` and a `&mut R` own
+--     ended-of, clauses-of, clauses-if, met     the signature with each parameter's `Kept`, the clauses, also with a `requires`, and the contract
 --     Plains           a `PlainType` for each parameter by value.        Sure, Facts     what is known of the arguments at a call, and at entry
 --     tokens, gives, finals     what a caller hands over and gets back: a token for each lifetime, what each slice and reference owns, and what says its last value
 --     calls, calls-last     one step for a call, and for one that is the last statement of its part
@@ -39,7 +40,7 @@ use denote.Triple.Walked.{says, needs, Stays, stay-dropped, gave-ref, gave-slice
 use denote.Exit.{yes, left}
 use Rattle.walks.proofs.Plain.{PlainType, last, silent}
 
--- ---- a lent slice: its machine value, and what a shared one and a `&mut` one own
+-- ---- what is lent: the machine value of a slice, and what each kind of reference owns
 abbrev pub slice-val : {X : Type 0} → RefT (List X) → Val
 slice-val ys = sliceVal (ys .ptr) (length (now ys))
 

@@ -3,7 +3,7 @@
 --     fn g(row: &mut [T], bytes: &[E], reply: &mut [G]) -> O { let d = f1(bytes, reply.len()); let y = f2(row, d); f3(reply, y) }
 -- T is a declared struct of plain fields, E and G are what a slice can hold, and X, the type of d, Y, that of y, and O are plain. f1 says what it makes of the bytes and the room, f2 its answer and the whole row at exit, f3 its answer and the whole reply at exit. g says the answer, the row and the reply.
 --     Shape, Knows     what g is made of; what the contract says, and what is to be known of the types
---     function, form   g's MIR, and its form.        takes-apart, acts, puts     the forms of f1, f2 and f3.        meets     g's MIR meets its contract, over any `Tables` in which these meet theirs
+--     function, form   g's MIR, and its form.        takes-apart, acts, puts     the forms of f1, f2 and f3.        meets     g's MIR fulfils that form wherever its callees fulfil theirs
 -- Nothing is opened: the row and the reply are handed on for good, each at its own lifetime and name.
 use mathlib.Core.Path.{_≡_, refl, _∙_}
 use Prim.Native.Nat.{ℕ}

@@ -3,7 +3,7 @@
 --     fn g(row: &[T]) -> O { if good(row) { return f(row); } no() }
 -- T is a declared struct and O is plain. good and f are functions over the same slice that say `r ≡ is-good (now (row .entry))` and `r ≡ answer-at (now (row .entry))`, and no says `r ≡ none`. g says `r ≡ answer-in (now (row .entry))`.
 --     Shape, Knows     what g is made of; what the contract says of a good row and of another, and what is to be known of the types
---     function, form   g's MIR, and its form.        meets     g's MIR meets its contract, over any `Tables` in which good, f and no meet theirs
+--     function, form   g's MIR, and its form.        meets     g's MIR fulfils that form wherever its callees fulfil theirs
 use mathlib.Core.Path.{_≡_, refl, _∙_, subst}
 use mathlib.Core.Bool.{Bool, not}
 use mathlib.Core.List.{[], _∷_, List}

@@ -3,7 +3,7 @@
 --     fn g(row: &mut [T], n: N, x: X, cells: &[E]) -> O { let at = place(n); if at < row.len() { return f(&mut row[at], x, cells); } no() }
 -- T is a declared struct of plain fields, N, X and O are plain, and E is what a slice can hold. place is covered and says `r ≡ place-of n`, f says the answer and the record at exit, no says `r ≡ none`. g says the answer and the whole row at exit.
 --     Shape, Knows     what g is made of; what the contract says within the row and past its end, and what is to be known of the types
---     function, form   g's MIR, and its form.        on-one     the form of f.        meets     g's MIR meets its contract, over any `Tables` in which place, f and no meet theirs
+--     function, form   g's MIR, and its form.        on-one     the form of f.        meets     g's MIR fulfils that form wherever its callees fulfil theirs
 use mathlib.Core.Path.{_≡_, refl, _∙_, ap}
 use Prim.Native.Nat.{ℕ, _<_, _≤_}
 use mathlib.Core.List.{[], _∷_, List}

@@ -3,7 +3,7 @@
 --     fn g(row: &mut [T], x: X) -> O { let at = place(x); if at < row.len() { return f(&mut row[at], x); } no() }
 -- T is a declared struct of plain fields, X and O are plain. place is covered and says `r ≡ place-of x`, f says the answer and the record at exit, no says `r ≡ none`. g says the answer and the whole row at exit.
 --     Shape, Knows     what g is made of; what the contract says within the row and past its end, and what is to be known of the types
---     function, form   g's MIR, and its form.        on-one     the form of f.        meets     g's MIR meets its contract, over any `Tables` in which place, f and no meet theirs
+--     function, form   g's MIR, and its form.        on-one     the form of f.        meets     g's MIR fulfils that form wherever its callees fulfil theirs
 use mathlib.Core.Path.{_≡_, refl, _∙_, ap}
 use Prim.Native.Nat.{ℕ, _<_, _≤_}
 use mathlib.Core.List.{[], _∷_, List}

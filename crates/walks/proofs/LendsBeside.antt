@@ -3,7 +3,7 @@
 --     fn g(boards: [T; N], n: usize, k: K, x: X, cells: &[E]) -> Q { let mut row = boards; let answer = f(&mut row[..n], k, x, cells); Q { boards: row, answer: answer } }        requires n ≤ N
 -- T is a declared struct of plain fields, K, X and O are plain, E is what a slice can hold, and Q is a declared struct of the array and the answer. f says the answer and the whole row at exit. g says `r ≡ all boards n k x (now (cells .entry))`. g's parameters are plain but for the slice, so whoever calls it needs no walk.
 --     Shape, Knows     what g is made of; what the contract says, and what is to be known of the types
---     function, form   g's MIR, and its form.        inner     the form of f.        meets     g's MIR meets its contract, over any `Tables` in which f meets its own
+--     function, form   g's MIR, and its form.        inner     the form of f.        meets     g's MIR fulfils that form wherever its callees fulfil theirs
 use mathlib.Core.Path.{_≡_, refl}
 use Prim.Native.Nat.{ℕ, _≤_}
 use mathlib.Core.List.{[], _∷_, _++_, List}

@@ -3,7 +3,7 @@
 --     fn g(boards: [T; N], n: usize, bytes: &[E], reply: &mut [G]) -> Q { let mut row = boards; let answer = f(&mut row[..n], bytes, reply); Q { boards: row, answer: answer } }        requires n ≤ N
 -- T is a declared struct of plain fields, O is plain, E and G are what a slice can hold, and Q is a declared struct of the array and the answer. f says the answer, the whole row and the whole reply at exit. g says `r ≡ all boards n ..` and what is in the reply at exit. g has no record behind a reference, so whoever calls it needs no walk.
 --     Shape, Knows     what g is made of; what the contract says, and what is to be known of the types
---     function, form   g's MIR, and its form.        inner     the form of f.        meets     g's MIR meets its contract, over any `Tables` in which f meets its own
+--     function, form   g's MIR, and its form.        inner     the form of f.        meets     g's MIR fulfils that form wherever its callees fulfil theirs
 use mathlib.Core.Path.{_≡_, refl, _∙_}
 use Prim.Native.Nat.{ℕ, _≤_}
 use mathlib.Core.List.{[], _∷_, _++_, List}

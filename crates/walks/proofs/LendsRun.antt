@@ -3,7 +3,7 @@
 --     fn g(boards: [T; N], n: usize, s: S, block: &[E], out: &mut [G]) -> Q { let mut row = boards; let state = f(&mut row[..n], s, block, out); Q { boards: row, state: state } }        requires n ≤ N
 -- T is a declared struct of plain fields, S and O, what f returns, are plain, E and G are what a slice can hold, and Q is a declared struct of the array and what f returns. f, as g of Lined and of Turning, says its result, the whole row and the whole output at exit. g says `r ≡ all boards n ..` and what is in the output at exit. g has no record behind a reference, so whoever calls it needs no walk.
 --     Shape, Knows     what g is made of; what the contract says, and what is to be known of the types
---     function, form   g's MIR, and its form.        inner     the form of f.        meets     g's MIR meets its contract, over any `Tables` in which f meets its own
+--     function, form   g's MIR, and its form.        inner     the form of f.        meets     g's MIR fulfils that form wherever its callees fulfil theirs
 use mathlib.Core.Path.{_≡_, refl, _∙_}
 use Prim.Native.Nat.{ℕ, _≤_}
 use mathlib.Core.List.{[], _∷_, _++_, List}

@@ -3,7 +3,7 @@
 --     fn g(boards: [T; N], n: usize) -> O { f(&boards[..n]) }        requires n ≤ N
 -- T is a declared struct of plain fields and O is plain. f says `r ≡ F (now (row .entry))`. g says `r ≡ all boards n`. g's parameters are plain, so whoever calls it needs no walk.
 --     Shape, Knows     what g is made of; what the contract says, and what is to be known of the types
---     function, form   g's MIR, and its form.        meets     g's MIR meets its contract, over any `Tables` in which f meets its own
+--     function, form   g's MIR, and its form.        meets     g's MIR fulfils that form wherever its callees fulfil theirs
 use mathlib.Core.Path.{_≡_, refl, _∙_}
 use Prim.Native.Nat.{ℕ, _≤_}
 use mathlib.Core.List.{[], _∷_, _++_, List}

@@ -3,7 +3,7 @@
 --     fn g(row: &mut [T], s: S, block: &[E], out: &mut [G]) -> O { let d = f1(s, block); let y = f2(row, d); f3(out, d, y) }
 -- T is a declared struct of plain fields, E and G are what a slice can hold, and S, X, the type of d, Y, that of y, and O are plain. f1 says what it makes of the state and the block, f2 its answer and the whole row at exit, f3 its answer and the whole output at exit. g says the answer, the row and the output.
 --     Shape, Knows     what g is made of; what the contract says, and what is to be known of the types
---     function, form   g's MIR, and its form.        takes-line, acts, puts     the forms of f1, f2 and f3.        meets     g's MIR meets its contract, over any `Tables` in which these meet theirs
+--     function, form   g's MIR, and its form.        takes-line, acts, puts     the forms of f1, f2 and f3.        meets     g's MIR fulfils that form wherever its callees fulfil theirs
 -- Nothing is opened: the row and the output are handed on for good, each at its own lifetime and name.
 use mathlib.Core.Path.{_≡_, refl, _∙_}
 use mathlib.Core.List.{[], _∷_, List}

@@ -3,7 +3,7 @@
 --     fn g(row: &mut [T], x: X) -> O { let bytes = f1(x); let m = f2(x); let mut reply = f3(); let a = f(row, &bytes[..m], &mut reply); h(a) }
 -- T is a declared struct of plain fields, X, O and Y, the type of a, are plain, f1 gives an array of K of the plain E, f3 an array of L of the plain G. f1, f2, f3 and h are covered, and f2 says a usize that is at most K. f, as g of Framed, says its answer, the whole row and the whole reply at exit. g says its answer and the whole row at exit.
 --     Shape, Knows     what g is made of; what the contract says, that f2 says no more than K, and what is to be known of the types
---     function, form   g's MIR, and its form.        inner     the form of f.        meets     g's MIR meets its contract, over any `Tables` in which the callees meet theirs
+--     function, form   g's MIR, and its form.        inner     the form of f.        meets     g's MIR fulfils that form wherever its callees fulfil theirs
 -- The part of the bytes and the whole reply are lent for two lifetimes of the call. The row is handed on for good.
 use mathlib.Core.Path.{_≡_, refl, sym, _∙_, ap, subst}
 use Prim.Native.Nat.{ℕ, _≤_}

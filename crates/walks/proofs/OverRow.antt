@@ -2,7 +2,7 @@
 -- Assumes nothing.
 --     while i < row.len() { .. row[i] ..; i += 1; } rest
 -- row is the local 1. A turn has the element by value in a local of its own, and the rest of the turn is free: it may return, or go on to `i += 1` with another state.
---     Places           the locals of the loop, by number and type: the index, the length and then the offset, the test, the pointer, the element
+--     Locals, Places   the locals of the loop, by number and by type: the index, the length and then the offset, the test, the pointer, the element
 --     turn-code, count-on, loop-code     the loop's MIR, around the rest of a turn and before the rest of the body
 --     Front, Filled, Over     the head of the context at the test, once the element is read, and where the loop is left
 --     Turns, Stops     what the rest of a turn shows, and what the rest of the body

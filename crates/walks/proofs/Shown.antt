@@ -3,7 +3,7 @@
 --     fn g(row: &mut [T], x: X) -> O { let v = f(row); h(v) }
 -- T is a declared struct of plain fields, X, O and B, the type of v, are plain. f, over a `&[T]`, says `r ≡ F (now (row .entry))` and h, which is covered, `r ≡ G v`. g says the answer and the whole row at exit.
 --     Shape, Knows     what g is made of; what the contract says, and what is to be known of the types
---     function, form   g's MIR, and its form.        meets     g's MIR meets its contract, over any `Tables` in which f and h meet theirs
+--     function, form   g's MIR, and its form.        meets     g's MIR fulfils that form wherever its callees fulfil theirs
 use mathlib.Core.Path.{_≡_, refl, _∙_, ap}
 use mathlib.Core.List.{[], _∷_, List}
 use lib.ListN.{length}

@@ -3,7 +3,7 @@
 --     fn g(row: &mut [T], s: S, block: &[E], out: &mut [G]) -> S { let mut st = s; while more(st) { st = f(row, st, block, out); } st }
 -- T is a declared struct of plain fields, E and G are what a slice can hold, and S is plain. more is covered and says `r ≡ goes-on st`. f, as g of Lined, says the next state, the row and the output at exit, and g says the last state, the row and the output.
 --     Shape, Knows     what g is made of, with how many turns are left at a state, by the block's length; what the contract says where the loop stops and where it turns, that fewer turns are left after a turn, and what is to be known of the types
---     function, form   g's MIR, and its form.        one     the form of f.        meets     g's MIR meets its contract, over any `Tables` in which more and f meet theirs
+--     function, form   g's MIR, and its form.        one     the form of f.        meets     g's MIR fulfils that form wherever its callees fulfil theirs
 --     State, Γ         what holds at the loop's test, and the whole context there.        goes-round, is-over     a turn, and the turn that leaves the loop
 -- In each turn the row and the output are lent for two lifetimes of the call, and come home with what f left.
 use mathlib.Core.Path.{_≡_, refl, sym, _∙_, subst}
