@@ -24,6 +24,7 @@ use Rattle.walks.proofs.Plain.{ty, PlainType, pair-ty, PlainPair, has, 
 use Rattle.walks.proofs.Walk.{cell}
 use Rattle.walks.proofs.Steps.{it, sets, steps, by-values, var, part, fills, lands-in, ends-in}
 use Rattle.walks.proofs.Form.{Form, code-of, value, shown, behind, Fulfils, met, calls, exits, Walk, meets-form}
+use Rattle.walks.proofs.Callee.{OfRecord}
 use Rattle.walks.proofs.Lent.{opens-ref, settles-ref}
 
 pub record Shape : Type 2 where
@@ -34,7 +35,7 @@ pub record Shape : Type 2 where
   pub Q : D.Declared
   pub O : RattleType
   pub f : Name
-  pub F : T .D → X .Denot → List (E .Denot) → Q .D
+  pub F : OfRecord (T .D) (X .Denot) (E .Denot) (Q .D)
   pub record-of : Q .D → T .D
   pub answer-of : Q .D → O .Denot
 

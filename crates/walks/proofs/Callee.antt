@@ -37,6 +37,10 @@ Changes Y X = List Y → X → List Y
 abbrev pub Told : {Y X O : Type 0} → Answers Y X O → Changes Y X → List Y → X → O → List Y → Type 0
 Told F B ys x r zs = (r ≡ F ys x) × (zs ≡ B ys x)
 
+-- of one record B, an argument and cells
+abbrev pub OfRecord : Type 0 → Type 0 → Type 0 → Type 0 → Type 0
+OfRecord B X E O = B → X → List E → O
+
 -- beside a number, an argument and cells
 abbrev pub OfCells : Type 0 → Type 0 → Type 0 → Type 0 → Type 0 → Type 0
 OfCells Y N X E O = List Y → N → X → List E → O

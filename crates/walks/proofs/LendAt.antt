@@ -30,7 +30,7 @@ use Rattle.walks.proofs.Plain.{ty, PlainType, has, uint}
 use Rattle.walks.proofs.Walk.{cell, room}
 use Rattle.walks.proofs.Steps.{it, len-of, sets, steps, by-values, ref-to, finds-elem, fits-offset, var, len, ptr, fills, lands-in, reaches-elem, lie-at, ends-in, ends-within}
 use Rattle.walks.proofs.Form.{Form, code-of, value, shown, behind, Fulfils, met, calls, Post, exits, Walk, meets-form}
-use Rattle.walks.proofs.Callee.{OfCells, CellsTold, a-value, of-one, on-cells, calls-nothing, calls-one}
+use Rattle.walks.proofs.Callee.{OfRecord, OfCells, CellsTold, a-value, of-one, on-cells, calls-nothing, calls-one}
 use Rattle.walks.proofs.Lent.{lent-as, elem, settles, lends-elem, elem-home}
 
 pub record Shape : Type 2 where
@@ -45,8 +45,8 @@ pub record Shape : Type 2 where
   pub no : Name
   -- what the contracts of place, f and no say
   pub place-of : N .Denot → ℕ
-  pub answer-one : T .D → X .Denot → List (E .Denot) → O .Denot
-  pub record-one : T .D → X .Denot → List (E .Denot) → T .D
+  pub answer-one : OfRecord (T .D) (X .Denot) (E .Denot) (O .Denot)
+  pub record-one : OfRecord (T .D) (X .Denot) (E .Denot) (T .D)
   pub none : O .Denot
   -- what stands past the end, and what g's contract says
   pub empty : T .D

@@ -7,6 +7,7 @@
 --     var, part, len, ptr     what an operand evaluates to: a local, a field of one, the length of a slice, where it begins
 --     fills, lands-in  one step for an assignment to a local that has room, and for the landing of a call's result there
 --     hands-on, takes-firsts, reaches-elem     one step for each of these three
+--     Fill, entered    that values have the types of the first locals, and the context once they are stored
 --     Blocks, enters   one step from a function to its body: the parameters are stored, and every other local has room.        ends-in, ends-within     one step from its `return` to its end: every local is freed
 --     fits-slice, fits-offset     a slice's machine value and the offset of an element have their types
 use mathlib.Core.Path.{_≡_, refl, sym, _∙_, ap, subst}
@@ -188,6 +189,7 @@ filled ls bs [] Γ = rooms ls bs Γ
 filled [] bs (v ∷ vs) Γ = Γ
 filled (local τ h ∷ ls) bs (v ∷ vs) Γ = filled ls (bs .1) vs (‵ (fat fullShare τ (bs .0) zero v) ∷ ‵ (fdies τ (bs .0)) ∷ Γ)
 
+-- the result's local, in front of them, has room
 abbrev pub FillAll : List Local → List Val → Type 0
 FillAll [] vs = ⊥
 FillAll (l ∷ ls) vs = Fill ls vs
