@@ -2,7 +2,7 @@
 //
 // The prover does not cover a function with a record behind a reference. Write such a function in one of the shapes below, statement for statement, with every
 // decision in a function by value, and it is proved by a file that fills in the records Shape and Knows of its theorem and cites `meets`.
-// crates/walked has a function of each shape with that file: copy it, and proofs/Known.antt for the crate's own types.
+// crates/stack, crates/held and crates/session have functions of these shapes with that file, and proofs/Known.antt with what is to be known of the crate's own types.
 //
 // T is a declared struct of plain fields. X, N, K, S, Y, Z, B and O are plain: a number, a bool, a declared struct or enum of such, an array of such. E and G are what a
 // slice can hold, and where they fill a local array they are plain too. Names of locals, fields and functions are free; statements, their order and the order of
@@ -56,6 +56,6 @@
 //                 f1: r ≡ bytes x, a [E; K]    f2: r ≡ many x, with many x ≤ K    f3: r ≡ blank, a [G; L]    f as g of Framed    h: r ≡ told a
 //                 g as g of LendAtPlain
 //
-// Under the theorems: Plain (plain types, a call by value), Told (a call with lifetimes), Callee (three callees that many shapes have), OnRow and OnLine (a function
-// over a lent row and a plain argument, and one with a block and an output beside them: called, or walked), Walk (a row's arithmetic, the freeing of the locals),
-// Lent (a lent row, lent on), LendArray (a local array, lent).
+// Under the theorems: Plain (plain types), Form (a function by the kinds of its parameters: its signature and contract, a call of it, how a walk of it begins and ends), Callee (the forms that
+// several shapes have or call), Steps (the MIR of the shapes in words, with one step for each), Walk (a row's arithmetic, the freeing of the locals), Lent (a lent row or record, lent on),
+// LendArray (a local array, lent), OverRow (a loop over a shared row, left early or not: Every and Fold).
