@@ -1,6 +1,6 @@
 -- The fields of a line, read one after the other, are its words.
 -- Assumes nothing.
-use Prim.Native.Nat.{ℕ, zero, suc, _+_, _<_, _≤_}
+use Prim.Native.Nat.{ℕ, zero, suc, _+_, _-_, _<_, _≤_}
 use native.Mathlib.Nat.{zero-add, add-zero}
 use native.Mathlib.Numerals.{add-one}
 use native.Mathlib.Omega.{arith}
@@ -21,8 +21,8 @@ use Rattle.lines.specs.declared.Rules.{Rules}
 use Rattle.lines.specs.declared.Line.{Line}
 use Rattle.lines.specs.declared.Field.{Field}
 use Rattle.lines.specs.declared.Field.the-variants.{Good, Bad}
-use Rattle.lines.specs.Line.{words, worth, startsWell, isNumber, negative, unsigned, sizeOf, isField, letter, kindOf, rulesOf, isShunt, allFields, obeys, anyNegative, blank, malformed, said, wordsSay}
-use Rattle.lines.specs.Field.{restAt, endAt, front, numberAt, fieldAt}
+use Rattle.lines.specs.Line.{words, worth, startsWell, isNumber, negative, unsigned, sizeOf, isField, letter, kindOf, rulesOf, isShunt, allFields, obeys, anyNegative, blank, malformed, said, wordsSay, lineOf}
+use Rattle.lines.specs.Field.{restAt, endAt, front, numberAt, fieldAt, foundAt}
 use Rattle.lines.proofs.Words.{rest-end, rest-on, end-on, before-long, rest-drop, end-behind}
 use Rattle.lines.proofs.Numbers.{field-in}
 use Rattle.lines.proofs.Fronts.{front-long, number-word, front-or, plain-negative, plain-unsigned}
@@ -91,6 +91,15 @@ field-past largest signed s at {m} {v} {next} e =
     let z : _≡_ {A = ℕ} 0 1 = cc in
     absurd (omega arith)))
     (λ plain. number-past largest false s at (rw plain at f))
+
+-- a line is malformed by its words, or by its length
+pub found-malformed : (s : List ℕ) (at : ℕ) → wordsSay (words (restAt s at)) ≡ malformed → foundAt s at ≡ record { line = malformed; end = endAt s at }
+unfolding foundAt lineOf
+found-malformed s at e = split (leb (length (restAt s at)) 200) (λ t. rw (t, e)) (λ t. rw t)
+
+found-long : (s : List ℕ) (at : ℕ) → 200 < length (restAt s at) → foundAt s at ≡ record { line = malformed; end = endAt s at }
+unfolding foundAt lineOf
+found-long s at h = rw (lt-leb _ _ h)
 
 -- an empty word is left, which is no field
 wrong-line : (r : Rules) (k : Kind) (m : Bool) (n : ℕ) (numbers : List ℕ) → lineFrom r k m n numbers ([] ∷ []) ≡ malformed
@@ -180,19 +189,39 @@ module _ (r : Rules) (k : Kind) (m : Bool) (n : ℕ) (numbers : List ℕ) where
     unfolding behind
     after-other p q = rw (rest-on s at here p, ne-eqb b 32 q) (from-wrong [] [] (no-field _ _))
 
-    -- where no space is, the line is at its end with all its fields, or malformed
-    module _ (inside : b ≡ 32 → ⊥) (few : n ≤ r .most) where
-      pub after-wrong : (not (eqb b 10) || ltb n (r .head)) ≡ true → lineFrom r k m n numbers (behind 32 (restAt s at)) ≡ malformed
-      after-wrong h =
-          split (eqb b 10)
-          (λ t. after-end (eqb-true b 10 t) few ∙ rw (lt-leb (r .head) n (ltb-true n (r .head) (rw t at h))))
-          (λ t. after-other (eqb-false b 10 t) inside)
+    -- where no space is, the line is at its end with all its fields and is not too long, or malformed
+    module _ (start : ℕ) (inside : b ≡ 32 → ⊥) (few : n ≤ r .most) (from : start ≤ at) (stays : endAt s at ≡ endAt s start)
+        (says : wordsSay (words (restAt s start)) ≡ lineFrom r k m n numbers (behind 32 (restAt s at))) where
+      -- at a newline the line has as many bytes as were passed, and ends here
+      ends-here : b ≡ 10 → endAt s start ≡ at
+      ends-here e = let here-ends : endAt s at ≡ at = rw (rest-end s at here e) (omega arith) in omega (arith, here-ends, stays)
 
-      pub after-right : (not (eqb b 10) || ltb n (r .head)) ≡ false
-          → lineFrom r k m n numbers (behind 32 (restAt s at)) ≡ record { kind = k; minus = m; count = n; numbers = numbers }
-      after-right h =
+      pub found-wrong : ((not (eqb b 10) || ltb n (r .head)) || ltb 200 (at - start)) ≡ true → foundAt s start ≡ record { line = malformed; end = endAt s start }
+      found-wrong h =
           split (eqb b 10)
-          (λ t. after-end (eqb-true b 10 t) few ∙ rw (le-leb (r .head) n (ltb-false n (r .head) (rw t at h))))
+          (λ t.
+          let e = eqb-true b 10 t in
+          let g : (ltb n (r .head) || ltb 200 (at - start)) ≡ true = rw t at h in
+          split (ltb n (r .head))
+          (λ u. found-malformed s start (says ∙ after-end e few ∙ rw (lt-leb (r .head) n (ltb-true n (r .head) u))))
+          (λ u. found-long s start (omega (arith, ends-here e, ltb-true 200 (at - start) (rw u at g)))))
+          (λ t. found-malformed s start (says ∙ after-other (eqb-false b 10 t) inside))
+
+      pub found-right : ((not (eqb b 10) || ltb n (r .head)) || ltb 200 (at - start)) ≡ false
+          → foundAt s start ≡ record { line = record { kind = k; minus = m; count = n; numbers = numbers }; end = at }
+      unfolding foundAt lineOf
+      found-right h =
+          split (eqb b 10)
+          (λ t.
+          let e = eqb-true b 10 t in
+          let g : (ltb n (r .head) || ltb 200 (at - start)) ≡ false = rw t at h in
+          split (ltb n (r .head))
+          (λ u. absurd (true≢false (rw u at g)))
+          (λ u.
+          let short : length (restAt s start) ≤ 200 = omega (arith, ends-here e, from, ltb-false 200 (at - start) (rw u at g)) in
+          let line : wordsSay (words (restAt s start)) ≡ record { kind = k; minus = m; count = n; numbers = numbers } =
+          says ∙ after-end e few ∙ rw (le-leb (r .head) n (ltb-false n (r .head) u)) in
+          rw (le-leb _ _ short, line, ends-here e)))
           (λ t. absurd (true≢false (rw t at h)))
 
     -- at a space

@@ -1,8 +1,7 @@
 -- What the code reads at a place of some bytes: the rest of a line, a number or a field in front of it, and the whole line.
 -- Assumes nothing.
-use Prim.Native.Nat.{ℕ, _+_, _≤_}
+use Prim.Native.Nat.{ℕ, _+_}
 use Prim.Native.Char.{code}
-use mathlib.Core.Path.{_≡_}
 use mathlib.Core.Bool.{Bool, true, false, cond, not, _&&_}
 use mathlib.Core.List.{List, [], _∷_}
 use lib.Dec.{eqb, leb}
@@ -11,7 +10,7 @@ use Rattle.cutter.specs.Lines.{upTo}
 use Rattle.lines.specs.declared.Field.{Field}
 use Rattle.lines.specs.declared.Field.the-variants.{Good, Bad}
 use Rattle.lines.specs.declared.Found.{Found}
-use Rattle.lines.specs.Line.{words, isDigit, worth, isNumber, wordsSay, lineOf}
+use Rattle.lines.specs.Line.{isDigit, worth, isNumber, lineOf}
 
 -- the line from a place on, and where it ends
 abbrev pub restAt : List ℕ → ℕ → List ℕ
@@ -45,12 +44,6 @@ unfoldable pub fieldAt : ℕ → Bool → ℕ → List ℕ → Field
 fieldAt largest signed at [] = Bad
 fieldAt largest signed at (b ∷ t) =
     cond (eqb b (code "-")) (cond signed (numberAt largest true (at + 1) t) Bad) (numberAt largest false at (b ∷ t))
-
--- what the words of a line say, read up to a place that is still in the line
-pub record Told (s : List ℕ) (at : ℕ) (r : Found) : Type 0 where
-  pub says : r .line ≡ wordsSay (words (restAt s at))
-  pub from : at ≤ r .end
-  pub stays : endAt s (r .end) ≡ endAt s at
 
 -- the line that begins at a place
 unfoldable pub foundAt : List ℕ → ℕ → Found

@@ -3,7 +3,7 @@ ghost use mathlib.Core.Path.{_≡_};
 ghost use Prim.Native.Nat.{_≤_};
 ghost use lib.ListN.{getD};
 ghost use Rattle.lines.specs.Line.{isDigit, letter, rulesOf, blank, malformed, lineOf};
-ghost use Rattle.lines.specs.Field.{restAt, digitsFrom, numberAt, fieldAt, Told, foundAt};
+ghost use Rattle.lines.specs.Field.{restAt, endAt, digitsFrom, numberAt, fieldAt, foundAt};
 
 pub enum Kind {
     Open,
@@ -159,7 +159,7 @@ fn number_at(s: &[u8], at: usize, largest: u32, minus: bool) -> Field
     Field::Bad
 }
 
-// The field that begins here; a minus sign only where one may stand. Its word has to end behind it, which words_at sees.
+// The field that begins here; a minus sign only where one may stand. Its word has to end behind it, which line_at sees.
 fn field_at(s: &[u8], at: usize, largest: u32, signed: bool) -> Field
     requires { ⌜ 9 ≤ largest ⌝ }
     ensures { λ r. ⌜ r ≡ fieldAt largest signed at (restAt (now (s .entry)) at) ⌝ }
@@ -194,23 +194,23 @@ fn malformed_line() -> Line
     }
 }
 
-// A malformed line, read up to this place.
-fn malformed_at(at: usize) -> Found
-    ensures { λ r. ⌜ r ≡ record { line = malformed; end = at } ⌝ }
+// A malformed line that is read up to this place.
+fn malformed_from(s: &[u8], at: usize) -> Found
+    ensures { λ r. ⌜ r ≡ record { line = malformed; end = endAt (now (s .entry)) at } ⌝ }
 {
     Found {
         line: malformed_line(),
-        end: at,
+        end: cutter::line_end(s, at),
     }
 }
 
-// The line by its words: a letter, and behind each space a field, up to the newline.
-fn words_at(s: &[u8], start: usize) -> Found
-    ensures { λ r. ⌜ Told (now (s .entry)) start r ⌝ }
+// The line that begins here: a letter, and behind each space a field, up to the newline. One of more than 200 bytes is malformed.
+pub fn line_at(s: &[u8], start: usize) -> Found
+    ensures { λ r. ⌜ r ≡ foundAt (now (s .entry)) start ⌝ }
 {
     let first = byte_at(s, start);
     if first == 10 {
-        return malformed_at(start);
+        return malformed_from(s, start);
     }
     let kind = kind_of(first);
     let rules = rules_of(kind);
@@ -221,8 +221,8 @@ fn words_at(s: &[u8], start: usize) -> Found
     loop {
         let b = byte_at(s, at);
         if b != b' ' {
-            if (b != 10) | (n < rules.head) {
-                return malformed_at(at);
+            if (b != 10) | (n < rules.head) | (200 < at - start) {
+                return malformed_from(s, at);
             }
             return Found {
                 line: Line {
@@ -235,11 +235,11 @@ fn words_at(s: &[u8], start: usize) -> Found
             };
         }
         if rules.most <= n {
-            return malformed_at(at);
+            return malformed_from(s, at);
         }
         match field_at(s, at + 1, rules.largest, n + 1 == rules.head) {
             Field::Bad => {
-                return malformed_at(at);
+                return malformed_from(s, at);
             }
             Field::Good {
                 minus: m,
@@ -255,19 +255,6 @@ fn words_at(s: &[u8], start: usize) -> Found
             }
         }
     }
-}
-
-// The line that begins here; one of more than 200 bytes is malformed, whatever they are.
-pub fn line_at(s: &[u8], at: usize) -> Found
-    ensures { λ r. ⌜ r ≡ foundAt (now (s .entry)) at ⌝ }
-{
-    let mut found = words_at(s, at);
-    let end = cutter::line_end(s, found.end);
-    if 200 < end - at {
-        return malformed_at(end);
-    }
-    found.end = end;
-    found
 }
 
 // What all the bytes say as one line; with a newline among them they are none.
