@@ -9,12 +9,14 @@ use refusal::Refusal;
 use settings::Settings;
 
 // The runs of the two current conditions.
+#[repr(C)]
 pub struct Currents {
     pub ocd: u32,
     pub scd: u32,
 }
 
 // A board's record. The latches are the low five bits of register 0, and the flagged cells a number.
+#[repr(C)]
 pub struct Board {
     pub count: u8,
     pub latches: u8,
@@ -27,6 +29,7 @@ pub struct Board {
 }
 
 // What a sample reads beside the cells.
+#[repr(C)]
 pub struct Readings {
     pub elapsed: u32,
     pub shunt: i32,

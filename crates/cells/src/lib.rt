@@ -7,6 +7,7 @@ ghost use Rattle.cells.specs.Bleed.{bleedNext, markNext};
 use settings::Settings;
 
 // What a board keeps of one cell: the runs of its OV and UV conditions.
+#[repr(C)]
 pub struct Cell {
     pub ov: u32,
     pub uv: u32,

@@ -1,0 +1,6 @@
+pub mod Known
+pub mod OnPlace
+pub mod TellsRow
+pub mod TellsOne
+pub mod TellsBeside
+pub mod NumbersFrame

@@ -1,0 +1,168 @@
+// The public library for C (`rt staticlib adomvik`; include/adomvik.h): each act over records and lists that the caller lends.
+// The result is the number of the refusal (01, Refusal numbers), or 0; an answer goes to a lent place, which a refusal leaves alone.
+ghost use mathlib.Core.Path.{_≡_};
+ghost use Rattle.stack.specs.Sample.{sampleRow};
+ghost use Rattle.stack.specs.Frame.{frameRow, frameBuffer};
+ghost use Rattle.board.specs.Sample.{sampleOf};
+ghost use Rattle.marks.specs.Marks.{bit};
+ghost use Rattle.adomvik.specs.Told.{toldSample, toldReading, numberOfReply};
+ghost use Rattle.adomvik.specs.Acts.{sampleNumber, sampleOut, boardNumber, boardOut, frameNumber, readNumber, readOut};
+use board::Answer;
+use board::Board;
+use board::Readings;
+use frame::Reply;
+use stack::View;
+
+// An accepted sample: register 0, and the bled cells as a number.
+#[repr(C)]
+pub struct Sampled {
+    pub status: u8,
+    pub bled: u16,
+}
+
+// A whole-stack reading: the line and the switches as 1 or 0, and the flagged cell.
+#[repr(C)]
+pub struct Reading {
+    pub line: u8,
+    pub chg: u8,
+    pub dsg: u8,
+    pub board: u8,
+    pub cell: u8,
+}
+
+// ---- what an answer puts into its place, and its number
+
+struct ToldSample {
+    out: Sampled,
+    number: u8,
+}
+
+fn told_sample(out: Sampled, a: Answer) -> ToldSample
+    ensures { λ r. ⌜ r ≡ toldSample out a ⌝ }
+{
+    match a {
+        Answer::Sampled { status, bled } => {
+            let next = Sampled {
+                status: status,
+                bled: bled,
+            };
+            ToldSample {
+                out: next,
+                number: 0,
+            }
+        }
+        Answer::Refused(why) => ToldSample {
+            out: out,
+            number: refusal::number(why),
+        },
+    }
+}
+
+fn tell_sample(out: &mut Sampled, a: Answer) -> u8
+    ensures { λ r. ⌜ (r ≡ toldSample (now (out .entry)) a .number) × (now (out .exit) ≡ toldSample (now (out .entry)) a .out) ⌝ }
+{
+    let s = told_sample(*out, a);
+    *out = s.out;
+    s.number
+}
+
+struct ToldReading {
+    out: Reading,
+    number: u8,
+}
+
+fn byte_of(b: bool) -> u8
+    ensures { λ r. ⌜ r ≡ bit b ⌝ }
+{
+    if b { 1 } else { 0 }
+}
+
+fn told_reading(out: Reading, v: View) -> ToldReading
+    ensures { λ r. ⌜ r ≡ toldReading out v ⌝ }
+{
+    match v {
+        View::Read(whole) => {
+            let next = Reading {
+                line: byte_of(whole.line),
+                chg: byte_of(whole.chg),
+                dsg: byte_of(whole.dsg),
+                board: whole.flagged.board,
+                cell: whole.flagged.cell,
+            };
+            ToldReading {
+                out: next,
+                number: 0,
+            }
+        }
+        View::Refused(why) => ToldReading {
+            out: out,
+            number: refusal::number(why),
+        },
+    }
+}
+
+fn tell_reading(out: &mut Reading, v: View) -> u8
+    ensures { λ r. ⌜ (r ≡ toldReading (now (out .entry)) v .number) × (now (out .exit) ≡ toldReading (now (out .entry)) v .out) ⌝ }
+{
+    let s = told_reading(*out, v);
+    *out = s.out;
+    s.number
+}
+
+fn reply_number(a: Reply) -> u8
+    ensures { λ r. ⌜ r ≡ numberOfReply a ⌝ }
+{
+    match a {
+        Reply::Replied { .. } => 0,
+        Reply::Refused(why) => refusal::number(why),
+    }
+}
+
+// ---- the acts
+
+// A sample of one board of the row.
+#[no_mangle]
+pub extern "C" fn adomvik_sample(
+    row: &mut [Board],
+    board: u32,
+    x: Readings,
+    cells: &[u32],
+    out: &mut Sampled,
+) -> u8
+    ensures { λ r. ⌜ (r ≡ sampleNumber (now (row .entry)) board x (now (cells .entry))) × ((now (row .exit) ≡ sampleRow (now (row .entry)) board x (now (cells .entry))) × (now (out .exit) ≡ sampleOut (now (row .entry)) board x (now (cells .entry)) (now (out .entry)))) ⌝ }
+{
+    let a = stack::sample_stack(row, board, x, cells);
+    tell_sample(out, a)
+}
+
+// A sample of one record that is lent by itself.
+#[no_mangle]
+pub extern "C" fn adomvik_sample_board(
+    b: &mut Board,
+    x: Readings,
+    cells: &[u32],
+    out: &mut Sampled,
+) -> u8
+    ensures { λ r. ⌜ (r ≡ boardNumber (now (b .entry)) x (now (cells .entry))) × ((now (b .exit) ≡ sampleOf (now (b .entry)) x (now (cells .entry)) .board) × (now (out .exit) ≡ boardOut (now (b .entry)) x (now (cells .entry)) (now (out .entry)))) ⌝ }
+{
+    let a = stack::sample_board(b, x, cells);
+    tell_sample(out, a)
+}
+
+// A frame from the host, its reply in the lent buffer.
+#[no_mangle]
+pub extern "C" fn adomvik_frame(row: &mut [Board], bytes: &[u8], reply: &mut [u8]) -> u8
+    ensures { λ r. ⌜ (r ≡ frameNumber (now (row .entry)) (now (bytes .entry)) (now (reply .entry))) × ((now (row .exit) ≡ frameRow (now (row .entry)) (now (bytes .entry)) (now (reply .entry))) × (now (reply .exit) ≡ frameBuffer (now (row .entry)) (now (bytes .entry)) (now (reply .entry)))) ⌝ }
+{
+    let a = stack::frame_stack(row, bytes, reply);
+    reply_number(a)
+}
+
+// The whole-stack reading.
+#[no_mangle]
+pub extern "C" fn adomvik_read(row: &[Board], out: &mut Reading) -> u8
+    ensures { λ r. ⌜ (r ≡ readNumber (now (row .entry))) × (now (out .exit) ≡ readOut (now (row .entry)) (now (out .entry))) ⌝ }
+{
+    let v = stack::read_stack(row);
+    tell_reading(out, v)
+}
