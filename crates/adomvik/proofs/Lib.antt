@@ -8,3 +8,4 @@ pub mod Filling
 pub mod Opening
 pub mod Fills
 pub mod FillShape
+pub mod Laws
