@@ -39,21 +39,21 @@ module _ (b : Board) (x : Readings) (mv : List ℕ) (q : quietOf b x mv ≡ true
   after₂ = easy b x && after₃
 
   abbrev after₁ : Bool
-  after₁ = idle b && after₂
+  after₁ = calmly && after₂
 
-  calm : calmly ≡ true
+  nothing-kept : (clear b && idle b) ≡ true
   unfolding quietOf
-  calm = both calmly (clear b && after₁) q .0
-
-  rest₀ : (clear b && after₁) ≡ true
-  unfolding quietOf
-  rest₀ = both calmly (clear b && after₁) q .1
+  nothing-kept = both (clear b && idle b) after₁ q .0
 
   rest₁ : after₁ ≡ true
-  rest₁ = both (clear b) after₁ rest₀ .1
+  unfolding quietOf
+  rest₁ = both (clear b && idle b) after₁ q .1
+
+  calm : calmly ≡ true
+  calm = both calmly after₂ rest₁ .0
 
   rest₂ : after₂ ≡ true
-  rest₂ = both (idle b) after₂ rest₁ .1
+  rest₂ = both calmly after₂ rest₁ .1
 
   rest₃ : after₃ ≡ true
   rest₃ = both (easy b x) after₃ rest₂ .1
@@ -62,16 +62,16 @@ module _ (b : Board) (x : Readings) (mv : List ℕ) (q : quietOf b x mv ≡ true
   rest₄ = both (warm x) after₄ rest₃ .1
 
   no-latch : b .latches ≡ 0
-  no-latch = eqb-true (b .latches) 0 (both (eqb (b .latches) 0) (eqb (b .flags) 0) (both (clear b) after₁ rest₀ .0) .0)
+  no-latch = eqb-true (b .latches) 0 (both (eqb (b .latches) 0) (eqb (b .flags) 0) (both (clear b) (idle b) nothing-kept .0) .0)
 
   no-flag : b .flags ≡ 0
-  no-flag = eqb-true (b .flags) 0 (both (eqb (b .latches) 0) (eqb (b .flags) 0) (both (clear b) after₁ rest₀ .0) .1)
+  no-flag = eqb-true (b .flags) 0 (both (eqb (b .latches) 0) (eqb (b .flags) 0) (both (clear b) (idle b) nothing-kept .0) .1)
 
   no-ocd-run : b .currents .ocd ≡ 0
-  no-ocd-run = eqb-true (b .currents .ocd) 0 (both (eqb (b .currents .ocd) 0) (eqb (b .currents .scd) 0) (both (idle b) after₂ rest₁ .0) .0)
+  no-ocd-run = eqb-true (b .currents .ocd) 0 (both (eqb (b .currents .ocd) 0) (eqb (b .currents .scd) 0) (both (clear b) (idle b) nothing-kept .1) .0)
 
   no-scd-run : b .currents .scd ≡ 0
-  no-scd-run = eqb-true (b .currents .scd) 0 (both (eqb (b .currents .ocd) 0) (eqb (b .currents .scd) 0) (both (idle b) after₂ rest₁ .0) .1)
+  no-scd-run = eqb-true (b .currents .scd) 0 (both (eqb (b .currents .ocd) 0) (eqb (b .currents .scd) 0) (both (clear b) (idle b) nothing-kept .1) .1)
 
   abbrev over-ocd : Bool
   over-ocd = shuntAbove (ocdLevel (b .working)) (x .shunt)

@@ -155,4 +155,4 @@ abbrev pub warm : Readings → Bool
 warm x = not (hot x) && not (ltb 5000 (x .thermistor))
 
 unfoldable pub quietOf : Board → Readings → List ℕ → Bool
-quietOf b x mv = calmOf (b .working) (b .cells) mv && (clear b && (idle b && (easy b x && (warm x && (not (shuntOutside (x .shunt)) && not (ltb 1 (x .load)))))))
+quietOf b x mv = (clear b && idle b) && (calmOf (b .working) (b .cells) mv && (easy b x && (warm x && (not (shuntOutside (x .shunt)) && not (ltb 1 (x .load))))))

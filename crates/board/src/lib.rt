@@ -156,19 +156,22 @@ fn out_of_range(x: Readings, mv: &[u32]) -> bool
     !readable | (5000 < x.thermistor) | outside | (1 < x.load)
 }
 
-// A sample that finds nothing, on a board that has nothing on record: it changes nothing.
+// A sample that finds nothing, on a board that has nothing on record: it changes nothing. The record is looked at first.
 fn quiet(b: Board, x: Readings, mv: &[u32]) -> bool
     ensures { λ r. ⌜ r ≡ quietOf b x (now (mv .entry)) ⌝ }
 {
-    let cells = b.cells;
-    let calm = cells::calm(b.working, cells, mv);
-    let over_ocd = shunt_above(x.shunt, b.working.ocd_level());
-    let over_scd = shunt_above(x.shunt, b.working.scd_level());
-    let outside = shunt_outside(x.shunt);
     let clear = (b.latches == 0) & (b.flags == 0);
     let idle = (b.currents.ocd == 0) & (b.currents.scd == 0);
-    let warm = !(x.thermistor < 975) & !(5000 < x.thermistor);
-    calm & (clear & (idle & ((!over_ocd & !over_scd) & (warm & (!outside & !(1 < x.load))))))
+    if clear & idle {
+        let cells = b.cells;
+        let calm = cells::calm(b.working, cells, mv);
+        let over_ocd = shunt_above(x.shunt, b.working.ocd_level());
+        let over_scd = shunt_above(x.shunt, b.working.scd_level());
+        let outside = shunt_outside(x.shunt);
+        let warm = !(x.thermistor < 975) & !(5000 < x.thermistor);
+        return calm & ((!over_ocd & !over_scd) & (warm & (!outside & !(1 < x.load))));
+    }
+    false
 }
 
 // A sample of one board.

@@ -26,16 +26,21 @@ shunt-outside-requires c κs = search needs
 returns : tie.Need-returns
 unfolding quietOf
 returns c =
-    let c7 = c .before .before .before .before .before .before .before in
-    let c9 = c7 .before .before in
-    let c11 = c9 .before .before in
-    let c12 = c11 .before in
-    let c13 = c12 .before in
-    let c14 = c13 .before in
-    let c15 = c14 .before in
-    let a = c15 .before .before .before .args in
-    let back = toZ-ofZ {w = w32} {z = a .x .shunt} (record { sfits = c13 .struct-told .given .1 .0 .1 }) in
-    rw (c15 .calm .ensures, c12 .shunt-above .ensures, c14 .ocd-level .ensures, c9 .shunt-above2 .ensures, c11 .scd-level .ensures, c7 .shunt-outside .ensures, back)
+    let c3 = c .before .before .before in
+    let c5 = c3 .before .before in
+    let c7 = c5 .before .before in
+    let c8 = c7 .before in
+    let c9 = c8 .before in
+    let c10 = c9 .before in
+    let c11 = c10 .before in
+    let c13 = c11 .before .before in
+    let a = c13 .before .before .before .before .before .before .args in
+    let back = toZ-ofZ {w = w32} {z = a .x .shunt} (record { sfits = c9 .struct-told .given .1 .0 .1 }) in
+    rw (c13 .if1 .taken, c11 .calm .ensures, c8 .shunt-above .ensures, c10 .ocd-level .ensures, c5 .shunt-above2 .ensures, c7 .scd-level .ensures, c3 .shunt-outside .ensures, back)
+
+returns-2 : tie.Need-returns-2
+unfolding quietOf
+returns-2 c = rw (c .if1 .left)
 
 pub quiet-spec : {M : Type 1} → statement M
 quiet-spec =
@@ -47,4 +52,5 @@ quiet-spec =
     scd-level-requires
     shunt-above-requires-2
     shunt-outside-requires
-    returns)
+    returns
+    returns-2)
