@@ -11,10 +11,12 @@ use mathlib.Core.List.{List, [], _∷_}
 use lib.Dec.{eqb}
 use lib.ListN.{length, getD, take, drop, length-take, length-map, length-drop, drop-of-length-le, List·getD-map}
 use lib.Seq.{drop-cons, getD-take}
+use borrow.Author.Tests.{eqb-true}
+use Rattle.lists.proofs.Split.{split}
 use Rattle.marks.specs.Marks.{bit, number, marked, marks, lowest}
-use Rattle.marks.proofs.Laws.{marks-length, marks-at, marks-number, number-below, number-down, number-none, lowest-turn, lowest-none}
+use Rattle.marks.proofs.Laws.{marks-length, marks-at, marks-number, number-below, number-down, number-none, lowest-turn, lowest-none, lowest-zero}
 use Rattle.reading.specs.declared.Summary.{Summary}
-use Rattle.reading.specs.Reading.{lineUp, latchedOf, up, every, lowestFlagged, place, firstFlagged}
+use Rattle.reading.specs.Reading.{lineUp, latchedOf, up, searchedOf, every, lowestFlagged, place, firstFlagged}
 
 -- what is read past the row's end
 abbrev pub blank : Summary
@@ -94,3 +96,18 @@ cell-turn b j p =
 
 pub cell-none : (b : Summary) (j : ℕ) → b .count ≤ j → lowest (j + 1) (drop j (marks (b .count) (b .flags))) ≡ 0
 cell-none b j p = lowest-none (j + 1) (marks (b .count) (b .flags)) j (rw (marks-length (b .count) (b .flags)) p)
+
+-- a search that ends at the last cell that is searched has found none
+none-flagged : (n : ℕ) → number (marks n 0) ≡ 0
+unfolding number marks
+none-flagged zero = refl
+none-flagged (suc n) = rw (none-flagged n)
+
+unflagged-none : (b : Summary) → b .flags ≡ 0 → lowestFlagged b ≡ 0
+unflagged-none b e = rw e (eqb-true (lowest 1 (marks (b .count) 0)) 0 (lowest-zero 0 (marks (b .count) 0) ∙ rw (none-flagged (b .count))))
+
+pub searched-within : (b : Summary) → searchedOf b ≤ b .count
+searched-within b = split (eqb (b .flags) 0) (λ e. rw e (omega arith)) (λ e. rw e (omega arith))
+
+pub search-none : (b : Summary) (j : ℕ) → searchedOf b ≤ j → lowestFlagged b ≡ lowest (j + 1) (drop j (marks (b .count) (b .flags))) → lowestFlagged b ≡ 0
+search-none b j p e = split (eqb (b .flags) 0) (λ f. unflagged-none b (eqb-true (b .flags) 0 f)) (λ f. e ∙ cell-none b j (rw f at p))

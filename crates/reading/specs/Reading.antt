@@ -72,3 +72,7 @@ latchedOf boards = map (λ board. board .latched) boards
 unfoldable pub up : List Bool → Bool
 up [] = false
 up (latched ∷ north) = latched || up north
+
+-- a board without a flagged cell need not be searched
+abbrev pub searchedOf : Summary → ℕ
+searchedOf board = cond (eqb (board .flags) 0) 0 (board .count)

@@ -3,7 +3,7 @@ ghost use mathlib.Core.Path.{_≡_};
 ghost use Prim.Native.Nat.{min, _+_, _*_, _<_};
 ghost use lib.ListN.{take};
 ghost use Rattle.marks.specs.Marks.{bit, number, marks};
-ghost use Rattle.reading.specs.Reading.{summaryOf, up, latchedOf, packOf, firstFlagged, readOf};
+ghost use Rattle.reading.specs.Reading.{summaryOf, up, latchedOf, searchedOf, packOf, firstFlagged, readOf};
 use board::Board;
 
 // What the reading takes from one board; the flagged cells as a number.
@@ -106,6 +106,13 @@ fn pack_on(boards: [Summary; 16], n: usize) -> Pack
     Pack { chg: chg, dsg: dsg }
 }
 
+// How many cells of a board are searched for a flagged one.
+fn searched(b: Summary) -> u8
+    ensures { λ r. ⌜ r ≡ searchedOf b ⌝ }
+{
+    if b.flags == 0 { 0 } else { b.count }
+}
+
 // The southernmost board with a flagged cell, and the lowest such cell on it: the first one found ends both loops.
 fn first_flagged(boards: [Summary; 16], n: usize) -> Place
     ensures { λ r. ⌜ r ≡ firstFlagged 1 (take n boards) ⌝ }
@@ -116,9 +123,10 @@ fn first_flagged(boards: [Summary; 16], n: usize) -> Place
     let mut i = 0;
     'boards: while i < rows {
         let b = boards[i];
+        let top = searched(b);
         // below the count, so a cell's number fits its byte
         let mut j = 0;
-        while j < b.count {
+        while j < top {
             if marks::mark_at(b.flags, j as usize) {
                 board = i as u8 + 1;
                 cell = j + 1;
