@@ -12,7 +12,7 @@ use Rattle.settings.specs.Levels.{factory, ocdLevel, scdLevel}
 use Rattle.settings.specs.Faults.{Fault, SCD, OCD, OV, UV, OT, delay}
 use Rattle.runs.specs.Kept.{runNext, stood}
 use Rattle.cells.specs.declared.Swept.{Swept}
-use Rattle.cells.specs.Cells.{sweepOf, noCells, readable}
+use Rattle.cells.specs.Cells.{sweepOf, noCells, readable, calmOf}
 use Rattle.board.specs.declared.Board.{Board}
 use Rattle.board.specs.declared.Currents.{Currents}
 use Rattle.latches.specs.declared.Latches.{Latches}
@@ -140,3 +140,19 @@ sampleOf b x mv =
       board = kept (sampleBars b x mv) b (boardNext b x mv);
       answer = answerSaying (judged (sampleBars b x mv) (sampleValues b x mv));
     }
+
+-- ---- on the way: a sample that finds nothing, on a board that has nothing on record
+abbrev pub clear : Board → Bool
+clear b = eqb (b .latches) 0 && eqb (b .flags) 0
+
+abbrev pub idle : Board → Bool
+idle b = eqb (b .currents .ocd) 0 && eqb (b .currents .scd) 0
+
+abbrev pub easy : Board → Readings → Bool
+easy b x = not (shuntAbove (ocdLevel (b .working)) (x .shunt)) && not (shuntAbove (scdLevel (b .working)) (x .shunt))
+
+abbrev pub warm : Readings → Bool
+warm x = not (hot x) && not (ltb 5000 (x .thermistor))
+
+unfoldable pub quietOf : Board → Readings → List ℕ → Bool
+quietOf b x mv = (clear b && idle b) && (calmOf (b .working) (b .cells) mv && (easy b x && (warm x && (not (shuntOutside (x .shunt)) && not (ltb 1 (x .load))))))

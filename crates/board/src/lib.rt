@@ -1,7 +1,7 @@
 // One board by value: its record, and a sample of it (01, The stack and its readings; When a fault latches and lets go).
 ghost use mathlib.Core.Path.{_≡_};
 ghost use Rattle.board.specs.Shunt.{shuntAbove, shuntOutside};
-ghost use Rattle.board.specs.Sample.{fresh, currentsNext, latchesNext, acceptedOf, outOfRange, sampleOf};
+ghost use Rattle.board.specs.Sample.{fresh, currentsNext, latchesNext, acceptedOf, outOfRange, quietOf, sampleOf};
 use cells::Cell;
 use cells::Swept;
 use latches::Latches;
@@ -9,12 +9,14 @@ use refusal::Refusal;
 use settings::Settings;
 
 // The runs of the two current conditions.
+#[repr(C)]
 pub struct Currents {
     pub ocd: u32,
     pub scd: u32,
 }
 
 // A board's record. The latches are the low five bits of register 0, and the flagged cells a number.
+#[repr(C)]
 pub struct Board {
     pub count: u8,
     pub latches: u8,
@@ -27,6 +29,7 @@ pub struct Board {
 }
 
 // What a sample reads beside the cells.
+#[repr(C)]
 pub struct Readings {
     pub elapsed: u32,
     pub shunt: i32,
@@ -153,6 +156,24 @@ fn out_of_range(x: Readings, mv: &[u32]) -> bool
     !readable | (5000 < x.thermistor) | outside | (1 < x.load)
 }
 
+// A sample that finds nothing, on a board that has nothing on record: it changes nothing. The record is looked at first.
+fn quiet(b: Board, x: Readings, mv: &[u32]) -> bool
+    ensures { λ r. ⌜ r ≡ quietOf b x (now (mv .entry)) ⌝ }
+{
+    let clear = (b.latches == 0) & (b.flags == 0);
+    let idle = (b.currents.ocd == 0) & (b.currents.scd == 0);
+    if clear & idle {
+        let cells = b.cells;
+        let calm = cells::calm(b.working, cells, mv);
+        let over_ocd = shunt_above(x.shunt, b.working.ocd_level());
+        let over_scd = shunt_above(x.shunt, b.working.scd_level());
+        let outside = shunt_outside(x.shunt);
+        let warm = !(x.thermistor < 975) & !(5000 < x.thermistor);
+        return calm & ((!over_ocd & !over_scd) & (warm & (!outside & !(1 < x.load))));
+    }
+    false
+}
+
 // A sample of one board.
 pub fn sample(b: Board, x: Readings, mv: &[u32]) -> Stepped
     ensures { λ r. ⌜ r ≡ sampleOf b x (now (mv .entry)) ⌝ }
@@ -166,6 +187,15 @@ pub fn sample(b: Board, x: Readings, mv: &[u32]) -> Stepped
     }
     if (x.elapsed < 1) | (100000 < x.elapsed) {
         return refuse(b, Refusal::Elapsed);
+    }
+    if quiet(b, x, mv) {
+        return Stepped {
+            board: b,
+            answer: Answer::Sampled {
+                status: 192,
+                bled: 0,
+            },
+        };
     }
     if out_of_range(x, mv) {
         return refuse(b, Refusal::OutOfRange);

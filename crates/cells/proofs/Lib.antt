@@ -2,3 +2,4 @@ pub mod Each
 pub mod Bleed
 pub mod Gather
 pub mod Laws
+pub mod Stays

@@ -3,7 +3,7 @@
 use Prim.Native.Nat.{ℕ, min}
 use mathlib.Core.Bool.{Bool, not, _&&_, _||_}
 use mathlib.Core.List.{List, [], _∷_, _++_}
-use lib.Dec.{ltb, leb}
+use lib.Dec.{ltb, leb, eqb}
 use lib.ListN.{length, getD, drop, replicate}
 use Rattle.lists.specs.Every.{every}
 use Rattle.settings.specs.declared.Settings.{Settings}
@@ -92,3 +92,19 @@ noCells = replicate 10 (record { ov = 0; uv = 0 })
 -- no cell reads above 5,000 mV
 abbrev pub readable : List ℕ → Bool
 readable mv = every (λ v. leb v 5000) mv
+
+-- nothing is the matter with the ten cells that a board keeps, nor was before: no run, and each reading where OV and UV let go
+abbrev pub noRun : Cell → Bool
+noRun c = eqb (c .ov) 0 && eqb (c .uv) 0
+
+abbrev pub noRuns : List Cell → Bool
+noRuns cells = every noRun cells
+
+abbrev pub between : ℕ → ℕ → ℕ → Bool
+between low high v = ltb low v && ltb v high
+
+abbrev pub allBetween : ℕ → ℕ → List ℕ → Bool
+allBetween low high mv = every (between low high) mv
+
+unfoldable pub calmOf : Settings → List Cell → List ℕ → Bool
+calmOf s cells mv = eqb (length cells) 10 && (noRuns cells && allBetween (uvRelease s) (ovRelease s) mv)

@@ -2,11 +2,12 @@
 // (01, When a fault latches and lets go; Bleeding).
 ghost use mathlib.Core.Path.{_≡_};
 ghost use Prim.Native.Nat.{min, _<_};
-ghost use Rattle.cells.specs.Cells.{cellBy, flagBy, sweepOf, noCells, readable};
+ghost use Rattle.cells.specs.Cells.{cellBy, flagBy, sweepOf, noCells, readable, noRuns, allBetween, calmOf};
 ghost use Rattle.cells.specs.Bleed.{bleedNext, markNext};
 use settings::Settings;
 
 // What a board keeps of one cell: the runs of its OV and UV conditions.
+#[repr(C)]
 pub struct Cell {
     pub ov: u32,
     pub uv: u32,
@@ -104,6 +105,41 @@ pub fn sweep(s: Settings, elapsed: u32, cells: [Cell; 10], flags: u16, mv: &[u32
         uv_stood: uv_stood,
         uv_lets_go: uv_lets_go,
     }
+}
+
+// No cell has a run.
+fn no_runs(cells: [Cell; 10]) -> bool
+    ensures { λ r. ⌜ r ≡ noRuns cells ⌝ }
+{
+    let mut none = true;
+    let mut i = 0;
+    while i < 10 {
+        let c = cells[i];
+        none = none & ((c.ov == 0) & (c.uv == 0));
+        i += 1;
+    }
+    none
+}
+
+// Every cell reads where OV and UV let go.
+fn all_let_go(low: u32, high: u32, mv: &[u32]) -> bool
+    ensures { λ r. ⌜ r ≡ allBetween low high (now (mv .entry)) ⌝ }
+{
+    let mut good = true;
+    let mut i = 0;
+    while i < mv.len() {
+        let v = mv[i];
+        good = good & ((low < v) & (v < high));
+        i += 1;
+    }
+    good
+}
+
+// Nothing is the matter with the cells, nor was before: a sample of unflagged ones would find them as they are.
+pub fn calm(s: Settings, cells: [Cell; 10], mv: &[u32]) -> bool
+    ensures { λ r. ⌜ r ≡ calmOf s cells (now (mv .entry)) ⌝ }
+{
+    no_runs(cells) & all_let_go(s.uv_release(), s.ov_release(), mv)
 }
 
 // No cell reads above the most that a sample may hold.

@@ -16,6 +16,10 @@ use Rattle.stack.specs.Sample.{sampleAnswer, sampleRow}
 use Rattle.stack.specs.Frame.{frameAnswer, frameRow, frameBuffer}
 use Rattle.stack.specs.declared.View.{View}
 use Rattle.stack.specs.Read.{readingOf}
+use Rattle.adomvik.specs.declared.Sampled.{Sampled}
+use Rattle.adomvik.specs.declared.Reading.{Reading}
+use Rattle.adomvik.specs.Open.{openNumber, openRow}
+use Rattle.adomvik.specs.Acts.{sampleNumber, sampleOut, boardNumber, boardOut, frameNumber, readNumber, readOut}
 use Rattle.refusal.proofs.number.Reads as refusal-number
 use Rattle.settings.proofs.Settings.ov_level.Reads as settings-ov-level
 use Rattle.settings.proofs.Settings.ov_hysteresis.Reads as settings-ov-hysteresis
@@ -55,6 +59,8 @@ use Rattle.registers.proofs.obey.Reads as registers-obey
 use Rattle.reading.proofs.summary_of.Reads as reading-summary-of
 use Rattle.reading.proofs.read_all.Reads as reading-read-all
 use Rattle.stack.proofs.open_stack.Reads as stack-open-stack
+use Rattle.stack.proofs.bad_count.Reads as stack-bad-count
+use Rattle.stack.proofs.good_counts.Reads as stack-good-counts
 use Rattle.held.proofs.sample_held.Reads as held-sample-held
 use Rattle.held.proofs.read_held.Reads as held-read-held
 use Rattle.lines.proofs.line_at.Reads as lines-line-at
@@ -208,6 +214,12 @@ reading-read-all-one κs a r t s u = agree
 pub stack-open-stack-one : (κs : _) (a : _) (r t : _) (s u : _) → stack-open-stack.Learnt κs a r s → stack-open-stack.Learnt κs a t u → r ≡ t
 stack-open-stack-one κs a r t s u = agree
 
+pub stack-bad-count-one : (κs : _) (a : _) (r t : _) (s u : _) → stack-bad-count.Learnt κs a r s → stack-bad-count.Learnt κs a t u → r ≡ t
+stack-bad-count-one κs a r t s u = agree
+
+pub stack-good-counts-one : (κs : _) (a : _) (r t : _) (s u : _) → stack-good-counts.Learnt κs a r s → stack-good-counts.Learnt κs a t u → r ≡ t
+stack-good-counts-one κs a r t s u = agree
+
 -- ---- held
 pub held-sample-held-one : (κs : _) (a : _) (r t : _) (s u : _) → held-sample-held.Learnt κs a r s → held-sample-held.Learnt κs a t u → r ≡ t
 held-sample-held-one κs a r t s u = agree
@@ -265,3 +277,22 @@ stack-frame-stack-three row bytes buffer = three (frameAnswer row bytes buffer) 
 -- the answer; the row is only read
 pub stack-read-stack-one : (row : List Board) → Determined (λ (v : View). v ≡ readingOf row)
 stack-read-stack-one row = one (readingOf row)
+
+-- ---- the library for C: the number, then what was lent
+pub adomvik-open-two : (row : List Board) (counts : List ℕ) → Determined (λ (o : ℕ × List Board). (o .0 ≡ openNumber row counts) × (o .1 ≡ openRow row counts))
+adomvik-open-two row counts = two (openNumber row counts) (openRow row counts)
+
+pub adomvik-sample-three : (row : List Board) (n : ℕ) (x : Readings) (mv : List ℕ) (out : Sampled)
+    → Determined (λ (o : ℕ × (List Board × Sampled)). (o .0 ≡ sampleNumber row n x mv) × ((o .1 .0 ≡ sampleRow row n x mv) × (o .1 .1 ≡ sampleOut row n x mv out)))
+adomvik-sample-three row n x mv out = three (sampleNumber row n x mv) (sampleRow row n x mv) (sampleOut row n x mv out)
+
+pub adomvik-sample-board-three : (b : Board) (x : Readings) (mv : List ℕ) (out : Sampled)
+    → Determined (λ (o : ℕ × (Board × Sampled)). (o .0 ≡ boardNumber b x mv) × ((o .1 .0 ≡ sampleOf b x mv .board) × (o .1 .1 ≡ boardOut b x mv out)))
+adomvik-sample-board-three b x mv out = three (boardNumber b x mv) (sampleOf b x mv .board) (boardOut b x mv out)
+
+pub adomvik-frame-three : (row : List Board) (bytes buffer : List ℕ)
+    → Determined (λ (o : ℕ × (List Board × List ℕ)). (o .0 ≡ frameNumber row bytes buffer) × ((o .1 .0 ≡ frameRow row bytes buffer) × (o .1 .1 ≡ frameBuffer row bytes buffer)))
+adomvik-frame-three row bytes buffer = three (frameNumber row bytes buffer) (frameRow row bytes buffer) (frameBuffer row bytes buffer)
+
+pub adomvik-read-two : (row : List Board) (out : Reading) → Determined (λ (o : ℕ × Reading). (o .0 ≡ readNumber row) × (o .1 ≡ readOut row out))
+adomvik-read-two row out = two (readNumber row) (readOut row out)

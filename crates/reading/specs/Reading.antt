@@ -2,7 +2,7 @@
 -- Assumes nothing.
 use Prim.Native.Nat.{ℕ, _+_}
 use mathlib.Core.Bool.{Bool, true, false, cond, _&&_, _||_}
-use mathlib.Core.List.{List, [], _∷_}
+use mathlib.Core.List.{List, [], _∷_, map}
 use lib.Dec.{eqb}
 use Rattle.marks.specs.Marks.{bit, marks, lowest}
 use Rattle.board.specs.declared.Board.{Board}
@@ -64,3 +64,15 @@ readOf boards =
 -- the answer's values in the paper's order: line, pack CHG, pack DSG, board, cell
 abbrev pub wholeSaid : Whole → List ℕ
 wholeSaid w = bit (w .line) ∷ bit (w .chg) ∷ bit (w .dsg) ∷ w .flagged .board ∷ w .flagged .cell ∷ []
+
+-- ---- on the way: the same of the latches alone, board 1's first
+abbrev pub latchedOf : List Summary → List Bool
+latchedOf boards = map (λ board. board .latched) boards
+
+unfoldable pub up : List Bool → Bool
+up [] = false
+up (latched ∷ north) = latched || up north
+
+-- a board without a flagged cell need not be searched
+abbrev pub searchedOf : Summary → ℕ
+searchedOf board = cond (eqb (board .flags) 0) 0 (board .count)

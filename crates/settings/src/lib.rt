@@ -6,6 +6,7 @@ ghost use Rattle.settings.specs.Levels.{ovLevel, ovHysteresis, ovRelease
 ghost use Rattle.settings.specs.Bytes.{byteOf, withByte, same, allowed};
 
 // Each byte under its register's number.
+#[repr(C)]
 pub struct Settings {
     pub r6: u8,
     pub r7: u8,

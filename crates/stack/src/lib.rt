@@ -49,7 +49,7 @@ pub struct Scan {
 
 // ---- which row is good, and where a board is
 
-fn bad_count(boards: usize) -> bool
+pub fn bad_count(boards: usize) -> bool
     ensures { λ r. ⌜ r ≡ badCount boards ⌝ }
 {
     (boards < 1) | (16 < boards)
@@ -86,7 +86,8 @@ fn place_of(board: u32) -> usize
 
 // ---- the opening
 
-fn good_counts(counts: &[u32]) -> bool
+// Each board of an opening has 5 to 10 cells.
+pub fn good_counts(counts: &[u32]) -> bool
     ensures { λ r. ⌜ r ≡ goodCounts (now (counts .entry)) ⌝ }
 {
     let mut good = true;

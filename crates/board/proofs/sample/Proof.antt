@@ -1,4 +1,6 @@
+use mathlib.Core.Path.{sym, _∙_}
 use borrow.Author.Tests.{eq-eqb, ne-eqb}
+use Rattle.board.proofs.Unmoved.{quiet-sample}
 use Rattle.board.specs.Sample.{sampleOf, acceptedOf}
 use borrow.Author.Needs.{needs}
 use Rattle.board.proofs.sample.Statement.{statement}
@@ -30,28 +32,41 @@ returns-3 c =
     let c4 = c .before .before .before .before in
     rw (c .refuse3 .ensures, c4 .before .if1 .left, eq-eqb _ _ (c4 .if2 .left), c .before .if3 .taken)
 
+quiet-requires : tie.Need-quiet-requires
+quiet-requires c κs = search needs
+
+returns-4 : tie.Need-returns-4
+returns-4 c =
+    let c1 = c .before in
+    let c2 = c1 .before in
+    let c5 = c2 .before .before .before in
+    let a = c5 .before .before .before .args in
+    sym (quiet-sample (a .b) (a .x) (a .mv .now) (sym (c1 .quiet .ensures) ∙ c .if4 .taken) (c5 .before .if1 .left) (eq-eqb _ _ (c5 .if2 .left)) (c2 .if3 .left))
+
 out-of-range-requires : tie.Need-out-of-range-requires
 out-of-range-requires c κs = search needs
 
 refuse-requires-4 : tie.Need-refuse-requires-4
 refuse-requires-4 c κs = search needs
 
-returns-4 : tie.Need-returns-4
+returns-5 : tie.Need-returns-5
 unfolding sampleOf
-returns-4 c =
+returns-5 c =
     let c2 = c .before .before in
-    let c6 = c2 .before .before .before .before in
-    rw (c .refuse4 .ensures, c6 .before .if1 .left, eq-eqb _ _ (c6 .if2 .left), c2 .before .if3 .left, ← (c2 .out-of-range .ensures), c .before .if4 .taken)
+    let c5 = c2 .before .before .before in
+    let c8 = c5 .before .before .before in
+    rw (c .refuse4 .ensures, c8 .before .if1 .left, eq-eqb _ _ (c8 .if2 .left), c5 .if3 .left, ← (c2 .out-of-range .ensures), c .before .if5 .taken)
 
 accept-requires : tie.Need-accept-requires
 accept-requires c κs = search needs
 
-returns-5 : tie.Need-returns-5
+returns-6 : tie.Need-returns-6
 unfolding sampleOf acceptedOf
-returns-5 c =
+returns-6 c =
     let c2 = c .before .before in
-    let c6 = c2 .before .before .before .before in
-    rw (c .accept .ensures, c6 .before .if1 .left, eq-eqb _ _ (c6 .if2 .left), c2 .before .if3 .left, ← (c2 .out-of-range .ensures), c .before .if4 .left)
+    let c5 = c2 .before .before .before in
+    let c8 = c5 .before .before .before in
+    rw (c .accept .ensures, c8 .before .if1 .left, eq-eqb _ _ (c8 .if2 .left), c5 .if3 .left, ← (c2 .out-of-range .ensures), c .before .if5 .left)
 
 pub sample-spec : {M : Type 1} → statement M
 sample-spec =
@@ -64,8 +79,10 @@ sample-spec =
     returns-2
     refuse-requires-3
     returns-3
+    quiet-requires
+    returns-4
     out-of-range-requires
     refuse-requires-4
-    returns-4
+    returns-5
     accept-requires
-    returns-5)
+    returns-6)

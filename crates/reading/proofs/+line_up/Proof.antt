@@ -1,10 +1,12 @@
 -- `line_up`, by recursion northward: the measure is the number of boards left.
 -- Assumes nothing.
-use mathlib.Core.Path.{sym, _∙_}
-use Rattle.reading.specs.Reading.{lineUp}
-use Rattle.reading.proofs.Turns.{line-next, line-past}
-use borrow.Author.Needs.{needs}
 use Prim.Native.Nat.{ℕ, _<_}
+use mathlib.Core.Path.{sym, _∙_}
+use borrow.Author.Tests.{eq-eqb, ne-eqb}
+use borrow.Author.Needs.{needs}
+use Rattle.marks.specs.Marks.{marks}
+use Rattle.reading.specs.Reading.{up}
+use Rattle.reading.proofs.Turns.{up-next}
 use borrow.Fn.Kinds.{In}
 use borrow.Fn.PlainCycle.{Measures, is, falls, and}
 use Rattle.reading.proofs.line_up.Reads as line-up
@@ -14,7 +16,7 @@ use Rattle.reading.proofs.+line_up.{statement}
 use Rattle.reading.proofs.+line_up.Tie.{close}
 
 abbrev μ-line-up : Measures 0 line-up-kinds.ps ℕ
-μ-line-up κs a = a .1 .1 .0
+μ-line-up κs a = a .1 .0
 
 abbrev line-up-at : ℕ → In 0 line-up-kinds.ps
 line-up-at t = and 0 line-up-kinds.ps (is 0 line-up-kinds.ps μ-line-up t) line-up.Pre
@@ -24,7 +26,7 @@ line-up-below t = and 0 line-up-kinds.ps (falls 0 line-up-kinds.ps _<_ μ-line-u
 
 line-up-returns :
     (t : ℕ) → line-up-lts.Need-returns (line-up-below t, line-up.Post) (line-up-at t) line-up.Post
-unfolding lineUp
+unfolding up marks
 line-up-returns t c = rw (c .if1 .taken)
 
 line-up-returns-2 :
@@ -32,30 +34,7 @@ line-up-returns-2 :
     line-up-lts.Need-returns-2 (line-up-below t, line-up.Post) (line-up-at t) line-up.Post
 line-up-returns-2 t c =
     let a = c .before .before .args in
-    sym (line-past (a .t1) (a .at) (a .left) (search needs))
-
-line-up-mul-board :
-    (t : ℕ) →
-    line-up-lts.Need-mul-board (line-up-below t, line-up.Post) (line-up-at t) line-up.Post
-line-up-mul-board t c = search needs
-
-line-up-array-copy-out-board : (t : ℕ) → line-up-lts.Need-array-copy-out-board (
-  line-up-below t,
-  line-up.Post,
-) (line-up-at t) line-up.Post
-line-up-array-copy-out-board t c = search needs
-
-line-up-returns-3 :
-    (t : ℕ) →
-    line-up-lts.Need-returns-3 (line-up-below t, line-up.Post) (line-up-at t) line-up.Post
-line-up-returns-3 t c =
-    let s = c .before .before .before .before in
-    sym (line-next (s .args .t1) (s .args .at) (s .args .left) (c .before .before .before .if1 .left) (search needs) ∙ rw (c .if3 .taken))
-
-line-up-add-line-up :
-    (t : ℕ) →
-    line-up-lts.Need-add-line-up (line-up-below t, line-up.Post) (line-up-at t) line-up.Post
-line-up-add-line-up t c = search needs
+    sym (up-next (a .latched) (a .left) (c .before .if1 .left) ∙ rw (eq-eqb _ _ (c .if2 .taken)))
 
 line-up-sub-line-up :
     (t : ℕ) →
@@ -68,12 +47,12 @@ line-up-line-up-requires : (t : ℕ) → line-up-lts.Need-line-up-requires (
 ) (line-up-at t) line-up.Post
 line-up-line-up-requires t c κs = search needs
 
-line-up-returns-4 :
+line-up-returns-3 :
     (t : ℕ) →
-    line-up-lts.Need-returns-4 (line-up-below t, line-up.Post) (line-up-at t) line-up.Post
-line-up-returns-4 t c =
-    let s = c .before .before .before .before .before in
-    c .line-up .ensures ∙ sym (line-next (s .args .t1) (s .args .at) (s .args .left) (c .before .before .before .before .if1 .left) (search needs) ∙ rw (c .before .if3 .left))
+    line-up-lts.Need-returns-3 (line-up-below t, line-up.Post) (line-up-at t) line-up.Post
+line-up-returns-3 t c =
+    let a = c .before .before .before .args in
+    c .line-up .ensures ∙ sym (up-next (a .latched) (a .left) (c .before .before .if1 .left) ∙ rw (ne-eqb _ _ (c .before .if2 .left)))
 
 pub +line-up-spec : {M : Type 1} → statement M
 +line-up-spec =
@@ -85,10 +64,6 @@ pub +line-up-spec : {M : Type 1} → statement M
     line-up.Post
     (line-up-returns t)
     (line-up-returns-2 t)
-    (line-up-mul-board t)
-    (line-up-array-copy-out-board t)
-    (line-up-returns-3 t)
-    (line-up-add-line-up t)
     (line-up-sub-line-up t)
     (line-up-line-up-requires t)
-    (line-up-returns-4 t)
+    (line-up-returns-3 t)

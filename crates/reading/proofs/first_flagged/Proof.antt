@@ -7,17 +7,17 @@ use borrow.Author.Tests.{ne-eqb}
 use borrow.Author.Needs.{needs}
 use lib.ListN.{length, getD, take, drop}
 use Rattle.marks.specs.Marks.{marks, lowest}
-use Rattle.reading.specs.Reading.{lowestFlagged, firstFlagged}
-use Rattle.reading.proofs.Turns.{blank, first-turn, first-none, cell-turn, cell-none}
+use Rattle.reading.specs.Reading.{lowestFlagged, firstFlagged, searchedOf}
+use Rattle.reading.proofs.Turns.{blank, first-turn, first-none, cell-turn, searched-within, search-none}
 use Rattle.reading.proofs.first_flagged.Statement.{statement}
 use Rattle.reading.proofs.first_flagged.Tie as tie
 
 abbrev Inv-loop : tie.InvT-loop
-Inv-loop n boards rows board₀ cell₀ i b j₀ board cell j =
-    (j ≤ b .count) × (board ≡ 0) × (cell ≡ 0) × (lowestFlagged b ≡ lowest (j + 1) (drop j (marks (b .count) (b .flags))))
+Inv-loop n boards rows board₀ cell₀ i b top j₀ board cell j =
+    (top ≡ searchedOf b) × (j ≤ top) × (board ≡ 0) × (cell ≡ 0) × (lowestFlagged b ≡ lowest (j + 1) (drop j (marks (b .count) (b .flags))))
 
 abbrev μ-loop : tie.MeasureT-loop
-μ-loop n boards rows board₀ cell₀ i b j₀ board cell j = b .count - j
+μ-loop n boards rows board₀ cell₀ i b top j₀ board cell j = top - j
 
 abbrev Inv-boards : tie.InvT-boards
 Inv-boards n boards rows board₀ cell₀ i₀ board cell i =
@@ -38,10 +38,13 @@ mul-b c = search needs
 array-copy-out-b : tie.Need-array-copy-out-b Inv-loop μ-loop Inv-boards μ-boards
 array-copy-out-b c = search needs
 
+searched-requires : tie.Need-searched-requires Inv-loop μ-loop Inv-boards μ-boards
+searched-requires c κs = search needs
+
 loop-holds : tie.Need-loop-holds Inv-loop μ-loop Inv-boards μ-boards
 loop-holds c =
-    let o = c .before .before .boards in
-    (search needs, o .inv .2, o .inv .3, refl)
+    let o = c .before .before .before .boards in
+    (c .searched .ensures, search needs, o .inv .2, o .inv .3, refl)
 
 cast-mark-at : tie.Need-cast-mark-at Inv-loop μ-loop Inv-boards μ-boards
 cast-mark-at c = search needs
@@ -66,11 +69,12 @@ loop-less c = search needs
 
 loop-again : tie.Need-loop-again Inv-loop μ-loop Inv-boards μ-boards
 loop-again c =
-    let h = c .before .before .before .before in
-    let o = h .before .before .before in
+    let h = c .before .before .before in
+    let o = h .before .before .before .before in
     let b = getD (o .before .before .args .t1) (o .boards .i) blank in
-    let on = cell-turn b (h .loop .j) (c .before .before .if1 .taken) in
-    (search needs, h .loop .inv .1, h .loop .inv .2, h .loop .inv .3 ∙ on ∙ rw (← (c .before .mark-at .ensures), c .if2 .left))
+    let in-count : h .loop .j < b .count = omega (arith, searched-within b, h .loop .inv .0) in
+    let on = cell-turn b (h .loop .j) in-count in
+    (h .loop .inv .0, search needs, h .loop .inv .2, h .loop .inv .3, h .loop .inv .4 ∙ on ∙ rw (← (c .before .mark-at .ensures), c .if1 .left))
 
 add-i : tie.Need-add-i Inv-loop μ-loop Inv-boards μ-boards
 add-i c = search needs
@@ -80,17 +84,18 @@ boards-less c = search needs
 
 boards-again : tie.Need-boards-again Inv-loop μ-loop Inv-boards μ-boards
 boards-again c =
-    let h = c .before .before in
-    let o = h .before .before .before in
+    let h = c .before in
+    let o = h .before .before .before .before in
     let a = o .before .before .args in
     let here : o .boards .i < a .n = search needs in
     let within : o .boards .i < length (a .t1) = search needs in
     let b = getD (a .t1) (o .boards .i) blank in
-    let none : lowestFlagged b ≡ 0 = h .loop .inv .3 ∙ cell-none b (h .loop .j) (c .if1 .left) in (
+    let over : searchedOf b ≤ h .loop .j = omega (arith, h .loop .inv .0) in
+    let none : lowestFlagged b ≡ 0 = search-none b (h .loop .j) over (h .loop .inv .4) in (
       search needs,
       search needs,
-      h .loop .inv .1,
       h .loop .inv .2,
+      h .loop .inv .3,
       o .boards .inv .4 ∙ first-turn (a .t1) (a .n) (o .boards .i) here within ∙ rw none,
     )
 
@@ -103,14 +108,15 @@ returns c =
 
 returns-2 : tie.Need-returns-2 Inv-loop μ-loop Inv-boards μ-boards
 returns-2 c =
-    let h = c .before .before .before .before in
-    let o = h .before .before .before in
+    let h = c .before .before .before in
+    let o = h .before .before .before .before in
     let a = o .before .before .args in
     let here : o .boards .i < a .n = search needs in
     let within : o .boards .i < length (a .t1) = search needs in
     let b = getD (a .t1) (o .boards .i) blank in
-    let on = cell-turn b (h .loop .j) (c .before .before .if1 .taken) in
-    let low : lowestFlagged b ≡ h .loop .j + 1 = h .loop .inv .3 ∙ on ∙ rw (← (c .before .mark-at .ensures), c .if2 .taken) in
+    let in-count : h .loop .j < b .count = omega (arith, searched-within b, h .loop .inv .0) in
+    let on = cell-turn b (h .loop .j) in-count in
+    let low : lowestFlagged b ≡ h .loop .j + 1 = h .loop .inv .4 ∙ on ∙ rw (← (c .before .mark-at .ensures), c .if1 .taken) in
     sym (o .boards .inv .4 ∙ first-turn (a .t1) (a .n) (o .boards .i) here within ∙ rw (low, ne-eqb (h .loop .j + 1) 0 (λ e. omega arith)))
 
 pub first-flagged-spec : {M : Type 1} → statement M
@@ -125,6 +131,7 @@ first-flagged-spec =
     boards-holds
     mul-b
     array-copy-out-b
+    searched-requires
     loop-holds
     cast-mark-at
     mark-at-requires

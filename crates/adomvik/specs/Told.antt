@@ -1,0 +1,36 @@
+-- What an answer puts into its lent place, and its number: that of the refusal, or 0 (01, Refusal numbers).
+-- Assumes nothing.
+use Prim.Native.Nat.{ℕ}
+use mathlib.Core.Bool.{cond}
+use lib.Dec.{eqb}
+use Rattle.refusal.specs.Said.{Said, value}
+use Rattle.board.specs.declared.Answer.{Answer}
+use Rattle.board.specs.Sample.{answerSaid}
+use Rattle.frame.specs.declared.Reply.{Reply}
+use Rattle.frame.specs.Reply.{replySaid}
+use Rattle.stack.specs.declared.View.{View}
+use Rattle.stack.specs.Read.{viewSaid}
+use Rattle.adomvik.specs.declared.Sampled.{Sampled}
+use Rattle.adomvik.specs.declared.Reading.{Reading}
+use Rattle.adomvik.specs.declared.ToldSample.{ToldSample}
+use Rattle.adomvik.specs.declared.ToldReading.{ToldReading}
+
+-- a refusal leaves the place alone
+abbrev pub placed : {A : Type 0} → Said → A → A → A
+placed s old new = cond (eqb (s .number) 0) new old
+
+-- the values of an answer, under their names
+abbrev pub sampledOf : Said → Sampled
+sampledOf s = record { status = value 0 s; bled = value 1 s }
+
+abbrev pub readingOf : Said → Reading
+readingOf s = record { line = value 0 s; chg = value 1 s; dsg = value 2 s; board = value 3 s; cell = value 4 s }
+
+unfoldable pub toldSample : Sampled → Answer → ToldSample
+toldSample out a = record { out = placed (answerSaid a) out (sampledOf (answerSaid a)); number = answerSaid a .number }
+
+unfoldable pub toldReading : Reading → View → ToldReading
+toldReading out v = record { out = placed (viewSaid v) out (readingOf (viewSaid v)); number = viewSaid v .number }
+
+unfoldable pub numberOfReply : Reply → ℕ
+numberOfReply a = replySaid a .number

@@ -1,0 +1,299 @@
+// The public library for C (`rt staticlib adomvik`; include/adomvik.h): each act over records and lists that the caller lends.
+// The result is the number of the refusal (01, Refusal numbers), or 0; an answer goes to a lent place, which a refusal leaves alone.
+ghost use mathlib.Core.Path.{_≡_};
+ghost use Rattle.stack.specs.Sample.{sampleRow};
+ghost use Rattle.stack.specs.Frame.{frameRow, frameBuffer};
+ghost use Rattle.board.specs.Sample.{sampleOf};
+ghost use Rattle.marks.specs.Marks.{bit};
+ghost use Rattle.adomvik.specs.Open.{byteCount, refusedFill, startOf, more, putOf, fillAt, fillRowAt, fillEnd, fillRow, openNumber, openRow};
+ghost use Rattle.adomvik.specs.Told.{toldSample, toldReading, numberOfReply};
+ghost use Rattle.adomvik.specs.Acts.{sampleNumber, sampleOut, boardNumber, boardOut, frameNumber, readNumber, readOut};
+use board::Answer;
+use board::Board;
+use board::Readings;
+use frame::Reply;
+use stack::View;
+
+// An accepted sample: register 0, and the bled cells as a number.
+#[repr(C)]
+pub struct Sampled {
+    pub status: u8,
+    pub bled: u16,
+}
+
+// A whole-stack reading: the line and the switches as 1 or 0, and the flagged cell.
+#[repr(C)]
+pub struct Reading {
+    pub line: u8,
+    pub chg: u8,
+    pub dsg: u8,
+    pub board: u8,
+    pub cell: u8,
+}
+
+// ---- what an answer puts into its place, and its number
+
+struct ToldSample {
+    out: Sampled,
+    number: u8,
+}
+
+fn told_sample(out: Sampled, a: Answer) -> ToldSample
+    ensures { λ r. ⌜ r ≡ toldSample out a ⌝ }
+{
+    match a {
+        Answer::Sampled { status, bled } => {
+            let next = Sampled {
+                status: status,
+                bled: bled,
+            };
+            ToldSample {
+                out: next,
+                number: 0,
+            }
+        }
+        Answer::Refused(why) => ToldSample {
+            out: out,
+            number: refusal::number(why),
+        },
+    }
+}
+
+fn tell_sample(out: &mut Sampled, a: Answer) -> u8
+    ensures { λ r. ⌜ (r ≡ toldSample (now (out .entry)) a .number) × (now (out .exit) ≡ toldSample (now (out .entry)) a .out) ⌝ }
+{
+    let s = told_sample(*out, a);
+    *out = s.out;
+    s.number
+}
+
+struct ToldReading {
+    out: Reading,
+    number: u8,
+}
+
+fn byte_of(b: bool) -> u8
+    ensures { λ r. ⌜ r ≡ bit b ⌝ }
+{
+    if b { 1 } else { 0 }
+}
+
+fn told_reading(out: Reading, v: View) -> ToldReading
+    ensures { λ r. ⌜ r ≡ toldReading out v ⌝ }
+{
+    match v {
+        View::Read(whole) => {
+            let next = Reading {
+                line: byte_of(whole.line),
+                chg: byte_of(whole.chg),
+                dsg: byte_of(whole.dsg),
+                board: whole.flagged.board,
+                cell: whole.flagged.cell,
+            };
+            ToldReading {
+                out: next,
+                number: 0,
+            }
+        }
+        View::Refused(why) => ToldReading {
+            out: out,
+            number: refusal::number(why),
+        },
+    }
+}
+
+fn tell_reading(out: &mut Reading, v: View) -> u8
+    ensures { λ r. ⌜ (r ≡ toldReading (now (out .entry)) v .number) × (now (out .exit) ≡ toldReading (now (out .entry)) v .out) ⌝ }
+{
+    let s = told_reading(*out, v);
+    *out = s.out;
+    s.number
+}
+
+fn reply_number(a: Reply) -> u8
+    ensures { λ r. ⌜ r ≡ numberOfReply a ⌝ }
+{
+    match a {
+        Reply::Replied { .. } => 0,
+        Reply::Refused(why) => refusal::number(why),
+    }
+}
+
+// ---- the opening
+
+// How far the records of an opening are put: the place of the next, how many there are, and the number of a refusal.
+struct Progress {
+    at: usize,
+    many: usize,
+    number: u8,
+}
+
+struct Placed {
+    board: Board,
+    next: Progress,
+}
+
+fn refused_fill() -> Progress
+    ensures { λ r. ⌜ r ≡ refusedFill ⌝ }
+{
+    Progress {
+        at: 0,
+        many: 0,
+        number: 1,
+    }
+}
+
+// The counts are good or nothing is put: a row of as many records as counts.
+fn start(counts: &[u32], boards: usize) -> Progress
+    ensures { λ r. ⌜ r ≡ startOf (now (counts .entry)) boards ⌝ }
+{
+    if counts.len() != boards {
+        return refused_fill();
+    }
+    if stack::bad_count(boards) {
+        return refused_fill();
+    }
+    if stack::good_counts(counts) {
+        return Progress {
+            at: 0,
+            many: boards,
+            number: 0,
+        };
+    }
+    refused_fill()
+}
+
+fn more_left(x: Progress) -> bool
+    ensures { λ r. ⌜ r ≡ more x ⌝ }
+{
+    x.at < x.many
+}
+
+fn place_in(x: Progress) -> usize
+    ensures { λ r. ⌜ r ≡ x .at ⌝ }
+{
+    x.at
+}
+
+// A good count fits a byte.
+fn byte_count(n: u32) -> u8
+    ensures { λ r. ⌜ r ≡ byteCount n ⌝ }
+{
+    if n < 256 { n as u8 } else { 0 }
+}
+
+fn put(b: Board, x: Progress, counts: &[u32]) -> Placed
+    ensures { λ r. ⌜ r ≡ putOf b x (now (counts .entry)) ⌝ }
+{
+    let at = x.at;
+    if at < counts.len() {
+        let board = board::fresh_board(byte_count(counts[at]));
+        let next = Progress {
+            at: at + 1,
+            many: x.many,
+            number: x.number,
+        };
+        return Placed {
+            board: board,
+            next: next,
+        };
+    }
+    let next = refused_fill();
+    Placed {
+        board: b,
+        next: next,
+    }
+}
+
+fn put_board(b: &mut Board, x: Progress, counts: &[u32]) -> Progress
+    ensures { λ r. ⌜ (r ≡ putOf (now (b .entry)) x (now (counts .entry)) .next) × (now (b .exit) ≡ putOf (now (b .entry)) x (now (counts .entry)) .board) ⌝ }
+{
+    let s = put(*b, x, counts);
+    *b = s.board;
+    s.next
+}
+
+fn put_at(row: &mut [Board], place: Progress, x: Progress, counts: &[u32]) -> Progress
+    ensures { λ r. ⌜ (r ≡ fillAt (now (row .entry)) place x (now (counts .entry))) × (now (row .exit) ≡ fillRowAt (now (row .entry)) place x (now (counts .entry))) ⌝ }
+{
+    let at = place_in(place);
+    if at < row.len() {
+        return put_board(&mut row[at], x, counts);
+    }
+    refused_fill()
+}
+
+fn fill(row: &mut [Board], x: Progress, counts: &[u32]) -> Progress
+    ensures { λ r. ⌜ (r ≡ fillEnd (now (row .entry)) x (now (counts .entry))) × (now (row .exit) ≡ fillRow (now (row .entry)) x (now (counts .entry))) ⌝ }
+{
+    let mut st = x;
+    while more_left(st) {
+        st = put_at(row, st, st, counts);
+    }
+    st
+}
+
+fn fill_number(x: Progress) -> u8
+    ensures { λ r. ⌜ r ≡ x .number ⌝ }
+{
+    x.number
+}
+
+// ---- the acts
+
+// The cell count of each board, southernmost first: every record of the row as it starts.
+#[no_mangle]
+pub extern "C" fn adomvik_open(row: &mut [Board], counts: &[u32]) -> u8
+    ensures { λ r. ⌜ (r ≡ openNumber (now (row .entry)) (now (counts .entry))) × (now (row .exit) ≡ openRow (now (row .entry)) (now (counts .entry))) ⌝ }
+{
+    let x = start(counts, row.len());
+    let end = fill(row, x, counts);
+    fill_number(end)
+}
+
+// A sample of one board of the row.
+#[no_mangle]
+pub extern "C" fn adomvik_sample(
+    row: &mut [Board],
+    board: u32,
+    x: Readings,
+    cells: &[u32],
+    out: &mut Sampled,
+) -> u8
+    ensures { λ r. ⌜ (r ≡ sampleNumber (now (row .entry)) board x (now (cells .entry))) × ((now (row .exit) ≡ sampleRow (now (row .entry)) board x (now (cells .entry))) × (now (out .exit) ≡ sampleOut (now (row .entry)) board x (now (cells .entry)) (now (out .entry)))) ⌝ }
+{
+    let a = stack::sample_stack(row, board, x, cells);
+    tell_sample(out, a)
+}
+
+// A sample of one record that is lent by itself.
+#[no_mangle]
+pub extern "C" fn adomvik_sample_board(
+    b: &mut Board,
+    x: Readings,
+    cells: &[u32],
+    out: &mut Sampled,
+) -> u8
+    ensures { λ r. ⌜ (r ≡ boardNumber (now (b .entry)) x (now (cells .entry))) × ((now (b .exit) ≡ sampleOf (now (b .entry)) x (now (cells .entry)) .board) × (now (out .exit) ≡ boardOut (now (b .entry)) x (now (cells .entry)) (now (out .entry)))) ⌝ }
+{
+    let a = stack::sample_board(b, x, cells);
+    tell_sample(out, a)
+}
+
+// A frame from the host, its reply in the lent buffer.
+#[no_mangle]
+pub extern "C" fn adomvik_frame(row: &mut [Board], bytes: &[u8], reply: &mut [u8]) -> u8
+    ensures { λ r. ⌜ (r ≡ frameNumber (now (row .entry)) (now (bytes .entry)) (now (reply .entry))) × ((now (row .exit) ≡ frameRow (now (row .entry)) (now (bytes .entry)) (now (reply .entry))) × (now (reply .exit) ≡ frameBuffer (now (row .entry)) (now (bytes .entry)) (now (reply .entry)))) ⌝ }
+{
+    let a = stack::frame_stack(row, bytes, reply);
+    reply_number(a)
+}
+
+// The whole-stack reading.
+#[no_mangle]
+pub extern "C" fn adomvik_read(row: &[Board], out: &mut Reading) -> u8
+    ensures { λ r. ⌜ (r ≡ readNumber (now (row .entry))) × (now (out .exit) ≡ readOut (now (row .entry)) (now (out .entry))) ⌝ }
+{
+    let v = stack::read_stack(row);
+    tell_reading(out, v)
+}

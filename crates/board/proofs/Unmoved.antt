@@ -1,0 +1,125 @@
+-- A quiet sample leaves the board as it is, with both switches on and no cell bled.
+-- Assumes nothing.
+use Prim.Native.Nat.{ℕ}
+use native.Mathlib.Omega.{arith}
+use mathlib.Core.Path.{_≡_, refl, sym, ap, _∙_}
+use mathlib.Core.Bool.{Bool, true, false, not, _&&_}
+use mathlib.Core.List.{List}
+use lib.Dec.{ltb, eqb}
+use lib.ListN.{length}
+use borrow.Author.Tests.{le-ltb, eqb-true}
+use Rattle.lists.proofs.Split.{both, not-yes}
+use Rattle.settings.specs.Levels.{ocdLevel, scdLevel}
+use Rattle.settings.specs.Faults.{SCD, OCD, delay}
+use Rattle.runs.specs.Kept.{runNext, stood}
+use Rattle.marks.specs.Marks.{number}
+use Rattle.cells.specs.declared.Swept.{Swept}
+use Rattle.cells.specs.Cells.{sweepOf, calmOf, readable}
+use Rattle.cells.proofs.Stays.{calm-readable, calm-sweep}
+use Rattle.latches.specs.declared.Latches.{Latches}
+use Rattle.latches.specs.Latches.{latches, latchesByte, register0}
+use Rattle.board.specs.declared.Board.{Board}
+use Rattle.board.specs.declared.Readings.{Readings}
+use Rattle.board.specs.declared.Answer.the-variants.{Sampled}
+use Rattle.board.specs.Shunt.{shuntAbove, shuntOutside}
+use Rattle.board.specs.Sample.{currentsNext, latchesNext, hot, sweptAt, latchesAfter, boardNext, outside, badBoard, outOfRange, sampleOf, clear, idle, easy, warm, quietOf}
+
+module _ (b : Board) (x : Readings) (mv : List ℕ) (q : quietOf b x mv ≡ true) where
+  -- its parts
+  abbrev calmly : Bool
+  calmly = calmOf (b .working) (b .cells) mv
+
+  abbrev after₄ : Bool
+  after₄ = not (shuntOutside (x .shunt)) && not (ltb 1 (x .load))
+
+  abbrev after₃ : Bool
+  after₃ = warm x && after₄
+
+  abbrev after₂ : Bool
+  after₂ = easy b x && after₃
+
+  abbrev after₁ : Bool
+  after₁ = calmly && after₂
+
+  nothing-kept : (clear b && idle b) ≡ true
+  unfolding quietOf
+  nothing-kept = both (clear b && idle b) after₁ q .0
+
+  rest₁ : after₁ ≡ true
+  unfolding quietOf
+  rest₁ = both (clear b && idle b) after₁ q .1
+
+  calm : calmly ≡ true
+  calm = both calmly after₂ rest₁ .0
+
+  rest₂ : after₂ ≡ true
+  rest₂ = both calmly after₂ rest₁ .1
+
+  rest₃ : after₃ ≡ true
+  rest₃ = both (easy b x) after₃ rest₂ .1
+
+  rest₄ : after₄ ≡ true
+  rest₄ = both (warm x) after₄ rest₃ .1
+
+  no-latch : b .latches ≡ 0
+  no-latch = eqb-true (b .latches) 0 (both (eqb (b .latches) 0) (eqb (b .flags) 0) (both (clear b) (idle b) nothing-kept .0) .0)
+
+  no-flag : b .flags ≡ 0
+  no-flag = eqb-true (b .flags) 0 (both (eqb (b .latches) 0) (eqb (b .flags) 0) (both (clear b) (idle b) nothing-kept .0) .1)
+
+  no-ocd-run : b .currents .ocd ≡ 0
+  no-ocd-run = eqb-true (b .currents .ocd) 0 (both (eqb (b .currents .ocd) 0) (eqb (b .currents .scd) 0) (both (clear b) (idle b) nothing-kept .1) .0)
+
+  no-scd-run : b .currents .scd ≡ 0
+  no-scd-run = eqb-true (b .currents .scd) 0 (both (eqb (b .currents .ocd) 0) (eqb (b .currents .scd) 0) (both (clear b) (idle b) nothing-kept .1) .1)
+
+  abbrev over-ocd : Bool
+  over-ocd = shuntAbove (ocdLevel (b .working)) (x .shunt)
+
+  abbrev over-scd : Bool
+  over-scd = shuntAbove (scdLevel (b .working)) (x .shunt)
+
+  no-ocd : over-ocd ≡ false
+  no-ocd = not-yes over-ocd (both (not over-ocd) (not over-scd) (both (easy b x) after₃ rest₂ .0) .0)
+
+  no-scd : over-scd ≡ false
+  no-scd = not-yes over-scd (both (not over-ocd) (not over-scd) (both (easy b x) after₃ rest₂ .0) .1)
+
+  not-hot : hot x ≡ false
+  not-hot = not-yes (hot x) (both (not (hot x)) (not (ltb 5000 (x .thermistor))) (both (warm x) after₄ rest₃ .0) .0)
+
+  not-high : ltb 5000 (x .thermistor) ≡ false
+  not-high = not-yes (ltb 5000 (x .thermistor)) (both (not (hot x)) (not (ltb 5000 (x .thermistor))) (both (warm x) after₄ rest₃ .0) .1)
+
+  inside : shuntOutside (x .shunt) ≡ false
+  inside = not-yes (shuntOutside (x .shunt)) (both (not (shuntOutside (x .shunt))) (not (ltb 1 (x .load))) rest₄ .0)
+
+  a-flag : ltb 1 (x .load) ≡ false
+  a-flag = not-yes (ltb 1 (x .load)) (both (not (shuntOutside (x .shunt))) (not (ltb 1 (x .load))) rest₄ .1)
+
+  -- what the sample makes of the board
+  swept : sweptAt b x mv ≡ record { cells = b .cells; flags = 0; bled = 0; «ov_stood» = false; «ov_lets_go» = true; «uv_stood» = false; «uv_lets_go» = true }
+  swept = rw no-flag (calm-sweep (b .working) (x .elapsed) (b .cells) mv calm)
+
+  unlatched : latchesAfter b x mv ≡ latches (λ _. false)
+  unfolding latchesNext currentsNext runNext stood
+  unlatched = rw (swept, no-latch, no-ocd, no-scd, not-hot, le-ltb (delay SCD (b .working)) 0 (omega arith), le-ltb (delay OCD (b .working)) 0 (omega arith))
+
+  same-currents : currentsNext (b .working) (b .currents) x ≡ b .currents
+  unfolding currentsNext runNext
+  same-currents = rw (no-ocd, no-scd) (λ i. record { ocd = sym no-ocd-run i; scd = sym no-scd-run i })
+
+  same-board : boardNext b x mv ≡ b
+  unfolding boardNext latchesByte number
+  same-board =
+      let byte = ap latchesByte unlatched ∙ sym no-latch in
+      let flags = ap (λ (w : Swept). w .flags) swept ∙ sym no-flag in
+      let cells = ap (λ (w : Swept). w .cells) swept in
+      λ i. record { count = b .count; latches = byte i; cycles = b .cycles; flags = flags i; working = b .working; staged = b .staged; currents = same-currents i; cells = cells i }
+
+  in-range : outOfRange x mv ≡ false
+  in-range = rw (calm-readable (b .working) (b .cells) mv calm, not-high, inside, a-flag)
+
+  pub quiet-sample : badBoard b ≡ false → eqb (length mv) (b .count) ≡ true → outside 1 100000 (x .elapsed) ≡ false → sampleOf b x mv ≡ record { board = b; answer = Sampled 192 0 }
+  unfolding sampleOf register0 number
+  quiet-sample e₁ e₃ e₄ = rw (e₁, e₃, e₄, in-range, same-board, unlatched, ap (λ (w : Swept). w .bled) swept)

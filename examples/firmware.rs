@@ -1,0 +1,81 @@
+//! A firmware main loop over a stack of two boards, on a simulated board: it reads samples, drives two switch pins and answers
+//! the host's frames. What stands in `sim` is what a real board has as hardware. firmware.c is the same in C.
+use adomvik::{Reading, Readings, Refusal, Row};
+
+const CELLS: [u32; 2] = [5, 6];
+const TICKS: u32 = 16;
+
+/// The simulated board.
+mod sim {
+    use adomvik::Readings;
+
+    /// A short circuit in ticks 3 and 4, the load gone from tick 6 on; the top cell of board 2 too high from tick 7 to 13.
+    pub fn read_sensors(tick: u32, board: u32, cells: &mut [u32]) -> Readings {
+        cells.fill(3900);
+        if let (2, 7..=13, Some(top)) = (board, tick, cells.last_mut()) {
+            *top = 4200;
+        }
+        let shorted = tick == 3 || tick == 4;
+        Readings { elapsed: 100_000, shunt: if shorted { 90_000 } else { 0 }, thermistor: 2_000, load: u32::from(tick < 6) }
+    }
+
+    /// The two switch pins.
+    pub struct Pins(Option<(bool, bool)>);
+
+    impl Pins {
+        pub fn new() -> Pins {
+            Pins(None)
+        }
+
+        pub fn drive(&mut self, tick: u32, chg: bool, dsg: bool) {
+            if self.0 != Some((chg, dsg)) {
+                println!("tick {tick}: chg {} dsg {}", u8::from(chg), u8::from(dsg));
+            }
+            self.0 = Some((chg, dsg));
+        }
+    }
+
+    /// Frames from the host: a read of register 0, a wrong check byte, OV delay and level of board 2 staged, programmed, read back.
+    pub fn receive(tick: u32) -> Option<[u8; 4]> {
+        match tick {
+            2 | 4 => Some([2, 0, 0, 214]),
+            5 => Some([2, 0, 0, 215]),
+            9 => Some([5, 6, 33, 89]),
+            14 => Some([5, 11, 65, 151]),
+            15 => Some([4, 6, 0, 213]),
+            _ => None,
+        }
+    }
+
+    pub fn send(tick: u32, reply: [u8; 4]) {
+        println!("tick {tick}: reply {} {} {} {}", reply[0], reply[1], reply[2], reply[3]);
+    }
+}
+
+/// Every board sampled, and then the stack as a whole.
+fn sample_all(stack: &mut Row<2>, tick: u32) -> Result<Reading, Refusal> {
+    for (board, &count) in (1..).zip(&CELLS) {
+        let mut cells = [0; 10];
+        let cells = &mut cells[..count as usize];
+        let readings: Readings = sim::read_sensors(tick, board, cells);
+        stack.sample(board, readings, cells)?;
+    }
+    stack.read()
+}
+
+fn main() -> Result<(), Refusal> {
+    let mut stack = Row::open(CELLS)?;
+    let mut pins = sim::Pins::new();
+    for tick in 0..TICKS {
+        // both switches off where anything is refused
+        let (chg, dsg) = sample_all(&mut stack, tick).map_or((false, false), |pack| (pack.chg, pack.dsg));
+        pins.drive(tick, chg, dsg);
+        // a refused frame gets no reply: the host asks again
+        match sim::receive(tick).map(|frame| stack.frame(&frame)) {
+            Some(Ok(reply)) => sim::send(tick, reply),
+            Some(Err(why)) => println!("tick {tick}: frame refused, {}", why.number()),
+            None => (),
+        }
+    }
+    Ok(())
+}

@@ -1,0 +1,143 @@
+/* Adomvik: a proved battery-pack protector, for C11 and C++.
+ *
+ * A stack is one row of board records, southernmost first, that the caller owns. Every act is lent the row, or one record,
+ * and changes it where it lies. The library keeps nothing of its own, calls nothing and allocates nothing.
+ *
+ * Results. Every function returns 0 where the act was accepted, and else the number of the refusal (enum below). A refused
+ * act has changed nothing: not the row, not the reply buffer, not the place for the answer.
+ *
+ * What the proofs assume of a call, and no function can look at:
+ *   - each pointer is not NULL and points to as many elements as its length says (a length may be 0), and they are aligned
+ *     and can be read; the row, a record, a reply buffer and the place for an answer can be written too;
+ *   - what can be written overlaps nothing else that is passed;
+ *   - nobody else touches any of it during the call (an interrupt, another thread).
+ * Of what the bytes hold nothing is assumed. Every field of a record is a number, so every pattern of bytes is a record, and
+ * acts on one that came from no opening are answered too.
+ */
+#ifndef ADOMVIK_H
+#define ADOMVIK_H
+
+#include <stddef.h>
+#include <stdint.h>
+
+#ifdef __cplusplus
+extern "C" {
+#define ADOMVIK_ASSERT(condition, text) static_assert(condition, text)
+#define ADOMVIK_ALIGN(type) alignof(type)
+#else
+#define ADOMVIK_ASSERT(condition, text) _Static_assert(condition, text)
+#define ADOMVIK_ALIGN(type) _Alignof(type)
+#endif
+
+enum {
+    ADOMVIK_BOARDS_MAX = 16,
+    ADOMVIK_CELLS_MIN = 5,
+    ADOMVIK_CELLS_MAX = 10,
+    ADOMVIK_FRAME_BYTES = 4
+};
+
+/* What an act returns. */
+enum {
+    ADOMVIK_OK = 0,
+    ADOMVIK_BAD_ROW = 1,      /* not 1 to 16 boards, or a board without 5 to 10 cells */
+    ADOMVIK_NO_BOARD = 2,     /* no board of that number */
+    ADOMVIK_CELL_LIST = 3,    /* the cell list is not as long as the board's cell count */
+    ADOMVIK_ELAPSED = 4,      /* elapsed time not 1 to 100,000 us */
+    ADOMVIK_OUT_OF_RANGE = 5, /* a cell or the thermistor above 5,000 mV, the shunt beyond 500,000 uV, the load flag not 0 or 1 */
+    ADOMVIK_FRAME_LENGTH = 6, /* the frame is not 4 bytes */
+    ADOMVIK_REPLY_ROOM = 7,   /* the reply buffer is under 4 bytes */
+    ADOMVIK_CHECK_BYTE = 8,   /* the check byte is wrong */
+    ADOMVIK_NO_REGISTER = 9,  /* the register is unknown, or a write to register 0 */
+    ADOMVIK_BAD_VALUE = 10,   /* the value is not allowed */
+    ADOMVIK_NO_CYCLE = 11     /* programming staged settings unlike the working ones, three cycles already spent */
+};
+
+/* Register 0, the status byte of a sample: the latched faults and the switches. */
+enum {
+    ADOMVIK_SCD = 1,
+    ADOMVIK_OCD = 2,
+    ADOMVIK_OV = 4,
+    ADOMVIK_UV = 8,
+    ADOMVIK_HOT = 16,
+    ADOMVIK_DSG_ON = 64,
+    ADOMVIK_CHG_ON = 128
+};
+
+/* The five settings bytes, each under its register's number. */
+typedef struct adomvik_settings {
+    uint8_t r6, r7, r8, r9, r10;
+} adomvik_settings;
+
+/* A run: 0 where its condition fails, else one more than its microseconds, and never above 10,000,000. */
+typedef struct adomvik_currents {
+    uint32_t ocd, scd;
+} adomvik_currents;
+
+typedef struct adomvik_cell {
+    uint32_t ov, uv;
+} adomvik_cell;
+
+/* One board. Records are made by adomvik_open; copy and keep them as plain bytes. */
+typedef struct adomvik_board {
+    uint8_t count;              /* cells */
+    uint8_t latches;            /* the low five bits of register 0 */
+    uint8_t cycles;             /* programming cycles spent */
+    uint16_t flags;             /* flagged cells: cell 1 is worth 1, cell 2 is worth 2, cell 3 is worth 4 and so on */
+    adomvik_settings working;
+    adomvik_settings staged;
+    adomvik_currents currents;
+    adomvik_cell cells[ADOMVIK_CELLS_MAX];
+} adomvik_board;
+
+/* What a sample reads beside the cells. It is passed by value. */
+typedef struct adomvik_readings {
+    uint32_t elapsed;    /* us since the board's last sample */
+    int32_t shunt;       /* uV; discharge is positive, charge is negative */
+    uint32_t thermistor; /* mV */
+    uint32_t load;       /* 1 attached, 0 not */
+} adomvik_readings;
+
+/* An accepted sample. */
+typedef struct adomvik_sampled {
+    uint8_t status; /* register 0 */
+    uint16_t bled;  /* bled cells, as a number like flags */
+} adomvik_sampled;
+
+/* A whole-stack reading. */
+typedef struct adomvik_reading {
+    uint8_t line;  /* 1 where board 1's fault line is up */
+    uint8_t chg;   /* 1 where CHG is on at every board */
+    uint8_t dsg;   /* 1 where DSG is on at every board */
+    uint8_t board; /* the southernmost board with a flagged cell, or 0 */
+    uint8_t cell;  /* the lowest flagged cell on it, or 0 */
+} adomvik_reading;
+
+ADOMVIK_ASSERT(sizeof(size_t) == 8, "the library is built for 64-bit lengths");
+ADOMVIK_ASSERT(sizeof(adomvik_board) == 104 && ADOMVIK_ALIGN(adomvik_board) == 4, "a board's record is 104 bytes, aligned to 4");
+ADOMVIK_ASSERT(offsetof(adomvik_board, flags) == 4 && offsetof(adomvik_board, working) == 6 && offsetof(adomvik_board, staged) == 11
+        && offsetof(adomvik_board, currents) == 16 && offsetof(adomvik_board, cells) == 24, "a board's fields lie where the library has them");
+ADOMVIK_ASSERT(sizeof(adomvik_readings) == 16 && ADOMVIK_ALIGN(adomvik_readings) == 4, "readings are four numbers of 4 bytes");
+ADOMVIK_ASSERT(sizeof(adomvik_sampled) == 4 && offsetof(adomvik_sampled, bled) == 2, "an answer to a sample is 4 bytes");
+ADOMVIK_ASSERT(sizeof(adomvik_reading) == 5, "a reading is 5 bytes");
+
+/* Opens a stack: counts[i] is the cell count of board i + 1, one for each record of the row. Every record of the row is made
+ * anew, whatever it held. Refusal 1 also where the two lengths differ. */
+uint8_t adomvik_open(adomvik_board *row, size_t boards, const uint32_t *counts, size_t count);
+
+/* A sample of one board of the row, in mV for each cell from cell 1 up. Refusals 1, 2, 3, 4, 5. */
+uint8_t adomvik_sample(adomvik_board *row, size_t boards, uint32_t board, adomvik_readings readings, const uint32_t *cells, size_t count, adomvik_sampled *out);
+
+/* The same of one record that is lent by itself; no row is looked at. Refusals 1 (this record's cell count), 3, 4, 5. */
+uint8_t adomvik_sample_board(adomvik_board *board, adomvik_readings readings, const uint32_t *cells, size_t count, adomvik_sampled *out);
+
+/* A frame from the host. The reply takes the first four bytes of its buffer; later bytes stay. Refusals 1, 6, 7, 8, 2, 9, 10, 11. */
+uint8_t adomvik_frame(adomvik_board *row, size_t boards, const uint8_t *frame, size_t length, uint8_t *reply, size_t room);
+
+/* The whole-stack reading. Refusal 1, which no opened row gets. */
+uint8_t adomvik_read(const adomvik_board *row, size_t boards, adomvik_reading *out);
+
+#ifdef __cplusplus
+}
+#endif
+
+#endif

@@ -1,0 +1,296 @@
+/* The library by hand in C11: a yardstick for its speed and size. It shares no code with it and is meant to be what a C
+ * programmer would write who wants it fast and still plain: sets of cells are masks, a run is touched only while its condition
+ * holds, and the check byte is a table.
+ */
+#include "face_peer.h"
+
+#include <stdbool.h>
+#include <string.h>
+
+enum { SCD = 1, OCD = 2, OV = 4, UV = 8, HOT = 16, DSG_ON = 64, CHG_ON = 128 };
+enum { RUN_MAX = 8000000, CYCLES_MAX = 3, PROGRAM = 0x41 };
+
+static const int32_t ov_hysteresis[4] = {100, 200, 300, 0};
+static const int32_t uv_hysteresis[4] = {200, 400, 800, 1200};
+static const int32_t uv_delay[16] = {
+    0, 1250, 2500, 5000, 10000, 15000, 20000, 30000,
+    1000000, 2000000, 3000000, 4000000, 5000000, 6000000, 7000000, 8000000,
+};
+
+/* CRC-8 with polynomial 7: the check of each byte. */
+static const uint8_t crc_table[256] = {
+    0x00, 0x07, 0x0e, 0x09, 0x1c, 0x1b, 0x12, 0x15, 0x38, 0x3f, 0x36, 0x31, 0x24, 0x23, 0x2a, 0x2d,
+    0x70, 0x77, 0x7e, 0x79, 0x6c, 0x6b, 0x62, 0x65, 0x48, 0x4f, 0x46, 0x41, 0x54, 0x53, 0x5a, 0x5d,
+    0xe0, 0xe7, 0xee, 0xe9, 0xfc, 0xfb, 0xf2, 0xf5, 0xd8, 0xdf, 0xd6, 0xd1, 0xc4, 0xc3, 0xca, 0xcd,
+    0x90, 0x97, 0x9e, 0x99, 0x8c, 0x8b, 0x82, 0x85, 0xa8, 0xaf, 0xa6, 0xa1, 0xb4, 0xb3, 0xba, 0xbd,
+    0xc7, 0xc0, 0xc9, 0xce, 0xdb, 0xdc, 0xd5, 0xd2, 0xff, 0xf8, 0xf1, 0xf6, 0xe3, 0xe4, 0xed, 0xea,
+    0xb7, 0xb0, 0xb9, 0xbe, 0xab, 0xac, 0xa5, 0xa2, 0x8f, 0x88, 0x81, 0x86, 0x93, 0x94, 0x9d, 0x9a,
+    0x27, 0x20, 0x29, 0x2e, 0x3b, 0x3c, 0x35, 0x32, 0x1f, 0x18, 0x11, 0x16, 0x03, 0x04, 0x0d, 0x0a,
+    0x57, 0x50, 0x59, 0x5e, 0x4b, 0x4c, 0x45, 0x42, 0x6f, 0x68, 0x61, 0x66, 0x73, 0x74, 0x7d, 0x7a,
+    0x89, 0x8e, 0x87, 0x80, 0x95, 0x92, 0x9b, 0x9c, 0xb1, 0xb6, 0xbf, 0xb8, 0xad, 0xaa, 0xa3, 0xa4,
+    0xf9, 0xfe, 0xf7, 0xf0, 0xe5, 0xe2, 0xeb, 0xec, 0xc1, 0xc6, 0xcf, 0xc8, 0xdd, 0xda, 0xd3, 0xd4,
+    0x69, 0x6e, 0x67, 0x60, 0x75, 0x72, 0x7b, 0x7c, 0x51, 0x56, 0x5f, 0x58, 0x4d, 0x4a, 0x43, 0x44,
+    0x19, 0x1e, 0x17, 0x10, 0x05, 0x02, 0x0b, 0x0c, 0x21, 0x26, 0x2f, 0x28, 0x3d, 0x3a, 0x33, 0x34,
+    0x4e, 0x49, 0x40, 0x47, 0x52, 0x55, 0x5c, 0x5b, 0x76, 0x71, 0x78, 0x7f, 0x6a, 0x6d, 0x64, 0x63,
+    0x3e, 0x39, 0x30, 0x37, 0x22, 0x25, 0x2c, 0x2b, 0x06, 0x01, 0x08, 0x0f, 0x1a, 0x1d, 0x14, 0x13,
+    0xae, 0xa9, 0xa0, 0xa7, 0xb2, 0xb5, 0xbc, 0xbb, 0x96, 0x91, 0x98, 0x9f, 0x8a, 0x8d, 0x84, 0x83,
+    0xde, 0xd9, 0xd0, 0xd7, 0xc2, 0xc5, 0xcc, 0xcb, 0xe6, 0xe1, 0xe8, 0xef, 0xfa, 0xfd, 0xf4, 0xf3,
+};
+
+/* ---- rows */
+
+static bool good_count(size_t cells)
+{
+    return cells - 5 <= 5;
+}
+
+static bool good_row(const struct peer_board *row, size_t boards)
+{
+    if (boards - 1 > 15)
+        return false;
+    unsigned bad = 0;
+    for (size_t i = 0; i < boards; i++)
+        bad |= row[i].cells - 5u > 5;
+    return !bad;
+}
+
+uint8_t peer_open(struct peer_board *row, size_t boards, const uint32_t *counts, size_t count)
+{
+    if (count != boards || count - 1 > 15)
+        return 1;
+    for (size_t i = 0; i < count; i++)
+        if (!good_count(counts[i]))
+            return 1;
+    memset(row, 0, boards * sizeof *row);
+    for (size_t i = 0; i < boards; i++)
+        row[i].cells = (uint8_t)counts[i];
+    return 0;
+}
+
+/* ---- samples */
+
+static unsigned status(unsigned latches)
+{
+    unsigned value = latches;
+    if (!(latches & (UV | OCD | SCD | HOT)))
+        value |= DSG_ON;
+    if (!(latches & (OV | OCD | SCD | HOT)))
+        value |= CHG_ON;
+    return value;
+}
+
+static inline unsigned next_latch(unsigned latches, unsigned fault, bool stood, bool lets_go)
+{
+    if (latches & fault)
+        return lets_go ? latches & ~fault : latches;
+    return stood ? latches | fault : latches;
+}
+
+/* The run of a condition that holds, in a set of conditions that held before. */
+static inline int32_t next_run(int32_t run, bool running, int32_t elapsed)
+{
+    if (!running)
+        return 0;
+    run += elapsed;
+    return run < RUN_MAX ? run : RUN_MAX;
+}
+
+static unsigned bled(unsigned flags)
+{
+    unsigned taken = 0;
+    while (flags) {
+        const unsigned top = 1u << (31 - __builtin_clz(flags));
+        taken |= top;
+        flags &= ~(top | top >> 1);
+    }
+    return taken;
+}
+
+static inline uint8_t step(struct peer_board *b, adomvik_readings x, const uint32_t *cells, size_t count, adomvik_sampled *out)
+{
+    if (count != b->cells)
+        return 3;
+    if (x.elapsed - 1 > 99999)
+        return 4;
+    const uint8_t *w = b->working;
+    const uint32_t ov_level = 4150 + 50 * (w[0] & 7u);
+    const uint32_t ov_low = ov_level - (uint32_t)ov_hysteresis[w[0] >> 3 & 3];
+    const uint32_t uv_level = 1400 + 100 * (w[1] & 15u);
+    const uint32_t uv_sum = uv_level + (uint32_t)uv_hysteresis[w[1] >> 4 & 3];
+    const uint32_t uv_release = uv_sum < 3300 ? uv_sum : 3300;
+
+    /* nothing is changed before every reading has been looked at; the highest and the lowest say all of a quiet board */
+    uint32_t most = 0, least = UINT32_MAX;
+    for (size_t i = 0; i < count; i++) {
+        most = cells[i] > most ? cells[i] : most;
+        least = cells[i] < least ? cells[i] : least;
+    }
+    if (most > 5000 || x.thermistor > 5000 || x.shunt < -500000 || x.shunt > 500000 || x.load > 1)
+        return 5;
+
+    const int32_t elapsed = (int32_t)x.elapsed;
+    unsigned over = 0, under = 0, ov_stood = 0, flags = b->flags;
+    bool uv_stood = false;
+    if (most > ov_level || flags) {
+        const int32_t delay = 500000 + 250000 * (w[0] >> 5);
+        unsigned low = 0;
+        for (size_t i = 0; i < count; i++) {
+            if (cells[i] > ov_level) {
+                const int32_t run = b->ov_run[i] = next_run(b->ov_run[i], b->over >> i & 1, elapsed);
+                over |= 1u << i;
+                ov_stood |= (unsigned)(run >= delay) << i;
+            }
+            low |= (unsigned)(cells[i] < ov_low) << i;
+        }
+        flags = (flags & ~low) | ov_stood;
+    }
+    if (least < uv_level) {
+        const int32_t delay = uv_delay[w[3] >> 4];
+        for (size_t i = 0; i < count; i++)
+            if (cells[i] < uv_level) {
+                const int32_t run = b->uv_run[i] = next_run(b->uv_run[i], b->under >> i & 1, elapsed);
+                under |= 1u << i;
+                uv_stood |= run >= delay;
+            }
+    }
+    b->over = (uint16_t)over;
+    b->under = (uint16_t)under;
+    b->flags = (uint16_t)flags;
+
+    const int32_t ocd_level = 10000 + 5000 * (w[3] & 15), scd_level = 60000 + 5000 * (w[4] & 15);
+    const bool ocd_over = x.shunt > ocd_level, scd_over = x.shunt > scd_level;
+    bool ocd_stood = false, scd_stood = false;
+    if (ocd_over) {
+        const int32_t code = w[2] & 31;
+        b->ocd_run = next_run(b->ocd_run, b->currents & OCD, elapsed);
+        ocd_stood = b->ocd_run >= (code < 16 ? 20000 * (code + 1) : 100000 * (code - 15));
+    }
+    if (scd_over) {
+        b->scd_run = next_run(b->scd_run, b->currents & SCD, elapsed);
+        scd_stood = b->scd_run >= 60 * (w[4] >> 4);
+    }
+    b->currents = (uint8_t)(ocd_over * OCD | scd_over * SCD);
+
+    unsigned latches = b->latches;
+    latches = next_latch(latches, OV, ov_stood != 0, most < ov_low);
+    latches = next_latch(latches, UV, uv_stood, least > uv_release);
+    latches = next_latch(latches, OCD, ocd_stood, !x.load && !ocd_over);
+    latches = next_latch(latches, SCD, scd_stood, !x.load && !scd_over);
+    const bool hot = x.thermistor < 975;
+    latches = next_latch(latches, HOT, hot, !hot);
+    b->latches = (uint8_t)latches;
+    out->status = (uint8_t)status(latches);
+    out->bled = (uint16_t)bled(b->flags);
+    return 0;
+}
+
+uint8_t peer_sample_board(struct peer_board *board, adomvik_readings readings, const uint32_t *cells, size_t count, adomvik_sampled *out)
+{
+    if (!good_count(board->cells))
+        return 1;
+    return step(board, readings, cells, count, out);
+}
+
+uint8_t peer_sample(struct peer_board *row, size_t boards, uint32_t board, adomvik_readings readings, const uint32_t *cells, size_t count, adomvik_sampled *out)
+{
+    if (!good_row(row, boards))
+        return 1;
+    if (board - 1u >= boards)
+        return 2;
+    return step(&row[board - 1], readings, cells, count, out);
+}
+
+/* ---- frames */
+
+static unsigned check_byte(unsigned address, unsigned reg, unsigned value)
+{
+    return crc_table[crc_table[crc_table[address] ^ reg] ^ value];
+}
+
+static bool allowed_setting(unsigned reg, unsigned value)
+{
+    if (reg == 7)
+        return value < 64;
+    if (reg == 8)
+        return value < 32;
+    return true;
+}
+
+/* Programs the board; false if it has no cycle left for a real change. */
+static bool program(struct peer_board *b)
+{
+    if (memcmp(b->staged, b->working, sizeof b->staged) == 0)
+        return true;
+    if (b->cycles >= CYCLES_MAX)
+        return false;
+    memcpy(b->working, b->staged, sizeof b->staged);
+    b->cycles++;
+    b->over = b->under = 0;
+    b->currents = 0;
+    return true;
+}
+
+uint8_t peer_frame(struct peer_board *row, size_t boards, const uint8_t *frame, size_t length, uint8_t *reply, size_t room)
+{
+    if (!good_row(row, boards))
+        return 1;
+    if (length != 4)
+        return 6;
+    if (room < 4)
+        return 7;
+    const unsigned address = frame[0], reg = frame[1];
+    unsigned value = frame[2];
+    if (check_byte(address, reg, value) != frame[3])
+        return 8;
+    const unsigned number = address >> 1;
+    const bool write = address & 1;
+    if (number - 1u >= boards)
+        return 2;
+    struct peer_board *b = &row[number - 1];
+    const bool setting = reg >= 6 && reg <= 10;
+    if (!setting && reg != 11 && (reg != 0 || write))
+        return 9;
+    if (!write) {
+        if (value != 0)
+            return 10;
+        value = setting ? b->working[reg - 6] : reg == 11 ? b->cycles : status(b->latches);
+    } else if (setting) {
+        if (!allowed_setting(reg, value))
+            return 10;
+        b->staged[reg - 6] = (uint8_t)value;
+    } else {
+        if (value != PROGRAM)
+            return 10;
+        if (!program(b))
+            return 11;
+        value = b->cycles;
+    }
+    reply[0] = (uint8_t)address;
+    reply[1] = (uint8_t)reg;
+    reply[2] = (uint8_t)value;
+    reply[3] = (uint8_t)check_byte(address, reg, value);
+    return 0;
+}
+
+/* ---- the reading */
+
+uint8_t peer_read(const struct peer_board *row, size_t boards, adomvik_reading *out)
+{
+    if (!good_row(row, boards))
+        return 1;
+    unsigned latches = 0, pack = CHG_ON | DSG_ON, board = 0, cell = 0;
+    for (size_t i = 0; i < boards; i++) {
+        latches |= row[i].latches;
+        pack &= status(row[i].latches);
+        if (row[i].flags && !board) {
+            board = (unsigned)i + 1;
+            cell = (unsigned)__builtin_ctz(row[i].flags) + 1;
+        }
+    }
+    out->line = latches != 0;
+    out->chg = (pack & CHG_ON) != 0;
+    out->dsg = (pack & DSG_ON) != 0;
+    out->board = (uint8_t)board;
+    out->cell = (uint8_t)cell;
+    return 0;
+}

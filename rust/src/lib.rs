@@ -1,0 +1,314 @@
+//! Adomvik, a proved battery-pack protector, for Rust: a safe face over `libadomvik.a`, with no dependencies.
+//!
+//! A [`Row`] owns its board records. Every act returns its answer, or the [`Refusal`] of the paper's table; a refused act has
+//! changed nothing. What C callers must see to themselves (lengths, places that do not overlap) the types here see to.
+//!
+//! ```no_run
+//! use adomvik::{Readings, Row};
+//!
+//! let mut row = Row::open([5, 10])?;
+//! let readings = Readings { elapsed: 1_000, shunt: 0, thermistor: 2_000, load: 0 };
+//! let answer = row.sample(1, readings, &[4_000; 5])?;
+//! assert!(answer.chg_on() && answer.dsg_on());
+//! # Ok::<(), adomvik::Refusal>(())
+//! ```
+#![no_std]
+#![warn(missing_docs)]
+
+use core::fmt;
+use core::mem::{align_of, size_of};
+
+/// The most boards that a stack has.
+pub const BOARDS_MAX: usize = 16;
+/// The bytes of a record.
+pub const RECORD_BYTES: usize = 104;
+/// The bytes of a frame and of a reply.
+pub const FRAME_BYTES: usize = 4;
+
+/// Why an act was refused, with the paper's number.
+#[derive(Clone, Copy, Debug, PartialEq, Eq)]
+#[repr(u8)]
+pub enum Refusal {
+    /// Not 1 to 16 boards, or a board without 5 to 10 cells.
+    BadRow = 1,
+    /// No board of that number.
+    NoBoard = 2,
+    /// The cell list is not as long as the board's cell count.
+    CellList = 3,
+    /// Elapsed time not 1 to 100,000 µs.
+    Elapsed = 4,
+    /// A cell or the thermistor above 5,000 mV, the shunt beyond 500,000 µV, or the load flag not 0 or 1.
+    OutOfRange = 5,
+    /// The frame is not 4 bytes.
+    FrameLength = 6,
+    /// The reply buffer is under 4 bytes.
+    ReplyRoom = 7,
+    /// The check byte is wrong.
+    CheckByte = 8,
+    /// The register is unknown, or a write to register 0.
+    NoRegister = 9,
+    /// The value is not allowed.
+    BadValue = 10,
+    /// Programming staged settings unlike the working ones, three cycles already spent.
+    NoCycle = 11,
+}
+
+impl Refusal {
+    /// The paper's number.
+    pub fn number(self) -> u8 {
+        self as u8
+    }
+
+    /// What the library returned: 0 is no refusal. By their contracts its functions return no number past 11.
+    fn check(number: u8) -> Result<(), Refusal> {
+        use Refusal::*;
+        const ALL: [Refusal; 11] = [
+            BadRow, NoBoard, CellList, Elapsed, OutOfRange, FrameLength, ReplyRoom, CheckByte, NoRegister, BadValue, NoCycle,
+        ];
+        match number {
+            0 => Ok(()),
+            n => Err(ALL[n as usize - 1]),
+        }
+    }
+}
+
+impl fmt::Display for Refusal {
+    fn fmt(&self, f: &mut fmt::Formatter<'_>) -> fmt::Result {
+        write!(f, "refusal {}", self.number())
+    }
+}
+
+#[derive(Clone, Copy)]
+#[repr(C)]
+struct Settings {
+    registers: [u8; 5],
+}
+
+#[derive(Clone, Copy)]
+#[repr(C)]
+struct Run {
+    one: u32,
+    other: u32,
+}
+
+/// One board's record. It is made by an opening, or from bytes that were kept: every pattern of bytes is a record.
+#[derive(Clone, Copy)]
+#[repr(C)]
+pub struct Board {
+    count: u8,
+    latches: u8,
+    cycles: u8,
+    flags: u16,
+    working: Settings,
+    staged: Settings,
+    currents: Run,
+    cells: [Run; 10],
+}
+
+const _: () = assert!(size_of::<Board>() == RECORD_BYTES && align_of::<Board>() == 4);
+
+/// What a sample reads beside the cells.
+#[derive(Clone, Copy, Debug, PartialEq, Eq)]
+#[repr(C)]
+pub struct Readings {
+    /// µs since the board's last sample.
+    pub elapsed: u32,
+    /// µV; discharge is positive, charge is negative.
+    pub shunt: i32,
+    /// mV.
+    pub thermistor: u32,
+    /// 1 attached, 0 not.
+    pub load: u32,
+}
+
+const _: () = assert!(size_of::<Readings>() == 16 && align_of::<Readings>() == 4);
+
+/// The answer to a sample.
+#[derive(Clone, Copy, Debug, PartialEq, Eq)]
+#[repr(C)]
+pub struct Sampled {
+    /// Register 0: the latched faults and the switches.
+    pub status: u8,
+    /// The bled cells as a number: cell 1 is worth 1, cell 2 is worth 2, cell 3 is worth 4 and so on.
+    pub bled: u16,
+}
+
+const _: () = assert!(size_of::<Sampled>() == 4);
+
+impl Sampled {
+    /// Whether the charge switch is on.
+    pub fn chg_on(self) -> bool {
+        self.status & 0x80 != 0
+    }
+
+    /// Whether the discharge switch is on.
+    pub fn dsg_on(self) -> bool {
+        self.status & 0x40 != 0
+    }
+}
+
+#[repr(C)]
+struct RawReading {
+    line: u8,
+    chg: u8,
+    dsg: u8,
+    board: u8,
+    cell: u8,
+}
+
+const _: () = assert!(size_of::<RawReading>() == 5);
+
+/// A whole-stack reading.
+#[derive(Clone, Copy, Debug, PartialEq, Eq)]
+pub struct Reading {
+    /// Board 1's fault line is up.
+    pub line: bool,
+    /// CHG is on at every board.
+    pub chg: bool,
+    /// DSG is on at every board.
+    pub dsg: bool,
+    /// The southernmost board with a flagged cell and the lowest such cell on it.
+    pub flagged: Option<(u8, u8)>,
+}
+
+// The header include/adomvik.h in Rust. A slice is passed as a pointer and a length, a record by reference.
+extern "C" {
+    fn adomvik_open(row: *mut Board, boards: usize, counts: *const u32, count: usize) -> u8;
+    fn adomvik_sample(row: *mut Board, boards: usize, board: u32, readings: Readings, cells: *const u32, count: usize, out: &mut Sampled) -> u8;
+    fn adomvik_sample_board(board: &mut Board, readings: Readings, cells: *const u32, count: usize, out: &mut Sampled) -> u8;
+    fn adomvik_frame(row: *mut Board, boards: usize, frame: *const u8, length: usize, reply: *mut u8, room: usize) -> u8;
+    fn adomvik_read(row: *const Board, boards: usize, out: &mut RawReading) -> u8;
+}
+
+impl Board {
+    const EMPTY: Board = Board {
+        count: 0,
+        latches: 0,
+        cycles: 0,
+        flags: 0,
+        working: Settings { registers: [0; 5] },
+        staged: Settings { registers: [0; 5] },
+        currents: Run { one: 0, other: 0 },
+        cells: [Run { one: 0, other: 0 }; 10],
+    };
+
+    /// A sample of this record, with no row looked at.
+    pub fn sample(&mut self, readings: Readings, cells: &[u32]) -> Result<Sampled, Refusal> {
+        let mut out = Sampled { status: 0, bled: 0 };
+        // SAFETY: two exclusive references and a slice, each with its own length.
+        Refusal::check(unsafe { adomvik_sample_board(self, readings, cells.as_ptr(), cells.len(), &mut out) })?;
+        Ok(out)
+    }
+
+    /// The record as bytes, to be kept.
+    pub fn to_bytes(&self) -> [u8; RECORD_BYTES] {
+        let mut bytes = [0; RECORD_BYTES];
+        bytes[0] = self.count;
+        bytes[1] = self.latches;
+        bytes[2] = self.cycles;
+        bytes[4..6].copy_from_slice(&self.flags.to_le_bytes());
+        bytes[6..11].copy_from_slice(&self.working.registers);
+        bytes[11..16].copy_from_slice(&self.staged.registers);
+        let runs = core::iter::once(&self.currents).chain(&self.cells);
+        for (place, run) in bytes[16..].chunks_exact_mut(8).zip(runs) {
+            place[..4].copy_from_slice(&run.one.to_le_bytes());
+            place[4..].copy_from_slice(&run.other.to_le_bytes());
+        }
+        bytes
+    }
+
+    /// The record of kept bytes, whatever they are.
+    pub fn from_bytes(bytes: &[u8; RECORD_BYTES]) -> Board {
+        let word = |at: usize| u32::from_le_bytes([bytes[at], bytes[at + 1], bytes[at + 2], bytes[at + 3]]);
+        let run = |at: usize| Run { one: word(at), other: word(at + 4) };
+        let five = |at: usize| [bytes[at], bytes[at + 1], bytes[at + 2], bytes[at + 3], bytes[at + 4]];
+        Board {
+            count: bytes[0],
+            latches: bytes[1],
+            cycles: bytes[2],
+            flags: u16::from_le_bytes([bytes[4], bytes[5]]),
+            working: Settings { registers: five(6) },
+            staged: Settings { registers: five(11) },
+            currents: run(16),
+            cells: core::array::from_fn(|i| run(24 + 8 * i)),
+        }
+    }
+}
+
+/// Opens the row that `boards` lends: every record is made anew, one for each count.
+pub fn open(boards: &mut [Board], counts: &[u32]) -> Result<(), Refusal> {
+    // SAFETY: an exclusive and a shared slice, each with its own length.
+    Refusal::check(unsafe { adomvik_open(boards.as_mut_ptr(), boards.len(), counts.as_ptr(), counts.len()) })
+}
+
+/// A sample of board `board` of a lent row, counted from 1.
+pub fn sample(row: &mut [Board], board: u32, readings: Readings, cells: &[u32]) -> Result<Sampled, Refusal> {
+    let mut out = Sampled { status: 0, bled: 0 };
+    // SAFETY: an exclusive slice, a shared one, and an exclusive reference to a local.
+    Refusal::check(unsafe { adomvik_sample(row.as_mut_ptr(), row.len(), board, readings, cells.as_ptr(), cells.len(), &mut out) })?;
+    Ok(out)
+}
+
+/// A frame to a lent row. The reply takes the first four bytes of its buffer; later bytes stay, and at a refusal all of them.
+pub fn frame(row: &mut [Board], frame: &[u8], reply: &mut [u8]) -> Result<(), Refusal> {
+    // SAFETY: two exclusive slices and a shared one, each with its own length.
+    Refusal::check(unsafe { adomvik_frame(row.as_mut_ptr(), row.len(), frame.as_ptr(), frame.len(), reply.as_mut_ptr(), reply.len()) })
+}
+
+/// The whole-stack reading of a lent row.
+pub fn read(row: &[Board]) -> Result<Reading, Refusal> {
+    let mut out = RawReading { line: 0, chg: 0, dsg: 0, board: 0, cell: 0 };
+    // SAFETY: a shared slice with its length, and an exclusive reference to a local.
+    Refusal::check(unsafe { adomvik_read(row.as_ptr(), row.len(), &mut out) })?;
+    let flagged = if out.board == 0 { None } else { Some((out.board, out.cell)) };
+    Ok(Reading { line: out.line == 1, chg: out.chg == 1, dsg: out.dsg == 1, flagged })
+}
+
+/// A stack of `N` boards that owns its records.
+#[derive(Clone)]
+pub struct Row<const N: usize> {
+    boards: [Board; N],
+}
+
+impl<const N: usize> Row<N> {
+    /// Opens a stack by the cell count of each board, southernmost first.
+    pub fn open(counts: [u32; N]) -> Result<Row<N>, Refusal> {
+        let mut row = Row { boards: [Board::EMPTY; N] };
+        open(&mut row.boards, &counts)?;
+        Ok(row)
+    }
+
+    /// A sample of board `board`, counted from 1.
+    pub fn sample(&mut self, board: u32, readings: Readings, cells: &[u32]) -> Result<Sampled, Refusal> {
+        sample(&mut self.boards, board, readings, cells)
+    }
+
+    /// A frame from the host; its reply.
+    pub fn frame(&mut self, bytes: &[u8]) -> Result<[u8; FRAME_BYTES], Refusal> {
+        let mut reply = [0; FRAME_BYTES];
+        frame(&mut self.boards, bytes, &mut reply)?;
+        Ok(reply)
+    }
+
+    /// The whole-stack reading.
+    pub fn read(&self) -> Result<Reading, Refusal> {
+        read(&self.boards)
+    }
+
+    /// The records, southernmost first.
+    pub fn boards(&self) -> &[Board; N] {
+        &self.boards
+    }
+
+    /// The record of a board, counted from 1, if there is one.
+    pub fn board_mut(&mut self, board: usize) -> Option<&mut Board> {
+        self.boards.get_mut(board.checked_sub(1)?)
+    }
+}
+
+impl<const N: usize> From<[Board; N]> for Row<N> {
+    /// A row of records that were kept; a row that is none is refused act by act.
+    fn from(boards: [Board; N]) -> Row<N> {
+        Row { boards }
+    }
+}

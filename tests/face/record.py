@@ -1,0 +1,197 @@
+"""What an act does to a board's record, by the record's description in include/adomvik.h.
+
+The reference computes everything from a board's history, and a record that
+came from no opening has none. This model takes any record: its levels, check
+byte and status are the reference's, its runs are the kept numbers.
+"""
+
+import struct
+from zlib import crc32
+
+from reference import (CYCLES, FIRST_SETTING, HOT_BELOW_MV, MOST_CYCLES, Refusal, STATUS_BIT,
+                       Settings, bled, check_register, chg_on, crc8, dsg_on, status,
+                       value_allowed)
+
+LAYOUT = struct.Struct("<BBBxH5s5s22I")     # x is the byte of padding
+BARE = struct.Struct("<BBBH5s5s22I")
+RECORDS = 18                                # that the drivers have
+RUN_CAP = 10_000_000
+PATTERN = 0xA5                              # what a place holds before an act
+
+
+def run_next(run, holds, elapsed):
+    """0 for none, and one more than the microseconds of a run."""
+    if not holds:
+        return 0
+    return min(run + elapsed, RUN_CAP) if run else 1
+
+
+class Record:
+    """One record, field by field."""
+
+    def __init__(self, data=bytes(LAYOUT.size)):
+        self.count, self.latches, self.cycles, self.flags, working, staged, *runs = LAYOUT.unpack(data)
+        self.working, self.staged, self.runs = list(working), list(staged), runs
+
+    @classmethod
+    def fresh(cls, count):
+        """A board as it starts."""
+        record = cls()
+        record.count = count
+        return record
+
+    def bare(self):
+        """The bytes without the padding."""
+        return BARE.pack(self.count, self.latches, self.cycles, self.flags, bytes(self.working), bytes(self.staged), *self.runs)
+
+    def bad(self):
+        """A board without 5 to 10 cells."""
+        return not 5 <= self.count <= 10
+
+    def latched(self):
+        """The latched faults, by name."""
+        return {fault for fault, bit in STATUS_BIT.items() if self.latches >> bit & 1}
+
+    def flagged(self):
+        """The flagged cells, counted from 0."""
+        return {i for i in range(self.count) if self.flags >> i & 1}
+
+    def sample(self, elapsed, shunt, thermistor, load, cells):
+        """Refusals 3, 4, 5 in order; else the answer's values."""
+        if len(cells) != self.count:
+            raise Refusal(3)
+        if not 1 <= elapsed <= 100000:
+            raise Refusal(4)
+        if max(cells) > 5000 or thermistor > 5000 or not -500000 <= shunt <= 500000 or load > 1:
+            raise Refusal(5)
+        s = Settings(self.working)
+        over, under = set(), False
+        for i, mv in enumerate(cells):
+            self.runs[2 + 2 * i] = run_next(self.runs[2 + 2 * i], mv > s.ov_level, elapsed)
+            self.runs[3 + 2 * i] = run_next(self.runs[3 + 2 * i], mv < s.uv_level, elapsed)
+            if self.runs[2 + 2 * i] > s.ov_delay:
+                over.add(i)
+            under = under or self.runs[3 + 2 * i] > s.uv_delay
+        self.runs[0] = run_next(self.runs[0], shunt > s.ocd_level, elapsed)
+        self.runs[1] = run_next(self.runs[1], shunt > s.scd_level, elapsed)
+        hot = thermistor < HOT_BELOW_MV
+        stands = {"OV": bool(over), "UV": under, "OCD": self.runs[0] > s.ocd_delay, "SCD": self.runs[1] > s.scd_delay, "OT": hot}
+        goes = {"OV": max(cells) < s.ov_release, "UV": min(cells) > s.uv_release, "OCD": load == 0 and shunt <= s.ocd_level,
+                "SCD": load == 0 and shunt <= s.scd_level, "OT": not hot}
+        before = self.latched()
+        after = {fault for fault in STATUS_BIT if (not goes[fault] if fault in before else stands[fault])}
+        flagged = over | {i for i in self.flagged() if not cells[i] < s.ov_release}
+        self.latches = sum(1 << STATUS_BIT[fault] for fault in after)
+        self.flags = sum(1 << i for i in flagged)
+        return status(after), bled(flagged, self.count)
+
+    def access(self, writes, register, value):
+        """Refusals 9, 10, 11 in order; else the reply's value."""
+        check_register(register, writes)
+        if not value_allowed(register, value, writes):
+            raise Refusal(10)
+        if not writes:
+            return {0: status(self.latched()), CYCLES: self.cycles}.get(register) if register in (0, CYCLES) else self.working[register - FIRST_SETTING]
+        if register != CYCLES:
+            self.staged[register - FIRST_SETTING] = value
+            return value
+        if self.staged != self.working:
+            if self.cycles >= MOST_CYCLES:
+                raise Refusal(11)
+            self.working, self.runs = list(self.staged), [0] * len(self.runs)
+            self.cycles += 1
+        return self.cycles
+
+
+class Rows:
+    """The drivers' records, and the answer lines that they should give."""
+
+    def __init__(self):
+        self.records = [Record() for _ in range(RECORDS)]
+        self.kept = [record.bare() for record in self.records]
+
+    def overwrite(self, place, data):
+        """Other bytes over a record."""
+        self.records[place] = Record(data)
+        self.kept[place] = self.records[place].bare()
+
+    def checked(self, boards):
+        """The row of so many records, or refusal 1."""
+        row = self.records[:boards]
+        if not 1 <= boards <= 16 or any(record.bad() for record in row):
+            raise Refusal(1)
+        return row
+
+    def board(self, row, number):
+        """The place of a board, or refusal 2."""
+        if not 1 <= number <= len(row):
+            raise Refusal(2)
+        return number - 1
+
+    def line(self, number, told):
+        """An answer line: the number, what the places hold, the checksum."""
+        return " ".join([str(number)] + told + ["%08x" % crc32(b"".join(self.kept))])
+
+    def opening(self, boards, counts):
+        """Every record made anew, or refusal 1."""
+        if len(counts) != boards or not 1 <= boards <= 16 or not all(5 <= n <= 10 for n in counts):
+            return self.line(1, [])
+        for place, count in enumerate(counts):
+            self.records[place] = Record.fresh(count)
+            self.kept[place] = self.records[place].bare()
+        return self.line(0, [])
+
+    def at(self, place, act):
+        """An act on one record; a refused one has changed nothing."""
+        try:
+            return act(self.records[place])
+        finally:
+            self.kept[place] = self.records[place].bare()
+
+    def sample(self, boards, number, fields):
+        """A sample of the row."""
+        try:
+            place = self.board(self.checked(boards), number)
+            return self.line(0, [str(n) for n in self.at(place, lambda r: r.sample(*fields))])
+        except Refusal as refusal:
+            return self.line(refusal.number, ["165", "42405"])
+
+    def sample_one(self, place, fields):
+        """A sample of one record."""
+        try:
+            if self.records[place].bad():
+                raise Refusal(1)
+            return self.line(0, [str(n) for n in self.at(place, lambda r: r.sample(*fields))])
+        except Refusal as refusal:
+            return self.line(refusal.number, ["165", "42405"])
+
+    def frame(self, boards, data, room):
+        """A frame of the row, with a reply buffer of so many bytes."""
+        reply = bytearray([PATTERN] * room)
+        number = 0
+        try:
+            row = self.checked(boards)
+            if len(data) != 4:
+                raise Refusal(6)
+            if room < 4:
+                raise Refusal(7)
+            address, register, value, check = data
+            if crc8((address, register, value)) != check:
+                raise Refusal(8)
+            place = self.board(row, address // 2)
+            given = self.at(place, lambda r: r.access(address % 2 == 1, register, value))
+            reply[:4] = (address, register, given, crc8((address, register, given)))
+        except Refusal as refusal:
+            number = refusal.number
+        return self.line(number, [reply.hex()] if room else [])
+
+    def reading(self, boards):
+        """The whole-stack reading of the row."""
+        try:
+            row = self.checked(boards)
+        except Refusal as refusal:
+            return self.line(refusal.number, [str(PATTERN)] * 5)
+        line = any(record.latched() for record in row)
+        chg, dsg = all(chg_on(r.latched()) for r in row), all(dsg_on(r.latched()) for r in row)
+        place = next(((n, min(r.flagged()) + 1) for n, r in enumerate(row, 1) if r.flagged()), (0, 0))
+        return self.line(0, [str(int(n)) for n in (line, chg, dsg) + place])
