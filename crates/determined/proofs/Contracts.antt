@@ -42,6 +42,7 @@ use Rattle.runs.proofs.advance.Reads as runs-advance
 use Rattle.runs.proofs.has_stood.Reads as runs-has-stood
 use Rattle.cells.proofs.sweep.Reads as cells-sweep
 use Rattle.cells.proofs.all_readable.Reads as cells-all-readable
+use Rattle.cells.proofs.calm.Reads as cells-calm
 use Rattle.cells.proofs.fresh_cells.Reads as cells-fresh-cells
 use Rattle.latches.proofs.latches_of.Reads as latches-latches-of
 use Rattle.latches.proofs.chg_of.Reads as latches-chg-of
@@ -156,6 +157,9 @@ cells-sweep-one κs a r t s u = agree
 
 pub cells-all-readable-one : (κs : _) (a : _) (r t : _) (s u : _) → cells-all-readable.Learnt κs a r s → cells-all-readable.Learnt κs a t u → r ≡ t
 cells-all-readable-one κs a r t s u = agree
+
+pub cells-calm-one : (κs : _) (a : _) (r t : _) (s u : _) → cells-calm.Learnt κs a r s → cells-calm.Learnt κs a t u → r ≡ t
+cells-calm-one κs a r t s u = agree
 
 pub cells-fresh-cells-one : (κs : _) (a : _) (r t : _) (s u : _) → cells-fresh-cells.Learnt κs a r s → cells-fresh-cells.Learnt κs a t u → r ≡ t
 cells-fresh-cells-one κs a r t s u = agree
