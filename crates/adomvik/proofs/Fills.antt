@@ -1,21 +1,21 @@
 -- The records of an opening, put one by one: where that stops, one turn of it, and the row in the end.
 -- Assumes nothing.
-use Prim.Native.Nat.{ℕ, zero, suc, _+_, _-_, _<_, _≤_}
+use Prim.Native.Nat.{ℕ, zero, suc, _+_, _-_, _<_}
 use native.Mathlib.Omega.{arith}
 use native.Mathlib.Numerals.{add-one}
-use mathlib.Core.Path.{_≡_, refl, sym, ap, _∙_}
-use mathlib.Core.Bool.{Bool, true, false, true≢false, cond, not, _||_}
-use mathlib.Core.List.{List, [], _∷_, _++_, map, append-nil}
+use mathlib.Core.Path.{_≡_, refl, sym, _∙_}
+use mathlib.Core.Bool.{Bool, true, false, true≢false, not, _||_}
+use mathlib.Core.List.{List, _++_, map, append-nil}
 use lib.Dec.{ltb, eqb}
 use lib.ListN.{length, getD, set, take, drop, length-set}
 use lib.Seq.{take-all, drop-length, drop-cons, take-suc-set, append-snoc}
 use borrow.Author.Tests.{ltb-true, lt-ltb, eqb-true}
-use Rattle.lists.proofs.Split.{split, not-yes}
+use Rattle.lists.proofs.Split.{split}
 use Rattle.lists.proofs.Every.{every-at}
 use Rattle.board.specs.declared.Board.{Board}
 use Rattle.board.specs.Sample.{fresh, outside}
 use Rattle.stack.specs.Row.{badCount}
-use Rattle.stack.specs.Open.{goodCounts, opened}
+use Rattle.stack.specs.Open.{goodCounts}
 use Rattle.stack.proofs.Counts.{within}
 use Rattle.adomvik.specs.declared.Progress.{Progress}
 use Rattle.adomvik.specs.Open.{openNumber, openRow, fillFrom, refusedFill, startOf, more, left, byteCount, putOf, fillAt, fillRowAt, turnsEnd, turnsRow, fillEnd, fillRow}
