@@ -1,10 +1,8 @@
 -- Which cells are bled (01, Bleeding).
 -- Assumes nothing.
-use Prim.Native.Nat.{ℕ, _+_, _*_, _%_}
+use Prim.Native.Nat.{ℕ, _+_, _*_}
 use mathlib.Core.Bool.{Bool, false, cond, not, _&&_}
 use mathlib.Core.List.{List, [], _∷_}
-use lib.Dec.{eqb}
-use Rattle.marks.specs.Marks.{bit}
 
 -- the next higher cell, where there is one
 abbrev pub next : List Bool → Bool
@@ -16,9 +14,6 @@ unfoldable pub bled : List Bool → List Bool
 bled [] = []
 bled (flagged ∷ higher) = (flagged && not (next (bled higher))) ∷ bled higher
 
--- the same on numbers: a cell below a number of cells is worth 1, and those move up
+-- a number of cells with one more below them: that one is worth 1, and the others move up
 abbrev pub markNext : Bool → ℕ → ℕ
 markNext marked above = cond marked (2 * above + 1) (2 * above)
-
-abbrev pub bleedNext : Bool → ℕ → ℕ
-bleedNext flagged above = markNext (flagged && eqb (above % 2) 0) above

@@ -3,7 +3,7 @@
 ghost use mathlib.Core.Path.{_≡_};
 ghost use Prim.Native.Nat.{min, _<_};
 ghost use Rattle.cells.specs.Cells.{cellBy, flagBy, sweepOf, noCells, readable, noRuns, allBetween, calmOf};
-ghost use Rattle.cells.specs.Bleed.{bleedNext, markNext};
+ghost use Rattle.cells.specs.Bleed.{markNext};
 use settings::Settings;
 
 // What a board keeps of one cell: the runs of its OV and UV conditions.
@@ -48,14 +48,6 @@ fn mark_next(marked: bool, above: u16) -> u16
     if marked { 2 * above + 1 } else { 2 * above }
 }
 
-// The bled cells with one more cell below them: the next higher cell is the lowest of those above.
-fn bleed_next(flagged: bool, above: u16) -> u16
-    requires { ⌜ above < 1024 ⌝ }
-    ensures { λ r. ⌜ r ≡ bleedNext flagged above ⌝ }
-{
-    mark_next(flagged & (above % 2 == 0), above)
-}
-
 // A board has ten cells at most.
 fn cell_count(readings: usize) -> usize
     ensures { λ r. ⌜ r ≡ min readings 10 ⌝ }
@@ -76,6 +68,7 @@ pub fn sweep(s: Settings, elapsed: u32, cells: [Cell; 10], flags: u16, mv: &[u32
     let mut next = cells;
     let mut flagged = 0;
     let mut bled = 0;
+    let mut bleeds = false;
     let mut ov_stood = false;
     let mut ov_lets_go = true;
     let mut uv_stood = false;
@@ -90,7 +83,9 @@ pub fn sweep(s: Settings, elapsed: u32, cells: [Cell; 10], flags: u16, mv: &[u32
         let low = runs::has_stood(uv_delay, cell.uv);
         let flag = flag_next(ov_release, high, marks::mark_at(flags, i), v);
         flagged = mark_next(flag, flagged);
-        bled = bleed_next(flag, bled);
+        // a flagged cell bleeds unless the next higher one, which the pass has just left, does
+        bleeds = flag & !bleeds;
+        bled = mark_next(bleeds, bled);
         ov_stood = high | ov_stood;
         ov_lets_go = (v < ov_release) & ov_lets_go;
         uv_stood = low | uv_stood;

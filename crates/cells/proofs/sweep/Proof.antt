@@ -10,11 +10,11 @@ use Rattle.cells.proofs.sweep.Statement.{statement}
 use Rattle.cells.proofs.sweep.Tie as tie
 
 abbrev Inv-loop : tie.InvT-loop
-Inv-loop elapsed flags mv ov ov-release ov-delay uv uv-release uv-delay next₀ flagged₀ bled₀ ov-stood₀ ov-lets-go₀ uv-stood₀ uv-lets-go₀ i₀ next flagged bled ov-stood ov-lets-go uv-stood uv-lets-go i =
-    (i ≤ cellCount mv) × (length next₀ ≡ 10) × Gathered (record { ov = ov; ovRelease = ov-release; ovDelay = ov-delay; uv = uv; uvRelease = uv-release; uvDelay = uv-delay }) elapsed next₀ flags mv (cellCount mv) i next flagged bled ov-stood ov-lets-go uv-stood uv-lets-go
+Inv-loop elapsed flags mv ov ov-release ov-delay uv uv-release uv-delay next₀ flagged₀ bled₀ bleeds₀ ov-stood₀ ov-lets-go₀ uv-stood₀ uv-lets-go₀ i₀ next flagged bled bleeds ov-stood ov-lets-go uv-stood uv-lets-go i =
+    (i ≤ cellCount mv) × (length next₀ ≡ 10) × Gathered (record { ov = ov; ovRelease = ov-release; ovDelay = ov-delay; uv = uv; uvRelease = uv-release; uvDelay = uv-delay }) elapsed next₀ flags mv (cellCount mv) i next flagged bled bleeds ov-stood ov-lets-go uv-stood uv-lets-go
 
 abbrev μ-loop : tie.MeasureT-loop
-μ-loop elapsed flags mv ov ov-release ov-delay uv uv-release uv-delay next₀ flagged₀ bled₀ ov-stood₀ ov-lets-go₀ uv-stood₀ uv-lets-go₀ i₀ next flagged bled ov-stood ov-lets-go uv-stood uv-lets-go i = i
+μ-loop elapsed flags mv ov ov-release ov-delay uv uv-release uv-delay next₀ flagged₀ bled₀ bleeds₀ ov-stood₀ ov-lets-go₀ uv-stood₀ uv-lets-go₀ i₀ next flagged bled bleeds ov-stood ov-lets-go uv-stood uv-lets-go i = i
 
 ov-level-requires : tie.Need-ov-level-requires Inv-loop μ-loop
 ov-level-requires c κs = search needs
@@ -84,8 +84,8 @@ mark-next-requires c κs =
     let h = c .before .before .before .before .before .before .before .before in
     few-flags _ _ _ _ _ _ (h .loop .inv .2) (omega arith)
 
-bleed-next-requires : tie.Need-bleed-next-requires Inv-loop μ-loop
-bleed-next-requires c κs =
+mark-next-requires-2 : tie.Need-mark-next-requires-2 Inv-loop μ-loop
+mark-next-requires-2 c κs =
     let h = c .before .before .before .before .before .before .before .before .before in
     few-bled _ _ _ _ _ _ (h .loop .inv .2) (omega arith)
 
@@ -106,7 +106,7 @@ loop-again c =
     let going = c6 .before .before .before .loop-test .taken in
     let flag = rw (c3 .mark-at .ensures) at (c2 .flag-next .ensures) in
     let cell = rw (waits _ _ _ _ _ _ (h .loop .inv .2) (omega arith) (omega arith) (omega arith)) at (c6 .cell-next .ensures) in
-    (search needs, long, rw (c .bleed-next .ensures, c1 .mark-next .ensures) (turn _ _ _ _ _ _ _ _ _ _ (h .loop .inv .2) cell (c5 .has-stood .ensures) (c4 .has-stood2 .ensures) flag (omega arith) (omega arith) (omega arith)))
+    (search needs, long, rw (c .mark-next2 .ensures, c1 .mark-next .ensures) (turn _ _ _ _ _ _ _ _ _ _ (h .loop .inv .2) cell (c5 .has-stood .ensures) (c4 .has-stood2 .ensures) flag (omega arith) (omega arith) (omega arith)))
 
 returns : tie.Need-returns Inv-loop μ-loop
 returns c =
@@ -149,7 +149,7 @@ sweep-spec =
     mark-at-requires
     flag-next-requires
     mark-next-requires
-    bleed-next-requires
+    mark-next-requires-2
     loop-less
     loop-again
     returns)
