@@ -1,8 +1,8 @@
 -- A sample, said once over the fault; and what its answer says.
 -- Assumes nothing.
 use Prim.Native.Nat.{ℕ}
-use mathlib.Core.Path.{_≡_, refl, ap, sym, _∙_}
-use mathlib.Core.Bool.{Bool, true, false}
+use mathlib.Core.Path.{_≡_, refl}
+use mathlib.Core.Bool.{Bool}
 use mathlib.Core.List.{List}
 use Rattle.refusal.proofs.Laws.{said-refused}
 use Rattle.settings.specs.Faults.{Fault, SCD, OCD, OV, UV, OT}
@@ -10,7 +10,7 @@ use Rattle.board.specs.declared.Board.{Board}
 use Rattle.board.specs.declared.Readings.{Readings}
 use Rattle.board.specs.declared.Answer.{Answer}
 use Rattle.board.specs.declared.Answer.the-variants.{Sampled, Refused}
-use Rattle.latches.specs.Latches.{latch, latches, latchNext, latchesOf, latchesByte}
+use Rattle.latches.specs.Latches.{latch, latches, latchNext, latchesOf}
 use Rattle.board.specs.Sample.{answerSaid, answerSaying, sweptAt, latchesAfter, latchesNext, boardNext, currentsNext, stands, letsGo}
 use Rattle.latches.proofs.Packed.{latches-kept}
 

@@ -2,7 +2,7 @@
 -- Assumes nothing.
 use Prim.Native.Nat.{ℕ}
 use native.Mathlib.Omega.{arith}
-use mathlib.Core.Path.{_≡_, refl, sym, ap, _∙_}
+use mathlib.Core.Path.{_≡_, sym, ap, _∙_}
 use mathlib.Core.Bool.{Bool, true, false, not, _&&_}
 use mathlib.Core.List.{List}
 use lib.Dec.{ltb, eqb}
@@ -14,9 +14,8 @@ use Rattle.settings.specs.Faults.{SCD, OCD, delay}
 use Rattle.runs.specs.Kept.{runNext, stood}
 use Rattle.marks.specs.Marks.{number}
 use Rattle.cells.specs.declared.Swept.{Swept}
-use Rattle.cells.specs.Cells.{sweepOf, calmOf, readable}
+use Rattle.cells.specs.Cells.{calmOf}
 use Rattle.cells.proofs.Stays.{calm-readable, calm-sweep}
-use Rattle.latches.specs.declared.Latches.{Latches}
 use Rattle.latches.specs.Latches.{latches, latchesByte, register0}
 use Rattle.board.specs.declared.Board.{Board}
 use Rattle.board.specs.declared.Readings.{Readings}

@@ -6,7 +6,7 @@ use mathlib.Core.List.{List, [], _∷_}
 use lib.Dec.{ltb, eqb}
 use lib.ListN.{length}
 use Rattle.refusal.specs.Refusals.{numberOf, numbered}
-use Rattle.refusal.specs.Said.{Said, refuses, accepts, value, Bar, bar, first, judged, kept}
+use Rattle.refusal.specs.Said.{Said, refuses, accepts, value, Bar, bar, judged, kept}
 use Rattle.settings.specs.declared.Settings.{Settings}
 use Rattle.settings.specs.Levels.{factory, ocdLevel, scdLevel}
 use Rattle.settings.specs.Faults.{Fault, SCD, OCD, OV, UV, OT, delay}

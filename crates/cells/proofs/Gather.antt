@@ -1,13 +1,13 @@
 -- One pass over the cells, from the highest down: what it has gathered, and one cell more.
 -- Assumes nothing.
-use Prim.Native.Nat.{ℕ, zero, suc, _+_, _-_, _*_, _^_, _<_, _≤_, min}
+use Prim.Native.Nat.{ℕ, zero, suc, _+_, _-_, _<_, _≤_}
 use native.Mathlib.Nat.{lt-of-lt-of-le, not-suc-le-zero}
 use native.Mathlib.Omega.{arith}
-use mathlib.Core.Path.{_≡_, refl, ap, sym, _∙_}
-use mathlib.Core.Bool.{Bool, true, false, cond, not, _&&_, _||_}
-use mathlib.Core.List.{List, [], _∷_, _++_}
+use mathlib.Core.Path.{_≡_, sym, _∙_}
+use mathlib.Core.Bool.{Bool, true, false, not, _&&_, _||_}
+use mathlib.Core.List.{List, _++_}
 use lib.Dec.{ltb}
-use lib.ListN.{length, getD, take, drop, set, take-append-drop, length-take, List·getD-append}
+use lib.ListN.{length, take, drop, set, take-append-drop, length-take, List·getD-append}
 use lib.Seq.{getD-take}
 use lib.Pow.{pow-mono}
 use Rattle.runs.specs.Kept.{stood}

@@ -1,15 +1,14 @@
 -- What a sample makes of each cell, over the cell's place: nothing but its own run or flag, its own reading, the elapsed time and the settings.
 -- Assumes nothing.
-use Prim.Native.Nat.{ℕ, _<_, _≤_, min}
-use native.Mathlib.Omega.{arith}
-use mathlib.Core.Path.{_≡_, refl, ap, sym, _∙_}
-use mathlib.Core.Bool.{Bool, true, false}
-use mathlib.Core.List.{List, [], _∷_, _++_}
-use lib.ListN.{length, getD, drop, List·getD-append}
+use Prim.Native.Nat.{ℕ, _<_}
+use mathlib.Core.Path.{_≡_, _∙_}
+use mathlib.Core.Bool.{false}
+use mathlib.Core.List.{List}
+use lib.ListN.{length, drop, List·getD-append}
 use Rattle.settings.specs.declared.Settings.{Settings}
 use Rattle.settings.specs.Levels.{ovDelay}
 use Rattle.runs.specs.Kept.{stood}
-use Rattle.marks.specs.Marks.{number, marked}
+use Rattle.marks.specs.Marks.{marked}
 use Rattle.marks.proofs.Laws.{number-at}
 use Rattle.cells.specs.declared.Cell.{Cell}
 use Rattle.cells.specs.Each.{each}

@@ -1,10 +1,9 @@
 -- Calm cells stay as they are: a pass over them finds no run, no flag and nothing to bleed, and OV and UV let go.
 -- Assumes nothing.
-use Prim.Native.Nat.{ℕ, zero, suc, _+_, _-_, _<_, _≤_, min}
-use native.Mathlib.Nat.{not-suc-le-zero}
+use Prim.Native.Nat.{ℕ, zero, suc, _+_, _-_, _<_, _≤_}
 use native.Mathlib.Omega.{arith}
 use mathlib.Core.Path.{_≡_, refl, sym, ap, _∙_}
-use mathlib.Core.Bool.{Bool, true, false, not, _&&_, _||_}
+use mathlib.Core.Bool.{Bool, true, false, _&&_}
 use mathlib.Core.List.{List, [], _∷_, _++_}
 use lib.Dec.{ltb, leb, eqb}
 use lib.ListN.{length, getD, drop}
@@ -14,14 +13,13 @@ use Rattle.lists.specs.Every.{every}
 use Rattle.lists.proofs.Split.{both}
 use Rattle.lists.proofs.Every.{every-at}
 use Rattle.settings.specs.declared.Settings.{Settings}
-use Rattle.settings.specs.Levels.{ovLevel, ovRelease, uvLevel, uvHysteresis, uvRelease}
+use Rattle.settings.specs.Levels.{ovLevel, ovRelease, uvLevel, uvRelease}
 use Rattle.runs.specs.Kept.{runNext, stood}
-use Rattle.marks.specs.Marks.{number, marked}
+use Rattle.marks.specs.Marks.{number}
 use Rattle.marks.proofs.Laws.{marked-above}
 use Rattle.cells.specs.declared.Cell.{Cell}
-use Rattle.cells.specs.declared.Swept.{Swept}
 use Rattle.cells.specs.Each.{each, some, all}
-use Rattle.cells.specs.Bleed.{bled, next}
+use Rattle.cells.specs.Bleed.{bled}
 use Rattle.cells.specs.Cells.{cellBy, cellAt, readingAt, cellCount, limitsOf, nextAt, ovStoodAt, uvStoodAt, flaggedAt, sweepBy, sweepOf, readable, noRun, noRuns, between, allBetween, calmOf}
 
 -- ---- lists by places

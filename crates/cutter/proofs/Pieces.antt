@@ -1,13 +1,13 @@
 -- The first piece of some bytes, and the lines of an input byte by byte.
 -- Assumes nothing.
 use Prim.Native.Nat.{ℕ}
-use mathlib.Core.Path.{_≡_, refl, sym}
+use mathlib.Core.Path.{_≡_, refl}
 use mathlib.Core.Bool.{cond}
 use mathlib.Core.List.{List, [], _∷_, _++_, append-assoc, append-nil}
 use lib.Dec.{eqb}
 use lib.ListN.{length, drop}
 use borrow.Table.Steps.{cases}
-use Rattle.cutter.specs.Lines.{before, onto, pieces, lastOf, butLast, ended, left}
+use Rattle.cutter.specs.Lines.{before, pieces, ended, left}
 
 -- the pieces behind the first: none at the end, and behind a c those that follow it; behind any other byte one that is empty
 unfoldable pub behind : ℕ → List ℕ → List (List ℕ)

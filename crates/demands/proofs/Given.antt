@@ -14,7 +14,7 @@ use Rattle.settings.proofs.Laws.{same-yes}
 use Rattle.settings.specs.Faults.{Fault, SCD, OCD, OV, UV, OT, delay}
 use Rattle.marks.specs.Marks.{number, marked}
 use Rattle.marks.proofs.Laws.{number-at}
-use Rattle.runs.specs.Run.{run, past, lasting, stretch, total}
+use Rattle.runs.specs.Run.{past, lasting, stretch, total}
 use Rattle.runs.specs.Kept.{kept, runNext, stood}
 use Rattle.runs.proofs.Laws.{kept-run, stood-delay}
 use Rattle.cells.specs.declared.Cell.{Cell}

@@ -8,8 +8,7 @@ use mathlib.Core.List.{List, _∷_}
 use mathlib.Core.Option.{some, none}
 use Rattle.refusal.specs.Said.{accepts, refuses}
 use Rattle.settings.specs.Bytes.{byteOf, same}
-use Rattle.settings.specs.Faults.{Fault, OV, delay}
-use Rattle.runs.specs.Run.{stretch}
+use Rattle.settings.specs.Faults.{Fault, delay}
 use Rattle.latches.specs.Latches.{latch, latchesOf}
 use Rattle.board.specs.declared.Board.{Board}
 use Rattle.board.specs.declared.Readings.{Readings}
@@ -17,7 +16,7 @@ use Rattle.frame.specs.Frame.{byte, writes}
 use Rattle.frame.specs.Reply.{replyBytes}
 use Rattle.stack.specs.Row.{placeOf, boardAt}
 use Rattle.stack.specs.Frame.{framePlace}
-use Rattle.demands.specs.Paper.{sampled, programmed, History, staged, working, spent, sampleOf, holds, runOf, places, letsGo, latched}
+use Rattle.demands.specs.Paper.{sampled, programmed, History, staged, working, spent, sampleOf, holds, runOf, places, letsGo}
 use Rattle.demands.specs.Acts.{Act, sample, frame, reading, outcome, next, openedRow, final}
 use Rattle.demands.specs.Table.{lent}
 use Rattle.demands.specs.Count.{differed, howMany}

@@ -8,7 +8,7 @@ use lib.ListN.{length, getD}
 use Rattle.refusal.specs.declared.Refusal.{Refusal}
 use Rattle.refusal.specs.declared.Refusal.the-variants.{Malformed}
 use Rattle.refusal.specs.Refusals.{numberOf, numbered}
-use Rattle.refusal.specs.Said.{Said, refuses, accepts, value, Bar, bar, first, judged}
+use Rattle.refusal.specs.Said.{Said, refuses, accepts, value, Bar, bar, judged}
 use Rattle.frame.specs.declared.Taken.{Taken}
 use Rattle.frame.specs.declared.Taken.the-variants.{Parts, Refused}
 use Rattle.frame.specs.Check.{checkOf}

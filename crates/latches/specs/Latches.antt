@@ -1,8 +1,8 @@
 -- The latches of the five faults, the switches, and register 0 (01, Frames and registers; When a fault latches and lets go).
 -- Assumes nothing.
 use Prim.Native.Nat.{ℕ}
-use mathlib.Core.Bool.{Bool, true, false, cond, not, _||_}
-use mathlib.Core.List.{List, [], _∷_}
+use mathlib.Core.Bool.{Bool, false, cond, not, _||_}
+use mathlib.Core.List.{[], _∷_}
 use Rattle.settings.specs.Faults.{Fault, SCD, OCD, OV, UV, OT}
 use Rattle.marks.specs.Marks.{number, marked}
 use Rattle.latches.specs.declared.Latches.{Latches}

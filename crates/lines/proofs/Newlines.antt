@@ -1,6 +1,6 @@
 -- Bytes with a newline among them are no line: no letter and no field has one.
 -- Assumes nothing.
-use Prim.Native.Nat.{ℕ, zero, suc, _+_, _<_}
+use Prim.Native.Nat.{ℕ, suc, _+_, _<_}
 use native.Mathlib.Omega.{arith}
 use mathlib.Core.Path.{_≡_, refl, sym, _∙_}
 use mathlib.Core.Bool.{Bool, true, false, true≢false, not, _&&_, and-false, and-assoc}
@@ -10,11 +10,11 @@ use lib.ListN.{length}
 use borrow.Author.Tests.{eqb-true, ne-eqb}
 use Rattle.lists.specs.Every.{every}
 use Rattle.lists.proofs.Split.{split, both}
-use Rattle.cutter.specs.Lines.{before, onto, pieces}
+use Rattle.cutter.specs.Lines.{before, pieces}
 use Rattle.cutter.proofs.Pieces.{first-piece}
 use Rattle.lines.specs.declared.Rules.{Rules}
 use Rattle.lines.specs.declared.Kind.{Kind}
-use Rattle.lines.specs.Line.{words, isDigit, worth, startsWell, isNumber, negative, unsigned, isField, letter, kindOf, rulesOf, isShunt, allFields, obeys, malformed, said, wordsSay, lineOf}
+use Rattle.lines.specs.Line.{words, isDigit, startsWell, isNumber, unsigned, isField, letter, kindOf, rulesOf, isShunt, allFields, obeys, malformed, said, wordsSay, lineOf}
 use Rattle.lines.proofs.Numbers.{digit-on}
 use Rattle.lines.proofs.Fields.{from-malformed}
 

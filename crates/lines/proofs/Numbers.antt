@@ -3,14 +3,13 @@
 use Prim.Native.Nat.{ℕ, suc, _+_, _-_, _*_, _<_, _≤_}
 use native.Mathlib.Omega.{arith}
 use mathlib.Core.Path.{_≡_, refl, sym, ap, _∙_}
-use mathlib.Core.Bool.{Bool, true, false, true≢false, cond, not, _&&_, and-true, and-false}
+use mathlib.Core.Bool.{Bool, true, false, true≢false, cond, and-true, and-false}
 use mathlib.Core.List.{List, [], _∷_}
 use lib.Dec.{eqb, leb}
 use lib.ListN.{length, getD}
 use borrow.Author.Tests.{eqb-true, eqb-false, ne-eqb, le-leb, lt-leb, leb-true}
 use Rattle.lists.specs.Every.{every}
 use Rattle.lists.proofs.Split.{split, both}
-use Rattle.lines.specs.declared.Field.{Field}
 use Rattle.lines.specs.declared.Field.the-variants.{Good, Bad}
 use Rattle.lines.specs.Line.{isDigit, worth, startsWell, isNumber}
 use Rattle.lines.specs.Field.{restAt, digits, front, digitsFrom, numberAt, fieldAt}

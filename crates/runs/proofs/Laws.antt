@@ -7,7 +7,7 @@ use mathlib.Core.Bool.{Bool, true, false, cond}
 use mathlib.Core.List.{List, [], _∷_, dropLast}
 use mathlib.Core.Option.{Option, some, none}
 use lib.Dec.{ltb, leb}
-use borrow.Author.Tests.{lt-ltb, le-ltb, le-leb, lt-leb, leb-true, leb-false, ne-eqb}
+use borrow.Author.Tests.{lt-ltb, le-ltb, leb-true, leb-false, ne-eqb}
 use Rattle.settings.specs.declared.Settings.{Settings}
 use Rattle.settings.specs.Faults.{Fault, delay}
 use Rattle.settings.proofs.Laws.{delay-within}

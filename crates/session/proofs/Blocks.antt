@@ -1,7 +1,7 @@
 -- However the input is cut into blocks, what is written is the output of its lines.
 -- Assumes nothing.
 use Prim.Native.Nat.{ℕ, _≤_}
-use mathlib.Core.Path.{_≡_, refl, sym, ap, _∙_}
+use mathlib.Core.Path.{_≡_, refl, _∙_}
 use mathlib.Core.List.{List, [], _∷_, _++_, flatten}
 use lib.ListN.{length, take}
 use Rattle.lines.specs.Line.{lineOf}
@@ -9,7 +9,7 @@ use Rattle.text.proofs.Puts.{put-take}
 use Rattle.stack.specs.declared.Stack.{Stack}
 use Rattle.cutter.specs.declared.Cutter.{Cutter}
 use Rattle.cutter.specs.Lines.{lastLine, linesOf, ended}
-use Rattle.cutter.specs.Kept.{held, endedIn, leftIn, clip}
+use Rattle.cutter.specs.Kept.{held, endedIn, leftIn}
 use Rattle.cutter.proofs.Clips.{lines-flatten}
 use Rattle.session.specs.declared.Fed.{Fed}
 use Rattle.session.specs.Session.{stackAfter, outputOf, Fold, Run, lacking}

@@ -12,7 +12,6 @@ use Rattle.board.specs.declared.Answer.the-variants as answer
 use Rattle.frame.specs.Check.{checkOf}
 use Rattle.frame.specs.declared.Reply.{Reply}
 use Rattle.frame.specs.declared.Reply.the-variants as reply
-use Rattle.reading.specs.declared.Whole.{Whole}
 use Rattle.stack.specs.declared.Stack.{Stack}
 use Rattle.stack.specs.declared.Opening.{Opening}
 use Rattle.stack.specs.declared.Opening.the-variants as opening

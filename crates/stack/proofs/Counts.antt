@@ -1,7 +1,7 @@
 -- A count of 5 to 10.
 -- Assumes nothing.
 use Prim.Native.Nat.{ℕ, _≤_}
-use mathlib.Core.Path.{_≡_, refl, sym, _∙_}
+use mathlib.Core.Path.{_≡_, refl, sym}
 use mathlib.Core.Bool.{Bool, true, false, true≢false, not, _||_}
 use lib.Dec.{ltb}
 use borrow.Author.Tests.{ltb-false}

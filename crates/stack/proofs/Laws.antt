@@ -1,20 +1,19 @@
 -- What an act on a row does not touch, what its answer depends on, and that its refusals come by the table, in its order.
 -- Assumes nothing.
-use Prim.Native.Nat.{ℕ, _≤_}
-use mathlib.Core.Path.{_≡_, refl, sym, ap, _∙_}
+use Prim.Native.Nat.{ℕ}
+use mathlib.Core.Path.{_≡_, refl}
 use mathlib.Core.Logic.{_≢_}
 use mathlib.Core.Bool.{Bool, true, false, cond}
-use mathlib.Core.List.{List, [], _∷_}
-use lib.Dec.{eqb, T}
+use mathlib.Core.List.{List}
+use lib.Dec.{eqb}
 use lib.ListN.{length, set, length-set}
 use lib.Seq.{getD-set-other}
 use Rattle.lists.proofs.Split.{split}
-use Rattle.refusal.specs.Said.{Said, Bar, first, judged, kept}
+use Rattle.refusal.specs.Said.{Bar, first, judged, kept}
 use Rattle.refusal.proofs.Laws.{number-back}
 use Rattle.board.specs.declared.Board.{Board}
 use Rattle.board.specs.declared.Readings.{Readings}
 use Rattle.board.specs.Sample.{fresh, boardNext, sampleValues, answerSaid}
-use Rattle.frame.specs.Frame.{byte, boardOf}
 use Rattle.frame.specs.Reply.{replySaid}
 use Rattle.stack.specs.Row.{goodRow, placeOf, boardAt}
 use Rattle.stack.specs.Sample.{sampleRowBars, sampleAnswer, sampleRow}

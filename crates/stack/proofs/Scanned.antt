@@ -1,10 +1,10 @@
 -- The summaries that a pass over the row gathers are those of its boards; and the reading that follows from them.
 -- Assumes nothing.
-use Prim.Native.Nat.{ℕ, zero, suc, _+_, _-_, _<_, _≤_, min}
+use Prim.Native.Nat.{suc, _+_, _-_, _<_, _≤_, min}
 use native.Mathlib.Numerals.{add-one}
 use native.Mathlib.Omega.{arith}
 use mathlib.Core.Path.{_≡_, refl, ap, sym, _∙_}
-use mathlib.Core.Bool.{Bool, true, false, cond}
+use mathlib.Core.Bool.{Bool, true, false}
 use mathlib.Core.List.{List, [], _∷_, _++_, map, append-nil, append-assoc}
 use lib.Dec.{leb, eqb}
 use lib.ListN.{length, set, take, replicate, length-map, length-append}
@@ -17,12 +17,12 @@ use Rattle.marks.specs.Marks.{bit}
 use Rattle.board.specs.declared.Board.{Board}
 use Rattle.reading.specs.declared.Summary.{Summary}
 use Rattle.reading.specs.declared.Whole.{Whole}
-use Rattle.reading.specs.Reading.{summaryOf, readOf, wholeSaid, place}
+use Rattle.reading.specs.Reading.{summaryOf, readOf, wholeSaid}
 use Rattle.stack.specs.declared.Scan.{Scan}
 use Rattle.stack.specs.declared.View.{View}
 use Rattle.stack.specs.declared.View.the-variants.{Read, Refused}
 use Rattle.stack.specs.Row.{goodRow}
-use Rattle.stack.specs.Read.{wholeSaying, viewSaid, viewSaying, readingOf, noRowView, noSummary, blank, noted, scanOf, viewOf, lookOf}
+use Rattle.stack.specs.Read.{wholeSaying, viewSaid, viewSaying, readingOf, noRowView, noSummary, blank, noted, scanOf, lookOf}
 use Rattle.stack.proofs.Ways.{row-size}
 
 -- ---- what a reading says

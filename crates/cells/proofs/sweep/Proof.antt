@@ -1,7 +1,7 @@
 use Rattle.cells.specs.Cells.{limitsOf}
 use Prim.Native.Nat.{_≤_}
 use native.Mathlib.Omega.{arith}
-use mathlib.Core.Path.{_≡_, refl, sym, ap, _∙_}
+use mathlib.Core.Path.{_≡_, ap, _∙_}
 use borrow.Author.Needs.{needs}
 use lib.ListN.{length}
 use Rattle.cells.specs.Cells.{cellCount, Limits, sweepBy}

@@ -1,16 +1,14 @@
 -- `line_at`: the line is what the numbers stored so far and the words behind at come to, and at is still in the line.
 -- Assumes nothing.
-use Prim.Native.Nat.{_-_, _+_, _≤_}
+use Prim.Native.Nat.{_-_, _≤_}
 use native.Mathlib.Omega.{arith}
 use mathlib.Core.Path.{_≡_, refl, sym, _∙_}
-use mathlib.Core.Bool.{true, false}
 use mathlib.Core.Logic.{⊎-elim}
 use lib.ListN.{length, set, length-set}
 use borrow.Author.Needs.{needs}
-use borrow.Author.Tests.{le-leb, lt-leb}
 use Rattle.cutter.proofs.Pieces.{behind}
 use Rattle.lines.specs.Line.{words, wordsSay, blank}
-use Rattle.lines.specs.Field.{restAt, endAt, fieldAt}
+use Rattle.lines.specs.Field.{restAt, endAt}
 use Rattle.lines.proofs.Words.{byte-within, end-on}
 use Rattle.lines.proofs.Fields.{lineFrom, onField, words-none, words-start, found-malformed, found-wrong, found-right, after-full, after-space, after-field, field-past, row-limits, set-past}
 use Rattle.lines.proofs.line_at.Statement.{statement}

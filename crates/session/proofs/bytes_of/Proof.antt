@@ -1,8 +1,7 @@
-use lib.ListN.{getD, set}
 use Prim.Native.Nat.{_<_}
 use Prim.Native.Nat.{_≤_, _-_, _%_}
 use native.Mathlib.Omega.{arith}
-use mathlib.Core.Path.{_≡_, refl, sym, _∙_}
+use mathlib.Core.Path.{_≡_, _∙_}
 use mathlib.Core.List.{map, append-nil}
 use lib.ListN.{length, take, length-map}
 use lib.Seq.{getD-take, length-take-le}

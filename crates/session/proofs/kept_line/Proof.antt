@@ -1,9 +1,6 @@
 -- `session::kept_line` meets its contract: as many bytes as are kept.
 -- Assumes nothing.
-use native.Mathlib.Omega.{arith}
-use Prim.Native.Nat.{_≤_}
-use mathlib.Core.Path.{_≡_, sym, ap, _∙_}
-use lib.ListN.{length}
+use mathlib.Core.Path.{sym, ap, _∙_}
 use lib.Seq.{length-take-le}
 use Rattle.lines.specs.Line.{lineOf}
 use Rattle.session.proofs.Alike.{held-few, held-take}

@@ -1,6 +1,6 @@
 use native.Mathlib.Omega.{arith}
-use mathlib.Core.Path.{_≡_, sym, ap, _∙_}
-use lib.ListN.{length, take, length-take}
+use mathlib.Core.Path.{_≡_}
+use lib.ListN.{length, length-take}
 use Rattle.session.specs.Acts.{opens}
 use borrow.Author.Needs.{needs}
 use Rattle.session.proofs.open_line.Statement.{statement}

@@ -1,6 +1,6 @@
 -- `session::whole_line` meets its contract: the bytes as they lie, or behind those that are kept.
 -- Assumes nothing.
-use mathlib.Core.Path.{_≡_, sym, ap, _∙_}
+use mathlib.Core.Path.{sym, ap, _∙_}
 use mathlib.Core.List.{_++_}
 use Rattle.lines.specs.Line.{lineOf}
 use Rattle.cutter.specs.Kept.{held}

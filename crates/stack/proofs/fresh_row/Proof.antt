@@ -1,12 +1,11 @@
 use lib.ListN.{length-map}
 use mathlib.Core.Bool.{not}
-use mathlib.Core.List.{map}
 use Rattle.board.specs.Sample.{outside}
 use Rattle.lists.proofs.Every.{every-at}
 use Rattle.stack.proofs.Counts.{within}
 use Prim.Native.Nat.{_≤_, _<_, _-_}
 use native.Mathlib.Omega.{arith}
-use mathlib.Core.Path.{_≡_, refl, sym, _∙_}
+use mathlib.Core.Path.{_≡_, _∙_}
 use lib.ListN.{length, getD}
 use borrow.Author.Needs.{needs}
 use Rattle.board.specs.Sample.{fresh}

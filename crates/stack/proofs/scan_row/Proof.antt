@@ -1,8 +1,5 @@
 -- `stack::scan_row` meets its contract, by Fold.
 -- Assumes nothing.
-use mathlib.Core.Path.{_≡_}
-use mathlib.Core.List.{List}
-use Rattle.board.specs.declared.Board.{Board}
 use Rattle.board.specs.Sample.{fresh}
 use Rattle.stack.specs.Read.{blank, noted, scanOf}
 use Rattle.stack.proofs.Scanned.{scan-folds}
