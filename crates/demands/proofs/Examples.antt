@@ -12,12 +12,11 @@ use borrow.Author.Tests.{ltb-true, lt-ltb, eqb-true, eq-eqb}
 use Rattle.lists.proofs.Split.{split, both}
 use Rattle.marks.specs.Marks.{bit}
 use Rattle.marks.specs.Marks.{number, marks, lowest}
-use Rattle.lists.specs.Every as lists
+use Rattle.lists.specs.Every.{every}
 use Rattle.cells.specs.Each.{each, all}
 use Rattle.cells.specs.Bleed.{bled}
 use Rattle.latches.specs.Latches.{latchesByte}
 use Rattle.board.specs.Shunt.{shuntAbove}
-use Rattle.reading.specs.Reading as reading
 use Rattle.reading.specs.Reading.{lineUp, firstFlagged, readOf}
 use Rattle.stack.specs.Row.{goodRow}
 use Rattle.demands.specs.Acts.{reading}
@@ -114,5 +113,5 @@ unfolding each
 past-reading w = true≢false (sym (to-test (tied 2) reading seven (0 ∷ 1 ∷ 3 ∷ 2 ∷ 4 ∷ 5 ∷ 6 ∷ []) w))
 
 pub order-matters : Matters
-unfolding each shuntAbove number bled latchesByte goodRow lists.every reading.every readOf lineUp firstFlagged lowest marks
+unfolding each shuntAbove number bled latchesByte goodRow every readOf lineUp firstFlagged lowest marks
 order-matters = record { before-reading = refl; behind-reading = refl; then-rest = refl; rest-first = refl }

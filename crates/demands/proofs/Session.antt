@@ -3,14 +3,13 @@
 use Prim.Native.Nat.{ℕ}
 use mathlib.Core.Path.{_≡_, refl, ap, _∙_}
 use mathlib.Core.List.{List, map}
-use Rattle.lists.specs.Every as lists
+use Rattle.lists.specs.Every.{every}
 use Rattle.marks.specs.Marks.{number, marks, lowest}
 use Rattle.cells.specs.Each.{each}
 use Rattle.cells.specs.Bleed.{bled}
 use Rattle.latches.specs.Latches.{latchesByte, register0}
 use Rattle.board.specs.Shunt.{shuntAbove}
 use Rattle.frame.specs.Check.{shifted, checked}
-use Rattle.reading.specs.Reading as reading
 use Rattle.reading.specs.Reading.{lineUp, firstFlagged, readOf}
 use Rattle.stack.specs.Row.{goodRow}
 use Rattle.demands.specs.Acts.{Outcome, outcome, next, openedRow, answers}
@@ -22,9 +21,9 @@ abbrev valuesOf : List Outcome → List (List ℕ)
 valuesOf outcomes = map (λ o. o .said .values) outcomes
 
 pub session-told : valuesOf (answers taken told (begun counts) session) ≡ printed
-unfolding each shuntAbove number bled register0 latchesByte shifted checked goodRow lists.every reading.every readOf lineUp firstFlagged lowest marks
+unfolding each shuntAbove number bled register0 latchesByte shifted checked goodRow every readOf lineUp firstFlagged lowest marks
 session-told = refl
 
 pub session-answered : valuesOf (answers next outcome (openedRow counts) session) ≡ printed
-unfolding lists.every
+unfolding every
 session-answered = ap valuesOf (demand2 counts refl session .0) ∙ session-told

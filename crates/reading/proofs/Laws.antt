@@ -11,7 +11,8 @@ use Rattle.marks.specs.Marks.{number, marks}
 use Rattle.marks.proofs.Laws.{lowest-zero}
 use Rattle.reading.specs.declared.Summary.{Summary}
 use Rattle.reading.specs.declared.Place.{Place}
-use Rattle.reading.specs.Reading.{lineUp, every, lowestFlagged, place, firstFlagged}
+use Rattle.lists.specs.Every.{every}
+use Rattle.reading.specs.Reading.{lineUp, lowestFlagged, place, firstFlagged}
 
 -- the line is up exactly if some board has a latch, in whichever part of the row
 pub line-any : (xs ys : List Summary) → lineUp (xs ++ ys) ≡ (lineUp xs || lineUp ys)

@@ -16,7 +16,8 @@ use Rattle.lists.proofs.Split.{split}
 use Rattle.marks.specs.Marks.{bit, number, marked, marks, lowest}
 use Rattle.marks.proofs.Laws.{marks-length, marks-at, marks-number, number-below, number-down, number-none, lowest-turn, lowest-none, lowest-zero}
 use Rattle.reading.specs.declared.Summary.{Summary}
-use Rattle.reading.specs.Reading.{lineUp, latchedOf, up, searchedOf, every, lowestFlagged, place, firstFlagged}
+use Rattle.lists.specs.Every.{every}
+use Rattle.reading.specs.Reading.{lineUp, latchedOf, up, searchedOf, lowestFlagged, place, firstFlagged}
 
 -- what is read past the row's end
 abbrev pub blank : Summary

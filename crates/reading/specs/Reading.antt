@@ -1,9 +1,10 @@
 -- The whole-stack reading of a row of boards, southernmost first (01, Whole-stack reading).
 -- Assumes nothing.
 use Prim.Native.Nat.{ℕ, _+_}
-use mathlib.Core.Bool.{Bool, true, false, cond, _&&_, _||_}
+use mathlib.Core.Bool.{Bool, false, cond, _||_}
 use mathlib.Core.List.{List, [], _∷_, map}
 use lib.Dec.{eqb}
+use Rattle.lists.specs.Every.{every}
 use Rattle.marks.specs.Marks.{bit, marks, lowest}
 use Rattle.board.specs.declared.Board.{Board}
 use Rattle.latches.specs.Latches.{latchesOf, anyLatch}
@@ -29,18 +30,13 @@ unfoldable pub lineUp : List Summary → Bool
 lineUp [] = false
 lineUp (board ∷ north) = board .latched || lineUp north
 
--- on exactly if on at every board
-unfoldable pub every : (Summary → Bool) → List Summary → Bool
-every on [] = true
-every on (board ∷ north) = on board && every on north
-
 abbrev pub chgOn : Summary → Bool
 chgOn board = board .chg
 
 abbrev pub dsgOn : Summary → Bool
 dsgOn board = board .dsg
 
--- pack CHG and pack DSG
+-- pack CHG and pack DSG: on exactly if on at every board
 unfoldable pub packOf : List Summary → Pack
 packOf boards = record { chg = every chgOn boards; dsg = every dsgOn boards }
 

@@ -5,7 +5,8 @@ use mathlib.Core.Path.{_≡_, refl, sym, _∙_}
 use mathlib.Core.Bool.{_&&_}
 use borrow.Author.Needs.{needs}
 use lib.ListN.{length, take, drop}
-use Rattle.reading.specs.Reading.{every, chgOn, dsgOn, packOf}
+use Rattle.lists.specs.Every.{every}
+use Rattle.reading.specs.Reading.{chgOn, dsgOn, packOf}
 use Rattle.reading.proofs.Turns.{every-turn, every-done}
 use Rattle.reading.proofs.pack_on.Statement.{statement}
 use Rattle.reading.proofs.pack_on.Tie as tie
