@@ -21,7 +21,7 @@ use Rattle.board.specs.declared.Board.{Board}
 use Rattle.board.specs.declared.Readings.{Readings}
 use Rattle.board.specs.declared.Answer.the-variants.{Sampled}
 use Rattle.board.specs.Shunt.{shuntAbove, shuntOutside}
-use Rattle.board.specs.Sample.{currentsNext, latchesNext, hot, sweptAt, latchesAfter, boardNext, outside, badBoard, outOfRange, sampleOf, clear, idle, easy, warm, quietOf}
+use Rattle.board.specs.Sample.{currentsNext, latchesNext, hot, sweptAt, latchesAfter, boardNext, outside, badBoard, outOfRange, sampleOf, clear, idle, currentsBelow, warm, quietOf}
 
 module _ (b : Board) (x : Readings) (mv : List ℕ) (q : quietOf b x mv ≡ true) where
   -- its parts
@@ -35,7 +35,7 @@ module _ (b : Board) (x : Readings) (mv : List ℕ) (q : quietOf b x mv ≡ true
   after₃ = warm x && after₄
 
   abbrev after₂ : Bool
-  after₂ = easy b x && after₃
+  after₂ = currentsBelow b x && after₃
 
   abbrev after₁ : Bool
   after₁ = calmly && after₂
@@ -55,7 +55,7 @@ module _ (b : Board) (x : Readings) (mv : List ℕ) (q : quietOf b x mv ≡ true
   rest₂ = both calmly after₂ rest₁ .1
 
   rest₃ : after₃ ≡ true
-  rest₃ = both (easy b x) after₃ rest₂ .1
+  rest₃ = both (currentsBelow b x) after₃ rest₂ .1
 
   rest₄ : after₄ ≡ true
   rest₄ = both (warm x) after₄ rest₃ .1
@@ -79,10 +79,10 @@ module _ (b : Board) (x : Readings) (mv : List ℕ) (q : quietOf b x mv ≡ true
   over-scd = shuntAbove (scdLevel (b .working)) (x .shunt)
 
   no-ocd : over-ocd ≡ false
-  no-ocd = not-yes over-ocd (both (not over-ocd) (not over-scd) (both (easy b x) after₃ rest₂ .0) .0)
+  no-ocd = not-yes over-ocd (both (not over-ocd) (not over-scd) (both (currentsBelow b x) after₃ rest₂ .0) .0)
 
   no-scd : over-scd ≡ false
-  no-scd = not-yes over-scd (both (not over-ocd) (not over-scd) (both (easy b x) after₃ rest₂ .0) .1)
+  no-scd = not-yes over-scd (both (not over-ocd) (not over-scd) (both (currentsBelow b x) after₃ rest₂ .0) .1)
 
   not-hot : hot x ≡ false
   not-hot = not-yes (hot x) (both (not (hot x)) (not (ltb 5000 (x .thermistor))) (both (warm x) after₄ rest₃ .0) .0)

@@ -141,18 +141,23 @@ sampleOf b x mv =
       answer = answerSaying (judged (sampleBars b x mv) (sampleValues b x mv));
     }
 
--- ---- on the way: a sample that finds nothing, on a board that has nothing on record
+-- ---- on the way: a sample that finds nothing, on a board that has nothing on record (the law quiet-sample: it changes nothing)
+-- no latch and no flag
 abbrev pub clear : Board → Bool
 clear b = eqb (b .latches) 0 && eqb (b .flags) 0
 
+-- no run of a current condition
 abbrev pub idle : Board → Bool
 idle b = eqb (b .currents .ocd) 0 && eqb (b .currents .scd) 0
 
-abbrev pub easy : Board → Readings → Bool
-easy b x = not (shuntAbove (ocdLevel (b .working)) (x .shunt)) && not (shuntAbove (scdLevel (b .working)) (x .shunt))
+-- the shunt is not above the level of OCD, nor of SCD
+abbrev pub currentsBelow : Board → Readings → Bool
+currentsBelow b x = not (shuntAbove (ocdLevel (b .working)) (x .shunt)) && not (shuntAbove (scdLevel (b .working)) (x .shunt))
 
+-- not hot, and in range
 abbrev pub warm : Readings → Bool
 warm x = not (hot x) && not (ltb 5000 (x .thermistor))
 
+-- and every cell without a run and where OV and UV let go
 unfoldable pub quietOf : Board → Readings → List ℕ → Bool
-quietOf b x mv = (clear b && idle b) && (calmOf (b .working) (b .cells) mv && (easy b x && (warm x && (not (shuntOutside (x .shunt)) && not (ltb 1 (x .load))))))
+quietOf b x mv = (clear b && idle b) && (calmOf (b .working) (b .cells) mv && (currentsBelow b x && (warm x && (not (shuntOutside (x .shunt)) && not (ltb 1 (x .load))))))
