@@ -25,7 +25,8 @@ use Rattle.session.specs.declared.Pace.{Pace}
 use Rattle.session.specs.declared.Turn.{Turn}
 use Rattle.session.specs.declared.Ran.{Ran}
 use Rattle.session.specs.Acts.{actOf}
-use Rattle.session.specs.Turns.{isOpen, askedRow, rowAfter, rowTold, lineTold, tightAt, stopAt, endFrom, lineFrom, goOn, turnOf, textFor, nowhere, placeAfter, paceAfter, outAfter, Stage, lineDone, linesLeft, onward, runDone, paceAt, ranOf, ranOut}
+use Rattle.lines.specs.Field.{endAt}
+use Rattle.session.specs.Turns.{isOpen, askedRow, rowAfter, rowTold, lineTold, tightAt, stopAt, lineFrom, goOn, turnOf, textFor, nowhere, placeAfter, paceAfter, outAfter, Stage, lineDone, linesLeft, onward, runDone, paceAt, ranOf, ranOut}
 use Rattle.session.specs.Session.{Fold}
 use Rattle.session.proofs.Folds.{Sofar, fold-line}
 use Rattle.session.proofs.Rows.{with-same, held-with, with-with, row-length, act-row}
@@ -36,14 +37,14 @@ use Rattle.session.proofs.While.{while-stops, while-turns, while-keeps}
 -- the run stops, or it goes on behind a line that ends in the block and opens nothing
 pub data Way (p : Pace) (block : List ℕ) : Turn → Type 0 where
   ends : Way p block (stopAt p)
-  goes : p .wrote + 32 ≤ p .room → endFrom block (p .at) < length block → isOpen (lineFrom block (p .at) .kind) ≡ false → Way p block (goOn p block)
+  goes : p .wrote + 32 ≤ p .room → endAt block (p .at) < length block → isOpen (lineFrom block (p .at) .kind) ≡ false → Way p block (goOn p block)
 
 pub way : (p : Pace) (block : List ℕ) → Way p block (turnOf p block)
 unfolding turnOf
 way p block =
     split (tightAt p) (λ e. rw e ends)
     λ e. rw e
-    (split (leb (length block) (endFrom block (p .at))) (λ f. rw f ends)
+    (split (leb (length block) (endAt block (p .at))) (λ f. rw f ends)
     λ f. rw f (split (isOpen (lineFrom block (p .at) .kind)) (λ o. rw o ends) (λ o. rw o (goes (ltb-false _ _ e) (leb-false _ _ f) o))))
 
 -- fewer lines are left after a turn
@@ -108,7 +109,7 @@ module _ (c : Cutter) (s : Stack) (block old : List ℕ) (c′ : Cutter) (s₁ :
   after-end st (inr l) = inr (record { far = l .far; room = l .room })
 
   -- a line is answered
-  module _ (st : Stage) (g : Good st) (room : st .pace .wrote + 32 ≤ st .pace .room) (l : endFrom block (st .pace .at) < length block) (o : isOpen (lineFrom block (st .pace .at) .kind) ≡ false) where
+  module _ (st : Stage) (g : Good st) (room : st .pace .wrote + 32 ≤ st .pace .room) (l : endAt block (st .pace .at) < length block) (o : isOpen (lineFrom block (st .pace .at) .kind) ≡ false) where
     abbrev d : Turn
     d = goOn (st .pace) block
 
@@ -126,11 +127,11 @@ module _ (c : Cutter) (s : Stack) (block old : List ℕ) (c′ : Cutter) (s₁ :
     acts = sym (act-row (withRow s₁ (st .row)) d few o ∙ rw (held-with s₁ (st .row) (g .long), with-with s₁ (st .row) (rowAfter (st .row) d) (g .long)))
 
     fed : st .pace .wrote + length text ≤ length (st .out)
-        → Fold c s (take (endFrom block (st .pace .at) + 1) block) old (sets (st .out) (st .pace .wrote) text) c′ (acted .stack) (st .pace .wrote + length text)
+        → Fold c s (take (endAt block (st .pace .at) + 1) block) old (sets (st .out) (st .pace .wrote) text) c′ (acted .stack) (st .pace .wrote + length text)
     unfolding goOn
     fed h =
-        fold-line c s block old (st .pace .at) (st .out) c′ (withRow s₁ (st .row)) (st .pace .wrote) (g .so .fed) (endFrom block (st .pace .at)) refl
-        (lineFrom block (st .pace .at)) acted (sets (st .out) (st .pace .wrote) text) c′ (st .pace .wrote + length text) l (rw (none, line-part (held c) block (st .pace .at) (endFrom block (st .pace .at)) refl)) acts
+        fold-line c s block old (st .pace .at) (st .out) c′ (withRow s₁ (st .row)) (st .pace .wrote) (g .so .fed) (endAt block (st .pace .at)) refl
+        (lineFrom block (st .pace .at)) acted (sets (st .out) (st .pace .wrote) text) c′ (st .pace .wrote + length text) l (rw (none, line-part (held c) block (st .pace .at) (endAt block (st .pace .at)) refl)) acts
         (record { line = record { after = refl; whole = refl }; inside = λ k. h }) same (omega (arith, room, g .room, same)) none
 
     after-line : Good (after st d) ⊎ Lost (after st d)

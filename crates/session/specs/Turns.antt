@@ -17,7 +17,7 @@ use Rattle.lines.specs.declared.Kind.{Kind}
 use Rattle.lines.specs.declared.Kind.the-variants.{Open, Sample, Frame, Read, Malformed}
 use Rattle.lines.specs.declared.Line.{Line}
 use Rattle.lines.specs.Line.{lineOf}
-use Rattle.cutter.specs.Lines.{upTo}
+use Rattle.lines.specs.Field.{restAt, endAt}
 use Rattle.text.specs.declared.Told.{Told}
 use Rattle.text.specs.declared.Told.the-variants as told
 use Rattle.text.specs.Text.{placed}
@@ -120,23 +120,20 @@ stopAt p =
       pace = record { at = p .at; wrote = p .wrote; room = p .room; going = false };
     }
 
--- the place of the newline that ends the next line, and that line
-abbrev pub endFrom : List ℕ → ℕ → ℕ
-endFrom block at = at + length (upTo (drop at block))
-
+-- the next line; endAt is the place of the newline that ends it
 abbrev pub lineFrom : List ℕ → ℕ → Line
-lineFrom block at = lineOf (upTo (drop at block))
+lineFrom block at = lineOf (restAt block at)
 
 -- the run goes on behind that newline
 unfoldable pub goOn : Pace → List ℕ → Turn
 goOn p block =
-    record { line = lineFrom block (p .at); pace = paceAt (endFrom block (p .at) + 1) (p .wrote) (p .room) }
+    record { line = lineFrom block (p .at); pace = paceAt (endAt block (p .at) + 1) (p .wrote) (p .room) }
 
 -- it stops where no line ends, and in front of an opening, which makes another row
 unfoldable pub turnOf : Pace → List ℕ → Turn
 turnOf p block =
     cond (tightAt p) (stopAt p)
-    (cond (leb (length block) (endFrom block (p .at))) (stopAt p) (cond (isOpen (lineFrom block (p .at) .kind)) (stopAt p) (goOn p block)))
+    (cond (leb (length block) (endAt block (p .at))) (stopAt p) (cond (isOpen (lineFrom block (p .at) .kind)) (stopAt p) (goOn p block)))
 
 -- what is put for a line
 abbrev pub textFor : List ℕ → Turn → Told → List ℕ
