@@ -23,8 +23,8 @@ use denote.Triple.Statement.{Triple}
 use Rattle.walks.proofs.Plain.{ty, PlainType, pair-ty, PlainPair, has, has-pair}
 use Rattle.walks.proofs.Walk.{cell}
 use Rattle.walks.proofs.Steps.{it, sets, steps, by-values, var, part, fills, lands-in, ends-in}
-use Rattle.walks.proofs.Form.{Form, code-of, value, shown, behind, Fulfils, met, calls, exits, Walk, meets-form}
-use Rattle.walks.proofs.Callee.{OfRecord}
+use Rattle.walks.proofs.Form.{Form, code-of, value, shown, Fulfils, met, calls, exits, Walk, meets-form}
+use Rattle.walks.proofs.Callee.{OfRecord, on-record}
 use Rattle.walks.proofs.Lent.{opens-ref, settles-ref}
 
 pub record Shape : Type 2 where
@@ -43,20 +43,11 @@ module _ (s : Shape) where
   abbrev R : RattleType
   R = D.row (s .T)
 
-  -- what f returns
-  abbrev told : s .T .D → s .X .Denot → RefT (List (s .E .Denot)) → s .Q .D
-  told b x cs = s .F b x (now cs)
-
   abbrev pub form : Form
-  form = record {
-    lifetimes = 2;
-    params = behind 0 tt R ∷ value (s .X) ∷ shown 1 tt (s .E) ∷ [];
-    result = s .O;
-    says-of = λ κs a r e. (r ≡ s .answer-of (told (now (a .0)) (a .1 .0) (a .1 .1 .0))) × (now (e .0) ≡ s .record-of (told (now (a .0)) (a .1 .0) (a .1 .1 .0)));
-  }
+  form = on-record (s .O) R (s .X) (s .E) (λ b x cs. s .answer-of (s .F b x cs)) (λ b x cs. s .record-of (s .F b x cs))
 
   abbrev pub by-value : Form
-  by-value = record { lifetimes = 1; params = value R ∷ value (s .X) ∷ shown 0 tt (s .E) ∷ []; result = D.row (s .Q); says-of = λ κs a r e. r ≡ told (a .0) (a .1 .0) (a .1 .1 .0) }
+  by-value = record { lifetimes = 1; params = value R ∷ value (s .X) ∷ shown 0 tt (s .E) ∷ []; result = D.row (s .Q); says-of = λ κs a r e. r ≡ s .F (a .0) (a .1 .0) (now (a .1 .1 .0)) }
 
   -- the locals past the parameters
   abbrev others : List Local

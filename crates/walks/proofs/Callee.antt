@@ -2,13 +2,15 @@
 -- Assumes nothing.
 --     a-value          fn no() -> O                                                        says r ≡ z
 --     of-one           fn h(x: X) -> O                                                     says r ≡ F x
+--     on-one           fn f(b: &mut R, x: X) -> O                                          says OneTold: (r ≡ F b x) × (b' ≡ G b x)
+--     on-record        fn f(b: &mut R, x: X, cells: &[E]) -> O                             says RecordTold: (r ≡ F b x cells) × (b' ≡ G b x cells)
 --     of-slice         fn f(row: &[R]) -> O                                                says r ≡ F row
 --     on-row           fn f(row: &mut [R], x: X) -> O                                      says Told: (r ≡ F row x) × (row' ≡ B row x)
 --     on-cells         fn f(row: &mut [R], n: N, x: X, cells: &[E]) -> O                   says CellsTold: (r ≡ F row n x cells) × (row' ≡ B row n x cells)
 --     on-frame         fn f(row: &mut [R], bytes: &[E], reply: &mut [G]) -> O              says FrameTold: (r ≡ F ..) × ((row' ≡ B ..) × (reply' ≡ C ..))
 --     on-line          fn f(row: &mut [R], s: S, block: &[E], out: &mut [G]) -> O          says LineTold: (r ≡ F ..) × ((row' ≡ B ..) × (out' ≡ C ..))
 -- Arguments by value and results are plain. A step for a call by value goes on at what the callee's contract says.
---     keeps-copy       a shared slice is handed on as a copy
+--     keeps-copy       a shared slice is handed on as a copy.        at-value     a result that is z is stored at z's machine value
 --     calls-nothing, calls-one     the calls by value.        calls-slice     a call on a shared row, of which the caller keeps a copy
 use mathlib.Core.Path.{_≡_, sym, subst}
 use mathlib.Core.List.{[], _∷_, List}
@@ -25,7 +27,7 @@ use denote.Ref.{RefT, now}
 use denote.Slice.{slice-vals, shr-slice-copy}
 use denote.Triple.Statement.{Triple}
 use Rattle.walks.proofs.Plain.{PlainType}
-use Rattle.walks.proofs.Form.{Form, value, shown, handed, met, asks, slice-val, shared, calls}
+use Rattle.walks.proofs.Form.{Form, value, shown, handed, behind, met, asks, slice-val, shared, calls}
 
 -- ---- what a contract says of a row of Y: functions of the row and the other arguments, and the equations that they give
 abbrev pub Answers : Type 0 → Type 0 → Type 0 → Type 0
@@ -37,9 +39,19 @@ Changes Y X = List Y → X → List Y
 abbrev pub Told : {Y X O : Type 0} → Answers Y X O → Changes Y X → List Y → X → O → List Y → Type 0
 Told F B ys x r zs = (r ≡ F ys x) × (zs ≡ B ys x)
 
--- of one record B, an argument and cells
+-- of one record B and an argument, and what a contract says of it
+abbrev pub OfOne : Type 0 → Type 0 → Type 0 → Type 0
+OfOne B X O = B → X → O
+
+abbrev pub OneTold : {B X O : Type 0} → OfOne B X O → OfOne B X B → B → X → O → B → Type 0
+OneTold F G b x r c = (r ≡ F b x) × (c ≡ G b x)
+
+-- and cells beside
 abbrev pub OfRecord : Type 0 → Type 0 → Type 0 → Type 0 → Type 0
 OfRecord B X E O = B → X → List E → O
+
+abbrev pub RecordTold : {B X E O : Type 0} → OfRecord B X E O → OfRecord B X E B → B → X → List E → O → B → Type 0
+RecordTold F G b x cs r c = (r ≡ F b x cs) × (c ≡ G b x cs)
 
 -- beside a number, an argument and cells
 abbrev pub OfCells : Type 0 → Type 0 → Type 0 → Type 0 → Type 0 → Type 0
@@ -70,6 +82,12 @@ module _ (O : RattleType) where
   of-one X F = record { lifetimes = 0; params = value X ∷ []; result = O; says-of = λ κs a r e. r ≡ F (a .0) }
 
   module _ (R : RattleType) where
+    abbrev pub on-one : (X : RattleType) → OfOne (R .Denot) (X .Denot) (O .Denot) → OfOne (R .Denot) (X .Denot) (R .Denot) → Form
+    on-one X F G = record { lifetimes = 1; params = behind 0 tt R ∷ value X ∷ []; result = O; says-of = λ κs a r e. OneTold F G (now (a .0)) (a .1 .0) r (now (e .0)) }
+
+    abbrev pub on-record : (X E : RattleType) → OfRecord (R .Denot) (X .Denot) (E .Denot) (O .Denot) → OfRecord (R .Denot) (X .Denot) (E .Denot) (R .Denot) → Form
+    on-record X E F G = record { lifetimes = 2; params = behind 0 tt R ∷ value X ∷ shown 1 tt E ∷ []; result = O; says-of = λ κs a r e. RecordTold F G (now (a .0)) (a .1 .0) (now (a .1 .1 .0)) r (now (e .0)) }
+
     abbrev pub of-slice : (List (R .Denot) → O .Denot) → Form
     of-slice F = record { lifetimes = 1; params = shown 0 tt R ∷ []; result = O; says-of = λ κs a r e. r ≡ F (now (a .0)) }
 
@@ -103,7 +121,7 @@ module _ (O : RattleType) where
 
 module _ {M : Type 1} {𝓤 : URA M} {H : Heap 𝓤} {A : Atoms 𝓤} {K : Type 0} {W : Given 𝓤 H A} {Γ : List (Item 𝓤)} {E : Env 𝓤 H} {Λ : Loops 𝓤 H} {q : Post 𝓤 H} {d : Place} {rest : Body} where
   -- a result r that is z: it is stored at z's machine value
-  at-value : (𝓣 : Tables 𝓤 H) (O : RattleType) (P : PlainType 𝓤 H A O) (z : O .Denot) → (Is O z (P .val z ∷ []) → Seq K W Γ (lands (𝓣 .C) Λ E d (P .val z) rest q)) → (r : O .Denot) → r ≡ z → Is O r (P .val r ∷ []) → Seq K W Γ (lands (𝓣 .C) Λ E d (P .val r) rest q)
+  pub at-value : (𝓣 : Tables 𝓤 H) (O : RattleType) (P : PlainType 𝓤 H A O) (z : O .Denot) → (Is O z (P .val z ∷ []) → Seq K W Γ (lands (𝓣 .C) Λ E d (P .val z) rest q)) → (r : O .Denot) → r ≡ z → Is O r (P .val r ∷ []) → Seq K W Γ (lands (𝓣 .C) Λ E d (P .val r) rest q)
   at-value 𝓣 O P z k r e is = subst (λ (x : O .Denot). Seq K W Γ (lands (𝓣 .C) Λ E d (P .val x) rest q)) (sym e) (k (subst (λ (x : O .Denot). Is O x (P .val x ∷ [])) e is))
 
   pub calls-nothing : {f : Name} → K → (𝓣 : Tables 𝓤 H) → (O : RattleType) (P : PlainType 𝓤 H A O) (z : O .Denot) → Triple 𝓤 (𝓣 .C f) (met (a-value O z) 𝓤 H A)

@@ -3,7 +3,7 @@
 --     fn g(row: &mut [T], n: N, x: X, cells: &[E]) -> O { let at = place(n); if at < row.len() { return f(&mut row[at], x, cells); } no() }
 -- T is a declared struct of plain fields, N, X and O are plain, and E is what a slice can hold. place is covered and says `r ≡ place-of n`, f says the answer and the record at exit, no says `r ≡ none`. g says the answer and the whole row at exit.
 --     Shape, Knows     what g is made of; what the contract says within the row and past its end, and what is to be known of the types
---     function, form   g's MIR, and its form.        on-one     the form of f.        meets     g's MIR fulfils that form wherever its callees fulfil theirs
+--     function, form   g's MIR, and its form.        form-f     the form of f.        meets     g's MIR fulfils that form wherever its callees fulfil theirs
 use mathlib.Core.Path.{_≡_, refl, _∙_, ap}
 use Prim.Native.Nat.{ℕ, _<_, _≤_}
 use mathlib.Core.List.{[], _∷_, List}
@@ -29,8 +29,8 @@ use denote.Triple.Statement.{Triple}
 use Rattle.walks.proofs.Plain.{ty, PlainType, has, uint}
 use Rattle.walks.proofs.Walk.{cell, room}
 use Rattle.walks.proofs.Steps.{it, len-of, sets, steps, by-values, ref-to, finds-elem, fits-offset, var, len, ptr, fills, lands-in, reaches-elem, lie-at, ends-in, ends-within}
-use Rattle.walks.proofs.Form.{Form, code-of, value, shown, behind, Fulfils, met, calls, Post, exits, Walk, meets-form}
-use Rattle.walks.proofs.Callee.{OfRecord, OfCells, CellsTold, a-value, of-one, on-cells, calls-nothing, calls-one}
+use Rattle.walks.proofs.Form.{Form, code-of, Fulfils, met, calls, Post, exits, Walk, meets-form}
+use Rattle.walks.proofs.Callee.{OfRecord, OfCells, CellsTold, a-value, of-one, on-record, on-cells, calls-nothing, calls-one}
 use Rattle.walks.proofs.Lent.{lent-as, elem, settles, lends-elem, elem-home}
 
 pub record Shape : Type 2 where
@@ -60,13 +60,8 @@ module _ (s : Shape) where
   abbrev pub form : Form
   form = on-cells (s .O) R (s .N) (s .X) (s .E) (s .answer-at) (s .row-at)
 
-  abbrev pub on-one : Form
-  on-one = record {
-    lifetimes = 2;
-    params = behind 0 tt R ∷ value (s .X) ∷ shown 1 tt (s .E) ∷ [];
-    result = s .O;
-    says-of = λ κs a r e. (r ≡ s .answer-one (now (a .0)) (a .1 .0) (now (a .1 .1 .0))) × (now (e .0) ≡ s .record-one (now (a .0)) (a .1 .0) (now (a .1 .1 .0)));
-  }
+  abbrev pub form-f : Form
+  form-f = on-record (s .O) R (s .X) (s .E) (s .answer-one) (s .record-one)
 
   abbrev past-end : Code
   past-end = steps (call (s .no) [] (place 0 []) ∷ []) return
@@ -93,7 +88,7 @@ pub record Knows {M : Type 1} (𝓤 : URA M) (H : Heap 𝓤) (A : Atoms 𝓤) (s
   pub plain-O : PlainType 𝓤 H A (s .O)
 
 module _ {M : Type 1} (𝓤 : URA M) (H : Heap 𝓤) (A : Atoms 𝓤) (W : Given 𝓤 H A) (s : Shape) (k : Knows 𝓤 H A s) (𝓣 : Tables 𝓤 H)
-    (known-place : Triple 𝓤 (𝓣 .C (s .place-fn)) (met (of-one usize (s .N) (s .place-of)) 𝓤 H A)) (known : Triple 𝓤 (𝓣 .C (s .f)) (met (on-one s) 𝓤 H A)) (known-no : Triple 𝓤 (𝓣 .C (s .no)) (met (a-value (s .O) (s .none)) 𝓤 H A)) where
+    (known-place : Triple 𝓤 (𝓣 .C (s .place-fn)) (met (of-one usize (s .N) (s .place-of)) 𝓤 H A)) (known : Triple 𝓤 (𝓣 .C (s .f)) (met (form-f s) 𝓤 H A)) (known-no : Triple 𝓤 (𝓣 .C (s .no)) (met (a-value (s .O) (s .none)) 𝓤 H A)) where
   module _ (κ κ₁ : Lft) (q q₁ : Share) (ys : RefT (List (s .T .D))) (n : s .N .Denot) (x : s .X .Denot) (cs : RefT (List (s .E .Denot))) where
     abbrev Ends : Val → SProp 𝓤
     Ends = Post W (form s) (k .plain-N, (k .plain-X, tt)) (κ, (κ₁, tt)) (q, (q₁, tt)) (ys, (n, (x, (cs, tt))))
@@ -122,7 +117,7 @@ module _ {M : Type 1} (𝓤 : URA M) (H : Heap 𝓤) (A : Atoms 𝓤) (W : Given
         reaches-elem ! (R s) space (inside so) (var ! 14 refl) (init ! 8 refl (fits-offset (R s) (length (now ys)) i space (inside so))) (ptr ! 22 refl refl) (var ! 8 refl) 6 refl (tt, tt) $ fills ! (addr ! (from ! (hop ! (look ! 6 refl) (stop !)))) 4 refl (tt, tt) $
         lends-elem (R s) ys ! tt i (s .empty) (inside so) (λ ν δ. move ! (0 ∷ 3 ∷ 1 ∷ 4 ∷ []) $
         -- [ν's token; the cells' token; the element; the cells; what the lender keeps; _10: 5; ..]
-        calls W (on-one s) (k .plain-X, tt) (ν ∷ [], (κ₁, tt)) (fullShare, (q₁, tt)) (elem (R s) ys i δ h, (x, (cs, tt))) (k .plain-O) 𝓣 known (x-is, tt) !
+        calls W (form-f s) (k .plain-X, tt) (ν ∷ [], (κ₁, tt)) (fullShare, (q₁, tt)) (elem (R s) ys i δ h, (x, (cs, tt))) (k .plain-O) 𝓣 known (x-is, tt) !
         (and-then ! (var ! 2 refl) (and-then ! (var ! 16 refl) (and-then ! (var ! 14 refl) (no-more !)))) (λ r ws e _ is. lands-in ! 24 refl (has (k .plain-O) r is) $ move ! (0 ∷ 2 ∷ 3 ∷ []) $
         elem-home (R s) ys ! tt i ν δ (ws .0) (inside so) space $ move ! (1 ∷ []) $ settles (R s) (lent-as (R s) ys (name ys) (set (now ys) i (ws .0))) ! κ $
         ends-within ! 23 Ends refl refl (cell, (cell, (cell, (cell, (cell, (cell, (cell, (cell, (cell, (cell, (cell, tt))))))))))) $ keep ! (1 ∷ 2 ∷ 0 ∷ []) $

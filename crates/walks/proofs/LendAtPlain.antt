@@ -3,7 +3,7 @@
 --     fn g(row: &mut [T], x: X) -> O { let at = place(x); if at < row.len() { return f(&mut row[at], x); } no() }
 -- T is a declared struct of plain fields, X and O are plain. place is covered and says `r ≡ place-of x`, f says the answer and the record at exit, no says `r ≡ none`. g says the answer and the whole row at exit.
 --     Shape, Knows     what g is made of; what the contract says within the row and past its end, and what is to be known of the types
---     function, form   g's MIR, and its form.        on-one     the form of f.        meets     g's MIR fulfils that form wherever its callees fulfil theirs
+--     function, form   g's MIR, and its form.        form-f     the form of f.        meets     g's MIR fulfils that form wherever its callees fulfil theirs
 use mathlib.Core.Path.{_≡_, refl, _∙_, ap}
 use Prim.Native.Nat.{ℕ, _<_, _≤_}
 use mathlib.Core.List.{[], _∷_, List}
@@ -29,8 +29,8 @@ use denote.Triple.Statement.{Triple}
 use Rattle.walks.proofs.Plain.{ty, PlainType, has, uint}
 use Rattle.walks.proofs.Walk.{cell, room}
 use Rattle.walks.proofs.Steps.{it, len-of, sets, steps, by-values, ref-to, finds-elem, fits-offset, var, len, ptr, fills, lands-in, reaches-elem, lie-at, ends-in, ends-within}
-use Rattle.walks.proofs.Form.{Form, code-of, value, behind, Fulfils, met, calls, Post, exits, Walk, meets-form}
-use Rattle.walks.proofs.Callee.{Answers, Changes, Told, a-value, of-one, on-row, calls-nothing, calls-one}
+use Rattle.walks.proofs.Form.{Form, code-of, Fulfils, met, calls, Post, exits, Walk, meets-form}
+use Rattle.walks.proofs.Callee.{Answers, Changes, OfOne, Told, a-value, of-one, on-one, on-row, calls-nothing, calls-one}
 use Rattle.walks.proofs.Lent.{lent-as, elem, settles, lends-elem, elem-home}
 
 pub record Shape : Type 2 where
@@ -43,8 +43,8 @@ pub record Shape : Type 2 where
   pub no : Name
   -- what the contracts of place, f and no say
   pub place-of : X .Denot → ℕ
-  pub answer-one : T .D → X .Denot → O .Denot
-  pub record-one : T .D → X .Denot → T .D
+  pub answer-one : OfOne (T .D) (X .Denot) (O .Denot)
+  pub record-one : OfOne (T .D) (X .Denot) (T .D)
   pub none : O .Denot
   -- what stands past the end, and what g's contract says
   pub empty : T .D
@@ -58,8 +58,8 @@ module _ (s : Shape) where
   abbrev pub form : Form
   form = on-row (s .O) R (s .X) (s .answer-at) (s .row-at)
 
-  abbrev pub on-one : Form
-  on-one = record { lifetimes = 1; params = behind 0 tt R ∷ value (s .X) ∷ []; result = s .O; says-of = λ κs a r e. (r ≡ s .answer-one (now (a .0)) (a .1 .0)) × (now (e .0) ≡ s .record-one (now (a .0)) (a .1 .0)) }
+  abbrev pub form-f : Form
+  form-f = on-one (s .O) R (s .X) (s .answer-one) (s .record-one)
 
   abbrev past-end : Code
   past-end = steps (call (s .no) [] (place 0 []) ∷ []) return
@@ -85,7 +85,7 @@ pub record Knows {M : Type 1} (𝓤 : URA M) (H : Heap 𝓤) (A : Atoms 𝓤) (s
   pub plain-O : PlainType 𝓤 H A (s .O)
 
 module _ {M : Type 1} (𝓤 : URA M) (H : Heap 𝓤) (A : Atoms 𝓤) (W : Given 𝓤 H A) (s : Shape) (k : Knows 𝓤 H A s) (𝓣 : Tables 𝓤 H)
-    (known-place : Triple 𝓤 (𝓣 .C (s .place-fn)) (met (of-one usize (s .X) (s .place-of)) 𝓤 H A)) (known : Triple 𝓤 (𝓣 .C (s .f)) (met (on-one s) 𝓤 H A)) (known-no : Triple 𝓤 (𝓣 .C (s .no)) (met (a-value (s .O) (s .none)) 𝓤 H A)) where
+    (known-place : Triple 𝓤 (𝓣 .C (s .place-fn)) (met (of-one usize (s .X) (s .place-of)) 𝓤 H A)) (known : Triple 𝓤 (𝓣 .C (s .f)) (met (form-f s) 𝓤 H A)) (known-no : Triple 𝓤 (𝓣 .C (s .no)) (met (a-value (s .O) (s .none)) 𝓤 H A)) where
   module _ (κ : Lft) (q : Share) (ys : RefT (List (s .T .D))) (x : s .X .Denot) where
     abbrev Ends : Val → SProp 𝓤
     Ends = Post W (form s) (k .plain-X, tt) (κ, tt) (q, tt) (ys, (x, tt))
@@ -114,7 +114,7 @@ module _ {M : Type 1} (𝓤 : URA M) (H : Heap 𝓤) (A : Atoms 𝓤) (W : Given
         reaches-elem ! (R s) space (inside so) (var ! 12 refl) (init ! 6 refl (fits-offset (R s) (length (now ys)) i space (inside so))) (ptr ! 16 refl refl) (var ! 6 refl) 4 refl (tt, tt) $ fills ! (addr ! (from ! (hop ! (look ! 4 refl) (stop !)))) 2 refl (tt, tt) $
         lends-elem (R s) ys ! tt i (s .empty) (inside so) (λ ν δ.
         -- [ν's token; the element; what the lender keeps; _8: 3; ..]
-        calls W (on-one s) (k .plain-X, tt) (ν ∷ [], tt) (fullShare, tt) (elem (R s) ys i δ h, (x, tt)) (k .plain-O) 𝓣 known (x-is, tt) ! (and-then ! (var ! 2 refl) (and-then ! (var ! 14 refl) (no-more !))) (λ r ws e _ is. lands-in ! 19 refl (has (k .plain-O) r is) $
+        calls W (form-f s) (k .plain-X, tt) (ν ∷ [], tt) (fullShare, tt) (elem (R s) ys i δ h, (x, tt)) (k .plain-O) 𝓣 known (x-is, tt) ! (and-then ! (var ! 2 refl) (and-then ! (var ! 14 refl) (no-more !))) (λ r ws e _ is. lands-in ! 19 refl (has (k .plain-O) r is) $
         elem-home (R s) ys ! tt i ν δ (ws .0) (inside so) space $ move ! (1 ∷ []) $ settles (R s) (lent-as (R s) ys (name ys) (set (now ys) i (ws .0))) ! κ $
         ends-within ! 18 Ends refl refl (cell, (cell, (cell, (cell, (cell, (cell, (cell, (cell, (cell, tt))))))))) $ keep ! (1 ∷ 0 ∷ []) $
         by ! (done r (set (now ys) i (ws .0)) (e .0 ∙ k .within (now ys) x (inside so) .0, ap (set (now ys) i) (e .1) ∙ k .within (now ys) x (inside so) .1) (length-set (now ys) i (ws .0)) is))))

@@ -8,6 +8,10 @@ pub mod LendArray
 pub mod OverRow
 pub mod Through
 pub mod Beside
+pub mod Asked
+pub mod EitherOne
+pub mod Chosen
+pub mod Looked
 pub mod LendAtPlain
 pub mod LendAt
 pub mod GuardedPlain

@@ -23,7 +23,8 @@ use denote.Triple.Statement.{Triple}
 use Rattle.walks.proofs.Plain.{ty, PlainType, pair-ty, PlainPair, has, has-pair}
 use Rattle.walks.proofs.Walk.{cell}
 use Rattle.walks.proofs.Steps.{it, sets, steps, by-values, var, part, fills, lands-in, ends-in}
-use Rattle.walks.proofs.Form.{Form, code-of, value, behind, Fulfils, met, calls, exits, Walk, meets-form}
+use Rattle.walks.proofs.Form.{Form, code-of, value, Fulfils, met, calls, exits, Walk, meets-form}
+use Rattle.walks.proofs.Callee.{OfOne, on-one}
 use Rattle.walks.proofs.Lent.{opens-ref, settles-ref}
 
 pub record Shape : Type 2 where
@@ -33,7 +34,7 @@ pub record Shape : Type 2 where
   pub Q : D.Declared
   pub O : RattleType
   pub f : Name
-  pub F : T .D → X .Denot → Q .D
+  pub F : OfOne (T .D) (X .Denot) (Q .D)
   pub record-of : Q .D → T .D
   pub answer-of : Q .D → O .Denot
 
@@ -42,7 +43,7 @@ module _ (s : Shape) where
   R = D.row (s .T)
 
   abbrev pub form : Form
-  form = record { lifetimes = 1; params = behind 0 tt R ∷ value (s .X) ∷ []; result = s .O; says-of = λ κs a r e. (r ≡ s .answer-of (s .F (now (a .0)) (a .1 .0))) × (now (e .0) ≡ s .record-of (s .F (now (a .0)) (a .1 .0))) }
+  form = on-one (s .O) R (s .X) (λ b x. s .answer-of (s .F b x)) (λ b x. s .record-of (s .F b x))
 
   abbrev pub by-value : Form
   by-value = record { lifetimes = 0; params = value R ∷ value (s .X) ∷ []; result = D.row (s .Q); says-of = λ κs a r e. r ≡ s .F (a .0) (a .1 .0) }
