@@ -1,4 +1,4 @@
--- A quiet sample leaves the board as it is, with both switches on and no cell bled.
+-- A quiet sample leaves the board as it is, with both switches on and no cell bled: a look tells that.
 -- Assumes nothing.
 use Prim.Native.Nat.{ℕ}
 use native.Mathlib.Omega.{arith}
@@ -20,8 +20,10 @@ use Rattle.latches.specs.Latches.{latches, latchesByte, register0}
 use Rattle.board.specs.declared.Board.{Board}
 use Rattle.board.specs.declared.Readings.{Readings}
 use Rattle.board.specs.declared.Answer.the-variants.{Sampled}
+use Rattle.board.specs.declared.Found.the-variants.{Stays}
 use Rattle.board.specs.Shunt.{shuntAbove, shuntOutside}
 use Rattle.board.specs.Sample.{currentsNext, latchesNext, hot, sweptAt, latchesAfter, boardNext, outside, badBoard, outOfRange, sampleOf, clear, idle, currentsBelow, warm, quietOf}
+use Rattle.board.specs.Look.{lookOf}
 
 module _ (b : Board) (x : Readings) (mv : List ℕ) (q : quietOf b x mv ≡ true) where
   -- its parts
@@ -108,7 +110,7 @@ module _ (b : Board) (x : Readings) (mv : List ℕ) (q : quietOf b x mv ≡ true
   unfolding currentsNext runNext
   same-currents = rw (no-ocd, no-scd) (λ i. record { ocd = sym no-ocd-run i; scd = sym no-scd-run i })
 
-  same-board : boardNext b x mv ≡ b
+  pub same-board : boardNext b x mv ≡ b
   unfolding boardNext latchesByte number
   same-board =
       let byte = ap latchesByte unlatched ∙ sym no-latch in
@@ -119,6 +121,6 @@ module _ (b : Board) (x : Readings) (mv : List ℕ) (q : quietOf b x mv ≡ true
   in-range : outOfRange x mv ≡ false
   in-range = rw (calm-readable (b .working) (b .cells) mv calm, not-high, inside, a-flag)
 
-  pub quiet-sample : badBoard b ≡ false → eqb (length mv) (b .count) ≡ true → outside 1 100000 (x .elapsed) ≡ false → sampleOf b x mv ≡ record { board = b; answer = Sampled 192 0 }
-  unfolding sampleOf register0 number
-  quiet-sample e₁ e₃ e₄ = rw (e₁, e₃, e₄, in-range, same-board, unlatched, ap (λ (w : Swept). w .bled) swept)
+  pub quiet-look : badBoard b ≡ false → eqb (length mv) (b .count) ≡ true → outside 1 100000 (x .elapsed) ≡ false → Stays (Sampled 192 0) ≡ lookOf b x mv
+  unfolding lookOf sampleOf register0 number
+  quiet-look e₁ e₃ e₄ = rw (e₁, e₃, e₄, in-range, q, unlatched, ap (λ (w : Swept). w .bled) swept)

@@ -1,2 +1,3 @@
 pub mod Shunt
 pub mod Sample
+pub mod Look

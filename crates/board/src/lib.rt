@@ -1,7 +1,8 @@
 // One board by value: its record, and a sample of it (01, The stack and its readings; When a fault latches and lets go).
 ghost use mathlib.Core.Path.{_≡_};
 ghost use Rattle.board.specs.Shunt.{shuntAbove, shuntOutside};
-ghost use Rattle.board.specs.Sample.{fresh, currentsNext, latchesNext, acceptedOf, outOfRange, quietOf, sampleOf};
+ghost use Rattle.board.specs.Sample.{fresh, currentsNext, latchesNext, acceptedOf, outOfRange, quietOf};
+ghost use Rattle.board.specs.Look.{lookOf, staysOf, answerOf};
 use cells::Cell;
 use cells::Swept;
 use latches::Latches;
@@ -40,6 +41,12 @@ pub struct Readings {
 pub enum Answer {
     Sampled { status: u8, bled: u16 },
     Refused(Refusal),
+}
+
+// What a look at a sample finds: its answer, where the board stays as it is, or that the board may change.
+pub enum Found {
+    Stays(Answer),
+    Changes,
 }
 
 pub struct Stepped {
@@ -111,7 +118,7 @@ fn latches_next(s: Settings, swept: Swept, runs: Currents, x: Readings, old: Lat
 }
 
 // An accepted sample.
-fn accept(b: Board, x: Readings, mv: &[u32]) -> Stepped
+pub fn accept(b: Board, x: Readings, mv: &[u32]) -> Stepped
     ensures { λ r. ⌜ r ≡ acceptedOf b x (now (mv .entry)) ⌝ }
 {
     let old = b.cells;
@@ -136,15 +143,6 @@ fn accept(b: Board, x: Readings, mv: &[u32]) -> Stepped
             status: latches::status_of(latches),
             bled: swept.bled,
         },
-    }
-}
-
-fn refuse(b: Board, why: Refusal) -> Stepped
-    ensures { λ r. ⌜ r ≡ record { board = b; answer = Answer.Refused why } ⌝ }
-{
-    Stepped {
-        board: b,
-        answer: Answer::Refused(why),
     }
 }
 
@@ -174,31 +172,54 @@ fn quiet(b: Board, x: Readings, mv: &[u32]) -> bool
     false
 }
 
-// A sample of one board.
-pub fn sample(b: Board, x: Readings, mv: &[u32]) -> Stepped
-    ensures { λ r. ⌜ r ≡ sampleOf b x (now (mv .entry)) ⌝ }
+fn refused(why: Refusal) -> Found
+    ensures { λ r. ⌜ r ≡ Found.Stays (Answer.Refused why) ⌝ }
+{
+    Found::Stays(Answer::Refused(why))
+}
+
+// A look at a sample of one board: a refused one and a quiet one have their answer, and leave the board.
+pub fn look(b: Board, x: Readings, mv: &[u32]) -> Found
+    ensures { λ r. ⌜ r ≡ lookOf b x (now (mv .entry)) ⌝ }
 {
     let count = b.count;
     if (count < 5) | (10 < count) {
-        return refuse(b, Refusal::BadRow);
+        return refused(Refusal::BadRow);
     }
     if mv.len() != count as usize {
-        return refuse(b, Refusal::CellList);
+        return refused(Refusal::CellList);
     }
     if (x.elapsed < 1) | (100000 < x.elapsed) {
-        return refuse(b, Refusal::Elapsed);
+        return refused(Refusal::Elapsed);
     }
     if quiet(b, x, mv) {
-        return Stepped {
-            board: b,
-            answer: Answer::Sampled {
-                status: 192,
-                bled: 0,
-            },
-        };
+        return Found::Stays(Answer::Sampled {
+            status: 192,
+            bled: 0,
+        });
     }
     if out_of_range(x, mv) {
-        return refuse(b, Refusal::OutOfRange);
+        return refused(Refusal::OutOfRange);
     }
-    accept(b, x, mv)
+    Found::Changes
+}
+
+// Whether the look was enough.
+pub fn stays(found: Found) -> bool
+    ensures { λ r. ⌜ r ≡ staysOf found ⌝ }
+{
+    match found {
+        Found::Stays(_) => true,
+        Found::Changes => false,
+    }
+}
+
+// The answer that the look gave; for a sample that changes the board, the refusal that no sample is given.
+pub fn answer_of(found: Found) -> Answer
+    ensures { λ r. ⌜ r ≡ answerOf found ⌝ }
+{
+    match found {
+        Found::Stays(answer) => answer,
+        Found::Changes => Answer::Refused(Refusal::Malformed),
+    }
 }

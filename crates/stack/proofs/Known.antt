@@ -13,6 +13,8 @@ use Rattle.board.proofs.Board as Board
 use Rattle.board.proofs.Board.Laws as Board′
 use Rattle.board.proofs.Readings as Readings
 use Rattle.board.proofs.Readings.Laws as Readings′
+use Rattle.board.proofs.Found as Found
+use Rattle.board.proofs.Found.Laws as Found′
 use Rattle.board.proofs.Answer as Answer
 use Rattle.board.proofs.Answer.Laws as Answer′
 use Rattle.board.proofs.Stepped as Stepped
@@ -40,6 +42,9 @@ module _ {M : Type 1} (𝓤 : URA M) (H : Heap 𝓤) (A : Atoms 𝓤) (W : Given
 
   abbrev pub answer : PlainType 𝓤 H A Answer.the-row
   answer = enumeration 𝓤 H A W Answer.the-type Answer′.the-laws Answer′.the-plain Answer′.the-copy tt
+
+  abbrev pub found : PlainType 𝓤 H A Found.the-row
+  found = enumeration 𝓤 H A W Found.the-type Found′.the-laws Found′.the-plain Found′.the-copy tt
 
   abbrev pub taken : PlainType 𝓤 H A Taken.the-row
   taken = enumeration 𝓤 H A W Taken.the-type Taken′.the-laws Taken′.the-plain Taken′.the-copy tt

@@ -4,7 +4,7 @@ ghost use mathlib.Core.Path.{_≡_};
 ghost use mathlib.Core.Bool.{true};
 ghost use Prim.Native.Nat.{_≤_};
 ghost use lib.ListN.{length};
-ghost use Rattle.board.specs.Sample.{sampleOf, badBoard};
+ghost use Rattle.board.specs.Sample.{sampleOf, acceptedOf, badBoard};
 ghost use Rattle.registers.specs.Registers.{obeyedOf};
 ghost use Rattle.stack.specs.Row.{badCount, goodRow, placeOf};
 ghost use Rattle.stack.specs.Open.{goodCounts, freshRow, noStack, openOf};
@@ -156,12 +156,23 @@ pub fn open_stack(counts: &[u32]) -> Start
 
 // ---- a sample
 
+fn accept_board(b: &mut Board, x: Readings, mv: &[u32]) -> Answer
+    ensures { λ r. ⌜ (r ≡ acceptedOf (now (b .entry)) x (now (mv .entry)) .answer) × (now (b .exit) ≡ acceptedOf (now (b .entry)) x (now (mv .entry)) .board) ⌝ }
+{
+    let s = board::accept(*b, x, mv);
+    *b = s.board;
+    s.answer
+}
+
+// A sample of one board. One that is refused or quiet stores nothing.
 pub fn sample_board(b: &mut Board, x: Readings, mv: &[u32]) -> Answer
     ensures { λ r. ⌜ (r ≡ sampleOf (now (b .entry)) x (now (mv .entry)) .answer) × (now (b .exit) ≡ sampleOf (now (b .entry)) x (now (mv .entry)) .board) ⌝ }
 {
-    let s = board::sample(*b, x, mv);
-    *b = s.board;
-    s.answer
+    let found = board::look(*b, x, mv);
+    if board::stays(found) {
+        return board::answer_of(found);
+    }
+    accept_board(b, x, mv)
 }
 
 fn no_sample() -> Answer

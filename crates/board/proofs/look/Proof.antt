@@ -1,0 +1,85 @@
+use mathlib.Core.Path.{sym, _∙_}
+use borrow.Author.Tests.{eq-eqb, ne-eqb}
+use borrow.Author.Needs.{needs}
+use Rattle.board.specs.Sample.{sampleOf}
+use Rattle.board.specs.Look.{lookOf}
+use Rattle.board.proofs.Unmoved.{quiet-look}
+use Rattle.board.proofs.look.Statement.{statement}
+use Rattle.board.proofs.look.Tie as tie
+
+refused-requires : tie.Need-refused-requires
+refused-requires c κs = search needs
+
+returns : tie.Need-returns
+unfolding lookOf sampleOf
+returns c = rw (c .refused .ensures, c .before .if1 .taken)
+
+cast-if2 : tie.Need-cast-if2
+cast-if2 c = search needs
+
+refused-requires-2 : tie.Need-refused-requires-2
+refused-requires-2 c κs = search needs
+
+returns-2 : tie.Need-returns-2
+unfolding lookOf sampleOf
+returns-2 c = rw (c .refused2 .ensures, c .before .before .if1 .left, ne-eqb _ _ (c .before .if2 .taken))
+
+refused-requires-3 : tie.Need-refused-requires-3
+refused-requires-3 c κs = search needs
+
+returns-3 : tie.Need-returns-3
+unfolding lookOf sampleOf
+returns-3 c =
+    let c4 = c .before .before .before .before in
+    rw (c .refused3 .ensures, c4 .before .if1 .left, eq-eqb _ _ (c4 .if2 .left), c .before .if3 .taken)
+
+quiet-requires : tie.Need-quiet-requires
+quiet-requires c κs = search needs
+
+returns-4 : tie.Need-returns-4
+returns-4 c =
+    let c1 = c .before in
+    let c2 = c1 .before in
+    let c5 = c2 .before .before .before in
+    let a = c5 .before .before .before .args in
+    quiet-look (a .b) (a .x) (a .mv .now) (sym (c1 .quiet .ensures) ∙ c .if4 .taken) (c5 .before .if1 .left) (eq-eqb _ _ (c5 .if2 .left)) (c2 .if3 .left)
+
+out-of-range-requires : tie.Need-out-of-range-requires
+out-of-range-requires c κs = search needs
+
+refused-requires-4 : tie.Need-refused-requires-4
+refused-requires-4 c κs = search needs
+
+returns-5 : tie.Need-returns-5
+unfolding lookOf sampleOf
+returns-5 c =
+    let c2 = c .before .before in
+    let c5 = c2 .before .before .before in
+    let c8 = c5 .before .before .before in
+    rw (c .refused4 .ensures, c8 .before .if1 .left, eq-eqb _ _ (c8 .if2 .left), c5 .if3 .left, ← (c2 .out-of-range .ensures), c .before .if5 .taken)
+
+returns-6 : tie.Need-returns-6
+unfolding lookOf
+returns-6 c =
+    let c1 = c .before in
+    let c4 = c1 .before .before .before in
+    let c7 = c4 .before .before .before in
+    rw (c7 .before .if1 .left, eq-eqb _ _ (c7 .if2 .left), c4 .if3 .left, ← (c1 .out-of-range .ensures), c .if5 .left, sym (c1 .before .before .quiet .ensures) ∙ c1 .before .if4 .left)
+
+pub look-spec : {M : Type 1} → statement M
+look-spec =
+    tie.close
+    (tie.spec
+    refused-requires
+    returns
+    cast-if2
+    refused-requires-2
+    returns-2
+    refused-requires-3
+    returns-3
+    quiet-requires
+    returns-4
+    out-of-range-requires
+    refused-requires-4
+    returns-5
+    returns-6)
