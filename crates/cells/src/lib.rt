@@ -1,9 +1,12 @@
 // The cells of one board: their runs and flags, what they say of OV and UV, and bleeding
 // (01, When a fault latches and lets go; Bleeding).
 ghost use mathlib.Core.Path.{_≡_};
-ghost use Prim.Native.Nat.{min, _<_};
-ghost use Rattle.cells.specs.Cells.{cellBy, flagBy, sweepOf, noCells, readable, noRuns, allBetween, calmOf};
-ghost use Rattle.cells.specs.Bleed.{markNext};
+ghost use Prim.Native.Nat.{min, _<_, _≤_};
+ghost use mathlib.Core.Bool.{cond};
+ghost use lib.Dec.{eqb};
+ghost use Rattle.marks.specs.Marks.{number, marks};
+ghost use Rattle.cells.specs.Cells.{flagBy, sweepOf, noCells, readable, noRuns, allBetween, calmOf};
+ghost use Rattle.cells.specs.Bleed.{bled, markNext};
 use settings::Settings;
 
 // What a board keeps of one cell: the runs of its OV and UV conditions.
@@ -22,16 +25,6 @@ pub struct Swept {
     pub ov_lets_go: bool,
     pub uv_stood: bool,
     pub uv_lets_go: bool,
-}
-
-// The runs of a cell, held against the OV and the UV level.
-fn cell_next(ov: u32, uv: u32, elapsed: u32, c: Cell, mv: u32) -> Cell
-    ensures { λ r. ⌜ r ≡ cellBy ov uv elapsed c mv ⌝ }
-{
-    Cell {
-        ov: runs::advance(c.ov, ov < mv, elapsed),
-        uv: runs::advance(c.uv, mv < uv, elapsed),
-    }
 }
 
 fn flag_next(release: u32, stood: bool, flagged: bool, mv: u32) -> bool
@@ -55,6 +48,29 @@ fn cell_count(readings: usize) -> usize
     if readings < 10 { readings } else { 10 }
 }
 
+// How many cells to look through for bled ones: with none flagged there is nothing to look for.
+fn cells_to_search(flags: u16, cells: usize) -> usize
+    ensures { λ r. ⌜ r ≡ cond (eqb flags 0) 0 cells ⌝ }
+{
+    if flags == 0 { 0 } else { cells }
+}
+
+// The bled cells of the flagged ones: from the highest down, a flagged cell bleeds unless the next higher one does.
+fn bled_of(flags: u16, cells: usize) -> u16
+    requires { ⌜ cells ≤ 10 ⌝ }
+    ensures { λ r. ⌜ r ≡ number (bled (marks cells flags)) ⌝ }
+{
+    let mut out = 0;
+    let mut bleeds = false;
+    let mut i = cells_to_search(flags, cells);
+    while 0 < i {
+        i -= 1;
+        bleeds = marks::mark_at(flags, i) & !bleeds;
+        out = mark_next(bleeds, out);
+    }
+    out
+}
+
 // One pass over the cells, from the highest down. The settings are decoded once, in front of it.
 pub fn sweep(s: Settings, elapsed: u32, cells: [Cell; 10], flags: u16, mv: &[u32]) -> Swept
     ensures { λ r. ⌜ r ≡ sweepOf s elapsed cells flags (now (mv .entry)) ⌝ }
@@ -67,25 +83,23 @@ pub fn sweep(s: Settings, elapsed: u32, cells: [Cell; 10], flags: u16, mv: &[u32
     let uv_delay = s.uv_delay();
     let mut next = cells;
     let mut flagged = 0;
-    let mut bled = 0;
-    let mut bleeds = false;
     let mut ov_stood = false;
     let mut ov_lets_go = true;
     let mut uv_stood = false;
     let mut uv_lets_go = true;
-    let mut i = cell_count(mv.len());
+    let n = cell_count(mv.len());
+    let mut i = n;
     while 0 < i {
         i -= 1;
         let v = mv[i];
-        let cell = cell_next(ov, uv, elapsed, next[i], v);
-        next[i] = cell;
-        let high = runs::has_stood(ov_delay, cell.ov);
-        let low = runs::has_stood(uv_delay, cell.uv);
+        let ov_run = runs::advance(next[i].ov, ov < v, elapsed);
+        let uv_run = runs::advance(next[i].uv, v < uv, elapsed);
+        next[i].ov = ov_run;
+        next[i].uv = uv_run;
+        let high = runs::has_stood(ov_delay, ov_run);
+        let low = runs::has_stood(uv_delay, uv_run);
         let flag = flag_next(ov_release, high, marks::mark_at(flags, i), v);
         flagged = mark_next(flag, flagged);
-        // a flagged cell bleeds unless the next higher one, which the pass has just left, does
-        bleeds = flag & !bleeds;
-        bled = mark_next(bleeds, bled);
         ov_stood = high | ov_stood;
         ov_lets_go = (v < ov_release) & ov_lets_go;
         uv_stood = low | uv_stood;
@@ -94,7 +108,8 @@ pub fn sweep(s: Settings, elapsed: u32, cells: [Cell; 10], flags: u16, mv: &[u32
     Swept {
         cells: next,
         flags: flagged,
-        bled: bled,
+        // behind the pass, as cells are seldom flagged
+        bled: bled_of(flagged, n),
         ov_stood: ov_stood,
         ov_lets_go: ov_lets_go,
         uv_stood: uv_stood,

@@ -1,20 +1,19 @@
-use Rattle.cells.specs.Cells.{limitsOf}
 use Prim.Native.Nat.{_≤_}
 use native.Mathlib.Omega.{arith}
 use mathlib.Core.Path.{_≡_, ap, _∙_}
 use borrow.Author.Needs.{needs}
 use lib.ListN.{length}
-use Rattle.cells.specs.Cells.{cellCount, Limits, sweepBy}
-use Rattle.cells.proofs.Gather.{Gathered, nothing, waits, turn, few-flags, few-bled, done}
+use Rattle.cells.specs.Cells.{cellCount, Limits, limitsOf, sweepBy}
+use Rattle.cells.proofs.Gather.{Gathered, nothing, turn, few-flags, done}
 use Rattle.cells.proofs.sweep.Statement.{statement}
 use Rattle.cells.proofs.sweep.Tie as tie
 
 abbrev Inv-loop : tie.InvT-loop
-Inv-loop elapsed flags mv ov ov-release ov-delay uv uv-release uv-delay next₀ flagged₀ bled₀ bleeds₀ ov-stood₀ ov-lets-go₀ uv-stood₀ uv-lets-go₀ i₀ next flagged bled bleeds ov-stood ov-lets-go uv-stood uv-lets-go i =
-    (i ≤ cellCount mv) × (length next₀ ≡ 10) × Gathered (record { ov = ov; ovRelease = ov-release; ovDelay = ov-delay; uv = uv; uvRelease = uv-release; uvDelay = uv-delay }) elapsed next₀ flags mv (cellCount mv) i next flagged bled bleeds ov-stood ov-lets-go uv-stood uv-lets-go
+Inv-loop elapsed flags mv ov ov-release ov-delay uv uv-release uv-delay next₀ flagged₀ ov-stood₀ ov-lets-go₀ uv-stood₀ uv-lets-go₀ n i₀ next flagged ov-stood ov-lets-go uv-stood uv-lets-go i =
+    (i ≤ n) × (n ≡ cellCount mv) × (length next₀ ≡ 10) × Gathered (record { ov = ov; ovRelease = ov-release; ovDelay = ov-delay; uv = uv; uvRelease = uv-release; uvDelay = uv-delay }) elapsed next₀ flags mv n i next flagged ov-stood ov-lets-go uv-stood uv-lets-go
 
 abbrev μ-loop : tie.MeasureT-loop
-μ-loop elapsed flags mv ov ov-release ov-delay uv uv-release uv-delay next₀ flagged₀ bled₀ bleeds₀ ov-stood₀ ov-lets-go₀ uv-stood₀ uv-lets-go₀ i₀ next flagged bled bleeds ov-stood ov-lets-go uv-stood uv-lets-go i = i
+μ-loop elapsed flags mv ov ov-release ov-delay uv uv-release uv-delay next₀ flagged₀ ov-stood₀ ov-lets-go₀ uv-stood₀ uv-lets-go₀ n i₀ next flagged ov-stood ov-lets-go uv-stood uv-lets-go i = i
 
 ov-level-requires : tie.Need-ov-level-requires Inv-loop μ-loop
 ov-level-requires c κs = search needs
@@ -41,7 +40,7 @@ loop-holds : tie.Need-loop-holds Inv-loop μ-loop
 loop-holds c =
     let a = c .before .before .before .before .before .before .before .before .args in
     let long : length (a .cells) ≡ 10 = search needs in
-    (search needs, long, rw (c .cell-count .ensures) (nothing _ (a .elapsed) (a .cells) (a .flags) (a .mv .now) (cellCount (a .mv .now)) (omega arith)))
+    (search needs, c .cell-count .ensures, long, nothing _ (a .elapsed) (a .cells) (a .flags) (a .mv .now) (c .cell-count .result) (omega (arith, c .cell-count .ensures)))
 
 sub-i : tie.Need-sub-i Inv-loop μ-loop
 sub-i c = search needs
@@ -52,20 +51,35 @@ mul-v c = search needs
 shared-slice-read-v : tie.Need-shared-slice-read-v Inv-loop μ-loop
 shared-slice-read-v c = search needs
 
-mul-cell-next : tie.Need-mul-cell-next Inv-loop μ-loop
-mul-cell-next c = search needs
+mul-advance : tie.Need-mul-advance Inv-loop μ-loop
+mul-advance c = search needs
 
-array-copy-out-cell-next : tie.Need-array-copy-out-cell-next Inv-loop μ-loop
-array-copy-out-cell-next c = search needs
+element-copy-out-advance : tie.Need-element-copy-out-advance Inv-loop μ-loop
+element-copy-out-advance c = search needs
 
-cell-next-requires : tie.Need-cell-next-requires Inv-loop μ-loop
-cell-next-requires c κs = search needs
+advance-requires : tie.Need-advance-requires Inv-loop μ-loop
+advance-requires c κs = search needs
+
+mul-advance-2 : tie.Need-mul-advance-2 Inv-loop μ-loop
+mul-advance-2 c = search needs
+
+element-copy-out-advance-2 : tie.Need-element-copy-out-advance-2 Inv-loop μ-loop
+element-copy-out-advance-2 c = search needs
+
+advance-requires-2 : tie.Need-advance-requires-2 Inv-loop μ-loop
+advance-requires-2 c κs = search needs
 
 mul-next : tie.Need-mul-next Inv-loop μ-loop
 mul-next c = search needs
 
-array-set-from-next : tie.Need-array-set-from-next Inv-loop μ-loop
-array-set-from-next c = search needs
+way-write-given-next : tie.Need-way-write-given-next Inv-loop μ-loop
+way-write-given-next c = search needs
+
+mul-next-2 : tie.Need-mul-next-2 Inv-loop μ-loop
+mul-next-2 c = search needs
+
+way-write-given-next-2 : tie.Need-way-write-given-next-2 Inv-loop μ-loop
+way-write-given-next-2 c = search needs
 
 has-stood-requires : tie.Need-has-stood-requires Inv-loop μ-loop
 has-stood-requires c κs = search needs
@@ -81,13 +95,8 @@ flag-next-requires c κs = search needs
 
 mark-next-requires : tie.Need-mark-next-requires Inv-loop μ-loop
 mark-next-requires c κs =
-    let h = c .before .before .before .before .before .before .before .before in
-    few-flags _ _ _ _ _ _ (h .loop .inv .2) (omega arith)
-
-mark-next-requires-2 : tie.Need-mark-next-requires-2 Inv-loop μ-loop
-mark-next-requires-2 c κs =
-    let h = c .before .before .before .before .before .before .before .before .before in
-    few-bled _ _ _ _ _ _ (h .loop .inv .2) (omega arith)
+    let h = c .before .before .before .before .before .before .before .before .before .before in
+    few-flags _ _ _ _ _ _ (h .loop .inv .3) (omega arith)
 
 loop-less : tie.Need-loop-less Inv-loop μ-loop
 loop-less c = search needs
@@ -100,17 +109,18 @@ loop-again c =
     let c4 = c3 .before in
     let c5 = c4 .before in
     let c6 = c5 .before in
-    let h = c6 .before .before .before .before in
-    let within = h .loop .inv .0 in
-    let long = h .loop .inv .1 in
-    let going = c6 .before .before .before .loop-test .taken in
-    let flag = rw (c3 .mark-at .ensures) at (c2 .flag-next .ensures) in
-    let cell = rw (waits _ _ _ _ _ _ (h .loop .inv .2) (omega arith) (omega arith) (omega arith)) at (c6 .cell-next .ensures) in
-    (search needs, long, rw (c .mark-next2 .ensures, c1 .mark-next .ensures) (turn _ _ _ _ _ _ _ _ _ _ (h .loop .inv .2) cell (c5 .has-stood .ensures) (c4 .has-stood2 .ensures) flag (omega arith) (omega arith) (omega arith)))
+    let c7 = c6 .before in
+    let c8 = c7 .before in
+    let h = c8 .before .before .before in
+    let flag = rw (c2 .mark-at .ensures) at (c1 .flag-next .ensures) in
+    (search needs, h .loop .inv .1, h .loop .inv .2, rw (c .mark-next .ensures) (turn _ _ _ _ _ _ _ _ _ _ _ (h .loop .inv .3) (c8 .advance .ensures) (c7 .advance2 .ensures) (c4 .has-stood .ensures) (c3 .has-stood2 .ensures) flag (omega arith) (omega arith) (omega arith)))
+
+bled-of-requires : tie.Need-bled-of-requires Inv-loop μ-loop
+bled-of-requires c κs = search needs
 
 returns : tie.Need-returns Inv-loop μ-loop
 returns c =
-    let h = c .before in
+    let h = c .before .before in
     let b1 = h .before .before in
     let b2 = b1 .before in
     let b3 = b2 .before in
@@ -120,7 +130,7 @@ returns c =
     let a = b6 .before .before .args in
     let same : _≡_ {A = Limits} (record { ov = b6 .ov-level .result; ovRelease = b5 .ov-release .result; ovDelay = b4 .ov-delay .result; uv = b3 .uv-level .result; uvRelease = b2 .uv-release .result; uvDelay = b1 .uv-delay .result }) (limitsOf (a .s)) =
     λ i. record { ov = b6 .ov-level .ensures i; ovRelease = b5 .ov-release .ensures i; ovDelay = b4 .ov-delay .ensures i; uv = b3 .uv-level .ensures i; uvRelease = b2 .uv-release .ensures i; uvDelay = b1 .uv-delay .ensures i } in
-    done _ (a .elapsed) (a .cells) (a .flags) (a .mv .now) (h .loop .inv .2) (omega arith) ∙ ap (λ (l : Limits). sweepBy l (a .elapsed) (a .cells) (a .flags) (a .mv .now)) same
+    done _ (a .elapsed) (a .cells) (a .flags) (a .mv .now) (h .loop .inv .1) (h .loop .inv .3) (c .bled-of .ensures) (omega arith) ∙ ap (λ (l : Limits). sweepBy l (a .elapsed) (a .cells) (a .flags) (a .mv .now)) same
 
 pub sweep-spec : {M : Type 1} → statement M
 sweep-spec =
@@ -139,17 +149,22 @@ sweep-spec =
     sub-i
     mul-v
     shared-slice-read-v
-    mul-cell-next
-    array-copy-out-cell-next
-    cell-next-requires
+    mul-advance
+    element-copy-out-advance
+    advance-requires
+    mul-advance-2
+    element-copy-out-advance-2
+    advance-requires-2
     mul-next
-    array-set-from-next
+    way-write-given-next
+    mul-next-2
+    way-write-given-next-2
     has-stood-requires
     has-stood-requires-2
     mark-at-requires
     flag-next-requires
     mark-next-requires
-    mark-next-requires-2
     loop-less
     loop-again
+    bled-of-requires
     returns)
