@@ -72,27 +72,39 @@ pub enum Taken {
     Refused(Refusal),
 }
 
-// A frame taken apart, where the lent buffer has room for so many bytes.
-pub fn take_apart(frame: &[u8], room: usize) -> Taken
-    ensures { λ o. ⌜ o ≡ takenApart (now (frame .entry)) room ⌝ }
+fn refuse(why: Refusal) -> Taken
+    ensures { λ o. ⌜ o ≡ Taken.Refused why ⌝ }
 {
-    if frame.len() != 4 {
-        return Taken::Refused(Refusal::FrameLength);
-    }
-    if room < 4 {
-        return Taken::Refused(Refusal::ReplyRoom);
-    }
-    let address = frame[0];
-    let register = frame[1];
-    let value = frame[2];
-    if frame[3] != check_byte(address, register, value) {
-        return Taken::Refused(Refusal::CheckByte);
-    }
+    Taken::Refused(why)
+}
+
+fn parts(address: u8, register: u8, value: u8) -> Taken
+    ensures { λ o. ⌜ o ≡ Taken.Parts address register value ⌝ }
+{
     Taken::Parts {
         address: address,
         register: register,
         value: value,
     }
+}
+
+// A frame taken apart, where the lent buffer has room for so many bytes.
+pub fn take_apart(frame: &[u8], room: usize) -> Taken
+    ensures { λ o. ⌜ o ≡ takenApart (now (frame .entry)) room ⌝ }
+{
+    if frame.len() != 4 {
+        return refuse(Refusal::FrameLength);
+    }
+    if room < 4 {
+        return refuse(Refusal::ReplyRoom);
+    }
+    let address = frame[0];
+    let register = frame[1];
+    let value = frame[2];
+    if frame[3] != check_byte(address, register, value) {
+        return refuse(Refusal::CheckByte);
+    }
+    parts(address, register, value)
 }
 
 // Why a frame was refused; for one that was taken apart, the refusal that no frame is given.
