@@ -137,14 +137,14 @@ abbrev pub readBy : Board → Taken → Obeyed
 readBy b t = record { board = b; answer = readReply b t }
 
 -- a write that does not program: refusals 9 and 10 in order, else the byte; register 11 takes no other value
-abbrev pub stagedReply : ℕ → ℕ → ℕ → Reply
-stagedReply address register v =
+abbrev pub stagedReply : Bool → ℕ → ℕ → ℕ → Reply
+stagedReply fits address register v =
     cond (noRegister true register) (reply.Refused NoRegister)
-    (cond (allowed register v) (reply.Replied address register v) (reply.Refused BadValue))
+    (cond fits (reply.Replied address register v) (reply.Refused BadValue))
 
 unfoldable pub stagedBy : Board → Taken → Obeyed
 stagedBy b (taken.Parts address register v) =
-    record { board = cond (allowed register v) (staging b register v) b; answer = stagedReply address register v }
+    record { board = cond (allowed register v) (staging b register v) b; answer = stagedReply (allowed register v) address register v }
 stagedBy b (taken.Refused why) = refusedOf b why
 
 -- one cycle more; a count with none left, which is never asked, stays, so that it fits its byte
