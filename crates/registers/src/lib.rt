@@ -219,9 +219,10 @@ pub fn kept_reply(b: Board, taken: Taken) -> Reply
     else {
         return refuses(frame::why(taken));
     };
+    let cycles = b.cycles;
     let equal = b.staged.same(b.working);
     if equal {
-        return replies(address, register, b.cycles);
+        return replies(address, register, cycles);
     }
     refuses(Refusal::NoCycle)
 }

@@ -29,14 +29,18 @@ replies-requires c κs = search needs
 
 returns-2 : tie.Need-returns-2
 unfolding keptReply
-returns-2 c = rw (c .replies .ensures, c .before .before .before .before .taken .given .1, ← (c .before .before .same .ensures), c .before .if1 .taken)
+returns-2 c =
+    let c2 = c .before .before in
+    rw (c .replies .ensures, c2 .before .before .taken .given .1, ← (c2 .same .ensures), c .before .if1 .taken)
 
 refuses-requires-2 : tie.Need-refuses-requires-2
 refuses-requires-2 c κs = search needs
 
 returns-3 : tie.Need-returns-3
 unfolding keptReply
-returns-3 c = rw (c .refuses2 .ensures, c .before .before .before .before .taken .given .1, ← (c .before .before .same .ensures), c .before .if1 .left)
+returns-3 c =
+    let c2 = c .before .before in
+    rw (c .refuses2 .ensures, c2 .before .before .taken .given .1, ← (c2 .same .ensures), c .before .if1 .left)
 
 pub kept-reply-spec : {M : Type 1} → statement M
 kept-reply-spec =

@@ -30,14 +30,19 @@ refuses-requires-2 c κs = search needs
 
 returns-2 : tie.Need-returns-2
 unfolding readReply
-returns-2 c = rw (c .refuses2 .ensures, c .before .before .before .before .taken .given .1, ← (c .before .before .no-register .ensures), c .before .if1 .taken)
+returns-2 c =
+    let c2 = c .before .before in
+    rw (c .refuses2 .ensures, c2 .before .before .taken .given .1, ← (c2 .no-register .ensures), c .before .if1 .taken)
 
 refuses-requires-3 : tie.Need-refuses-requires-3
 refuses-requires-3 c κs = search needs
 
 returns-3 : tie.Need-returns-3
 unfolding readReply
-returns-3 c = rw (c .refuses3 .ensures, c .before .before .before .before .before .taken .given .1, ← (c .before .before .before .no-register .ensures), c .before .before .if1 .left, ne-eqb _ 0 (c .before .if2 .taken))
+returns-3 c =
+    let c2 = c .before .before in
+    let c3 = c2 .before in
+    rw (c .refuses3 .ensures, c3 .before .before .taken .given .1, ← (c3 .no-register .ensures), c2 .if1 .left, ne-eqb _ 0 (c .before .if2 .taken))
 
 read-value-requires : tie.Need-read-value-requires
 read-value-requires c κs = search needs
@@ -47,7 +52,10 @@ replies-requires c κs = search needs
 
 returns-4 : tie.Need-returns-4
 unfolding readReply
-returns-4 c = rw (c .replies .ensures, c .before .read-value .ensures, c .before .before .before .before .before .before .taken .given .1, ← (c .before .before .before .before .no-register .ensures), c .before .before .before .if1 .left, eq-eqb _ 0 (c .before .before .if2 .left))
+returns-4 c =
+    let c2 = c .before .before in
+    let c4 = c2 .before .before in
+    rw (c .replies .ensures, c .before .read-value .ensures, c4 .before .before .taken .given .1, ← (c4 .no-register .ensures), c2 .before .if1 .left, eq-eqb _ 0 (c2 .if2 .left))
 
 pub read-reply-spec : {M : Type 1} → statement M
 read-reply-spec =

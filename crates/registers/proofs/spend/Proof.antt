@@ -32,7 +32,10 @@ replies-requires c κs = search needs
 
 returns-2 : tie.Need-returns-2
 unfolding spentBy
-returns-2 c = rw (c .replies .ensures, c .before .before .before .before .before .taken .given .1, c .before .before .before .cycles-after .ensures, c .before .before .fresh-cells .ensures)
+returns-2 c =
+    let c2 = c .before .before in
+    let c3 = c2 .before in
+    rw (c .replies .ensures, c3 .before .before .taken .given .1, c3 .cycles-after .ensures, c2 .fresh-cells .ensures)
 
 pub spend-spec : {M : Type 1} → statement M
 spend-spec =
