@@ -1,10 +1,10 @@
 // The register map of one board, and programming, by value (01, Frames and registers).
 ghost use mathlib.Core.Path.{_≡_};
-ghost use mathlib.Core.Bool.{false, not, _&&_, _||_};
-ghost use Prim.Native.Nat.{_<_};
-ghost use lib.Dec.{eqb};
+ghost use mathlib.Core.Bool.{cond};
+ghost use Rattle.settings.specs.Bytes.{withByte};
+ghost use Rattle.frame.specs.declared.Reply.the-variants as reply;
 ghost use Rattle.frame.specs.Frame.{writes};
-ghost use Rattle.registers.specs.Registers.{known, readValue, fits, programs, staging, spent, programmed, lacksCycle, boardAfter, replyValue, refusedOf, obeyedOf};
+ghost use Rattle.registers.specs.Registers.{readValue, asksWrite, asksProgramming, spendsCycle, noRegister, readReply, stagedReply, stagedBy, cyclesAfter, spentBy, keptReply};
 use board::Board;
 use board::Currents;
 use frame::Reply;
@@ -16,6 +16,23 @@ use settings::Settings;
 pub struct Obeyed {
     pub board: Board,
     pub answer: Reply,
+}
+
+// A reply is made here and in `refuses` alone: a function that makes one at each way out copies it at each.
+fn replies(address: u8, register: u8, value: u8) -> Reply
+    ensures { λ r. ⌜ r ≡ reply.Replied address register value ⌝ }
+{
+    Reply::Replied {
+        address: address,
+        register: register,
+        value: value,
+    }
+}
+
+fn refuses(why: Refusal) -> Reply
+    ensures { λ r. ⌜ r ≡ reply.Refused why ⌝ }
+{
+    Reply::Refused(why)
 }
 
 // A read of the settings gives the working bytes, so that a worn memory shows.
@@ -36,15 +53,9 @@ fn is_write(address: u8) -> bool
     address % 2 == 1
 }
 
-fn is_programming(writes: bool, register: u8) -> bool
-    ensures { λ r. ⌜ r ≡ programs writes register ⌝ }
-{
-    writes & (register == 11)
-}
-
 // Refusal 9.
 fn no_register(writes: bool, register: u8) -> bool
-    ensures { λ r. ⌜ r ≡ (not (known register) || writes && eqb register 0) ⌝ }
+    ensures { λ r. ⌜ r ≡ noRegister writes register ⌝ }
 {
     let known = (register == 0) | ((6 <= register) & (register <= 11));
     !known | (writes & (register == 0))
@@ -53,102 +64,24 @@ fn no_register(writes: bool, register: u8) -> bool
 // The one value that register 11 takes: it programs.
 const KEY: u8 = 0x41;
 
-// Refusal 10.
-fn bad_value(writes: bool, register: u8, value: u8) -> bool
-    ensures { λ r. ⌜ r ≡ not (fits writes register value) ⌝ }
+// ---- which way a frame goes: a caller asks before it copies the record
+
+pub fn asks_write(taken: Taken) -> bool
+    ensures { λ r. ⌜ r ≡ asksWrite taken ⌝ }
 {
-    if writes {
-        if register == 11 {
-            value != KEY
-        } else {
-            !Settings::allows(register, value)
-        }
-    } else {
-        value != 0
-    }
+    let Taken::Parts {
+        address,
+        register: _,
+        value: _,
+    } = taken
+    else {
+        return false;
+    };
+    is_write(address)
 }
 
-// Refusal 11. Programming equal settings spends nothing, so it is never refused.
-fn no_cycle(b: Board, writes: bool, register: u8) -> bool
-    ensures { λ r. ⌜ r ≡ (programs writes register && lacksCycle b) ⌝ }
-{
-    let equal = b.staged.same(b.working);
-    is_programming(writes, register) & (!equal & (3 <= b.cycles))
-}
-
-fn stage(b: Board, register: u8, value: u8) -> Board
-    ensures { λ r. ⌜ r ≡ staging b register value ⌝ }
-{
-    let mut next = b;
-    next.staged = b.staged.with_byte(register, value);
-    next
-}
-
-// Every run starts over, since the levels and delays may be others now.
-fn spend(b: Board) -> Board
-    requires { ⌜ b .cycles < 3 ⌝ }
-    ensures { λ r. ⌜ r ≡ spent b ⌝ }
-{
-    let cells = cells::fresh_cells();
-    let currents = Currents { ocd: 0, scd: 0 };
-    let working = b.staged;
-    let mut next = b;
-    next.cycles = b.cycles + 1;
-    next.working = working;
-    next.currents = currents;
-    next.cells = cells;
-    next
-}
-
-fn program(b: Board) -> Board
-    requires { ⌜ lacksCycle b ≡ false ⌝ }
-    ensures { λ r. ⌜ r ≡ programmed b ⌝ }
-{
-    if b.staged.same(b.working) {
-        return b;
-    }
-    spend(b)
-}
-
-fn board_after(b: Board, writes: bool, register: u8, value: u8) -> Board
-    requires { ⌜ (programs writes register && lacksCycle b) ≡ false ⌝ }
-    ensures { λ r. ⌜ r ≡ boardAfter b writes register value ⌝ }
-{
-    if writes {
-        if register == 11 {
-            program(b)
-        } else {
-            stage(b, register, value)
-        }
-    } else {
-        b
-    }
-}
-
-fn reply_value(after: Board, writes: bool, register: u8, value: u8) -> u8
-    ensures { λ r. ⌜ r ≡ replyValue after writes register value ⌝ }
-{
-    if is_programming(writes, register) {
-        return after.cycles;
-    }
-    if writes {
-        return value;
-    }
-    read_value(after, register)
-}
-
-fn refuse(b: Board, why: Refusal) -> Obeyed
-    ensures { λ r. ⌜ r ≡ refusedOf b why ⌝ }
-{
-    Obeyed {
-        board: b,
-        answer: Reply::Refused(why),
-    }
-}
-
-// What a board does with a frame that was sent to it.
-pub fn obey(b: Board, taken: Taken) -> Obeyed
-    ensures { λ r. ⌜ r ≡ obeyedOf b taken ⌝ }
+pub fn asks_programming(taken: Taken) -> bool
+    ensures { λ r. ⌜ r ≡ asksProgramming taken ⌝ }
 {
     let Taken::Parts {
         address,
@@ -156,25 +89,140 @@ pub fn obey(b: Board, taken: Taken) -> Obeyed
         value,
     } = taken
     else {
-        return refuse(b, frame::why(taken));
+        return false;
     };
-    let writes = is_write(address);
-    if no_register(writes, register) {
-        return refuse(b, Refusal::NoRegister);
+    is_write(address) & (register == 11) & (value == KEY)
+}
+
+// Programming equal settings spends nothing.
+pub fn spends_cycle(b: Board) -> bool
+    ensures { λ r. ⌜ r ≡ spendsCycle b ⌝ }
+{
+    let equal = b.staged.same(b.working);
+    !equal & (b.cycles < 3)
+}
+
+// ---- what each way gives
+
+// No write: the board stays.
+pub fn read_reply(b: Board, taken: Taken) -> Reply
+    ensures { λ r. ⌜ r ≡ readReply b taken ⌝ }
+{
+    let Taken::Parts {
+        address,
+        register,
+        value,
+    } = taken
+    else {
+        return refuses(frame::why(taken));
+    };
+    if no_register(false, register) {
+        return refuses(Refusal::NoRegister);
     }
-    if bad_value(writes, register, value) {
-        return refuse(b, Refusal::BadValue);
+    if value != 0 {
+        return refuses(Refusal::BadValue);
     }
-    if no_cycle(b, writes, register) {
-        return refuse(b, Refusal::NoCycle);
+    replies(address, register, read_value(b, register))
+}
+
+fn staged_after(old: Settings, fits: bool, register: u8, value: u8) -> Settings
+    ensures { λ r. ⌜ r ≡ cond fits (withByte old register value) old ⌝ }
+{
+    if fits {
+        old.with_byte(register, value)
+    } else {
+        old
     }
-    let after = board_after(b, writes, register, value);
+}
+
+fn staged_reply(fits: bool, address: u8, register: u8, value: u8) -> Reply
+    ensures { λ r. ⌜ r ≡ stagedReply fits address register value ⌝ }
+{
+    if no_register(true, register) {
+        return refuses(Refusal::NoRegister);
+    }
+    if fits {
+        return replies(address, register, value);
+    }
+    refuses(Refusal::BadValue)
+}
+
+// A write that does not program. A refused value stages what is staged, so that the record is made in one place.
+pub fn stage(b: Board, taken: Taken) -> Obeyed
+    ensures { λ r. ⌜ r ≡ stagedBy b taken ⌝ }
+{
+    let Taken::Parts {
+        address,
+        register,
+        value,
+    } = taken
+    else {
+        return Obeyed {
+            board: b,
+            answer: refuses(frame::why(taken)),
+        };
+    };
+    let fits = Settings::allows(register, value);
+    let mut next = b;
+    next.staged = staged_after(b.staged, fits, register, value);
     Obeyed {
-        board: after,
-        answer: Reply::Replied {
-            address: address,
-            register: register,
-            value: reply_value(after, writes, register, value),
-        },
+        board: next,
+        answer: staged_reply(fits, address, register, value),
     }
+}
+
+fn cycles_after(cycles: u8) -> u8
+    ensures { λ r. ⌜ r ≡ cyclesAfter cycles ⌝ }
+{
+    if cycles < 3 { cycles + 1 } else { cycles }
+}
+
+// Programming that spends a cycle. Every run starts over, since the levels and delays may be others now.
+pub fn spend(b: Board, taken: Taken) -> Obeyed
+    ensures { λ r. ⌜ r ≡ spentBy b taken ⌝ }
+{
+    let Taken::Parts {
+        address,
+        register,
+        value: _,
+    } = taken
+    else {
+        return Obeyed {
+            board: b,
+            answer: refuses(frame::why(taken)),
+        };
+    };
+    let cycles = cycles_after(b.cycles);
+    let cells = cells::fresh_cells();
+    let currents = Currents { ocd: 0, scd: 0 };
+    let working = b.staged;
+    let mut next = b;
+    next.cycles = cycles;
+    next.working = working;
+    next.currents = currents;
+    next.cells = cells;
+    Obeyed {
+        board: next,
+        answer: replies(address, register, cycles),
+    }
+}
+
+// Programming that spends none: the board stays. Equal settings are never refused.
+pub fn kept_reply(b: Board, taken: Taken) -> Reply
+    ensures { λ r. ⌜ r ≡ keptReply b taken ⌝ }
+{
+    let Taken::Parts {
+        address,
+        register,
+        value: _,
+    } = taken
+    else {
+        return refuses(frame::why(taken));
+    };
+    let cycles = b.cycles;
+    let equal = b.staged.same(b.working);
+    if equal {
+        return replies(address, register, cycles);
+    }
+    refuses(Refusal::NoCycle)
 }

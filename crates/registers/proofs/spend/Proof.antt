@@ -1,19 +1,52 @@
 -- `registers::spend` meets its contract: the fields that are set are the ones that differ in the definition.
 -- Assumes nothing.
-use Rattle.registers.specs.Registers.{spent}
+use Rattle.registers.specs.Registers.{spentBy}
 use borrow.Author.Needs.{needs}
 use Rattle.registers.proofs.spend.Statement.{statement}
 use Rattle.registers.proofs.spend.Tie as tie
 
+enum-known-taken : tie.Need-enum-known-taken
+enum-known-taken c = search needs
+
+enum-told : tie.Need-enum-told
+enum-told c = search needs
+
+why-requires : tie.Need-why-requires
+why-requires c κs = search needs
+
+refuses-requires : tie.Need-refuses-requires
+refuses-requires c κs = search needs
+
+returns : tie.Need-returns
+unfolding spentBy
+returns c = rw (c .refuses .ensures, c .before .why .ensures, c .before .before .enum-told .given .1)
+
+cycles-after-requires : tie.Need-cycles-after-requires
+cycles-after-requires c κs = search needs
+
 fresh-cells-requires : tie.Need-fresh-cells-requires
 fresh-cells-requires c κs = search needs
 
-add-next : tie.Need-add-next
-add-next c = search needs
+replies-requires : tie.Need-replies-requires
+replies-requires c κs = search needs
 
-returns : tie.Need-returns
-unfolding spent
-returns c = cc
+returns-2 : tie.Need-returns-2
+unfolding spentBy
+returns-2 c =
+    let c2 = c .before .before in
+    let c3 = c2 .before in
+    rw (c .replies .ensures, c3 .before .before .taken .given .1, c3 .cycles-after .ensures, c2 .fresh-cells .ensures)
 
 pub spend-spec : {M : Type 1} → statement M
-spend-spec = tie.close (tie.spec fresh-cells-requires add-next returns)
+spend-spec =
+    tie.close
+    (tie.spec
+    enum-known-taken
+    enum-told
+    why-requires
+    refuses-requires
+    returns
+    cycles-after-requires
+    fresh-cells-requires
+    replies-requires
+    returns-2)
