@@ -5,7 +5,7 @@ ghost use mathlib.Core.Bool.{true};
 ghost use Prim.Native.Nat.{_≤_};
 ghost use lib.ListN.{length};
 ghost use Rattle.board.specs.Sample.{sampleOf, acceptedOf, badBoard};
-ghost use Rattle.registers.specs.Registers.{obeyedOf};
+ghost use Rattle.registers.specs.Registers.{obeyedOf, readReply, keptReply, spentBy, stagedBy, programmedBy, changedBy};
 ghost use Rattle.stack.specs.Row.{badCount, goodRow, placeOf};
 ghost use Rattle.stack.specs.Open.{goodCounts, freshRow, noStack, openOf};
 ghost use Rattle.stack.specs.Sample.{sampleAnswerAt, sampleRowAt, sampleAnswer, sampleRow, noSample, noRowSample};
@@ -209,12 +209,60 @@ pub fn sample_stack(row: &mut [Board], board: u32, x: Readings, mv: &[u32]) -> A
 
 // ---- a frame
 
+fn read_board(b: &mut Board, taken: Taken) -> Reply
+    ensures { λ r. ⌜ (r ≡ readReply (now (b .entry)) taken) × (now (b .exit) ≡ now (b .entry)) ⌝ }
+{
+    registers::read_reply(*b, taken)
+}
+
+fn keep_board(b: &mut Board, taken: Taken) -> Reply
+    ensures { λ r. ⌜ (r ≡ keptReply (now (b .entry)) taken) × (now (b .exit) ≡ now (b .entry)) ⌝ }
+{
+    registers::kept_reply(*b, taken)
+}
+
+fn spend_board(b: &mut Board, taken: Taken) -> Reply
+    ensures { λ r. ⌜ (r ≡ spentBy (now (b .entry)) taken .answer) × (now (b .exit) ≡ spentBy (now (b .entry)) taken .board) ⌝ }
+{
+    let s = registers::spend(*b, taken);
+    *b = s.board;
+    s.answer
+}
+
+fn stage_board(b: &mut Board, taken: Taken) -> Reply
+    ensures { λ r. ⌜ (r ≡ stagedBy (now (b .entry)) taken .answer) × (now (b .exit) ≡ stagedBy (now (b .entry)) taken .board) ⌝ }
+{
+    let s = registers::stage(*b, taken);
+    *b = s.board;
+    s.answer
+}
+
+fn program_board(b: &mut Board, taken: Taken) -> Reply
+    ensures { λ r. ⌜ (r ≡ programmedBy (now (b .entry)) taken .answer) × (now (b .exit) ≡ programmedBy (now (b .entry)) taken .board) ⌝ }
+{
+    if registers::spends_cycle(*b) {
+        return spend_board(b, taken);
+    }
+    keep_board(b, taken)
+}
+
+fn change_board(b: &mut Board, taken: Taken) -> Reply
+    ensures { λ r. ⌜ (r ≡ changedBy (now (b .entry)) taken .answer) × (now (b .exit) ≡ changedBy (now (b .entry)) taken .board) ⌝ }
+{
+    if registers::asks_programming(taken) {
+        return program_board(b, taken);
+    }
+    stage_board(b, taken)
+}
+
+// A frame that was sent to one board: it stores only where it writes.
 fn obey_board(b: &mut Board, taken: Taken) -> Reply
     ensures { λ r. ⌜ (r ≡ obeyedOf (now (b .entry)) taken .answer) × (now (b .exit) ≡ obeyedOf (now (b .entry)) taken .board) ⌝ }
 {
-    let s = registers::obey(*b, taken);
-    *b = s.board;
-    s.answer
+    if registers::asks_write(taken) {
+        return change_board(b, taken);
+    }
+    read_board(b, taken)
 }
 
 // Where a frame's board is. A frame that was not taken apart changes no board, and is sent to the first.
