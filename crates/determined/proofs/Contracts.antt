@@ -51,12 +51,21 @@ use Rattle.latches.proofs.byte_of.Reads as latches-byte-of
 use Rattle.latches.proofs.status_of.Reads as latches-status-of
 use Rattle.latches.proofs.latch_next.Reads as latches-latch-next
 use Rattle.board.proofs.fresh_board.Reads as board-fresh-board
-use Rattle.board.proofs.sample.Reads as board-sample
+use Rattle.board.proofs.look.Reads as board-look
+use Rattle.board.proofs.stays.Reads as board-stays
+use Rattle.board.proofs.answer_of.Reads as board-answer-of
+use Rattle.board.proofs.accept.Reads as board-accept
 use Rattle.frame.proofs.check_all.Reads as frame-check-all
 use Rattle.frame.proofs.check_byte.Reads as frame-check-byte
 use Rattle.frame.proofs.take_apart.Reads as frame-take-apart
 use Rattle.frame.proofs.why.Reads as frame-why
-use Rattle.registers.proofs.obey.Reads as registers-obey
+use Rattle.registers.proofs.asks_write.Reads as registers-asks-write
+use Rattle.registers.proofs.asks_programming.Reads as registers-asks-programming
+use Rattle.registers.proofs.spends_cycle.Reads as registers-spends-cycle
+use Rattle.registers.proofs.read_reply.Reads as registers-read-reply
+use Rattle.registers.proofs.kept_reply.Reads as registers-kept-reply
+use Rattle.registers.proofs.stage.Reads as registers-stage
+use Rattle.registers.proofs.spend.Reads as registers-spend
 use Rattle.reading.proofs.summary_of.Reads as reading-summary-of
 use Rattle.reading.proofs.read_all.Reads as reading-read-all
 use Rattle.stack.proofs.open_stack.Reads as stack-open-stack
@@ -187,8 +196,17 @@ latches-latch-next-one κs a r t s u = agree
 pub board-fresh-board-one : (κs : _) (a : _) (r t : _) (s u : _) → board-fresh-board.Learnt κs a r s → board-fresh-board.Learnt κs a t u → r ≡ t
 board-fresh-board-one κs a r t s u = agree
 
-pub board-sample-one : (κs : _) (a : _) (r t : _) (s u : _) → board-sample.Learnt κs a r s → board-sample.Learnt κs a t u → r ≡ t
-board-sample-one κs a r t s u = agree
+pub board-look-one : (κs : _) (a : _) (r t : _) (s u : _) → board-look.Learnt κs a r s → board-look.Learnt κs a t u → r ≡ t
+board-look-one κs a r t s u = agree
+
+pub board-stays-one : (κs : _) (a : _) (r t : _) (s u : _) → board-stays.Learnt κs a r s → board-stays.Learnt κs a t u → r ≡ t
+board-stays-one κs a r t s u = agree
+
+pub board-answer-of-one : (κs : _) (a : _) (r t : _) (s u : _) → board-answer-of.Learnt κs a r s → board-answer-of.Learnt κs a t u → r ≡ t
+board-answer-of-one κs a r t s u = agree
+
+pub board-accept-one : (κs : _) (a : _) (r t : _) (s u : _) → board-accept.Learnt κs a r s → board-accept.Learnt κs a t u → r ≡ t
+board-accept-one κs a r t s u = agree
 
 -- ---- frame
 pub frame-check-all-one : (κs : _) (a : _) (r t : _) (s u : _) → frame-check-all.Learnt κs a r s → frame-check-all.Learnt κs a t u → r ≡ t
@@ -204,8 +222,26 @@ pub frame-why-one : (κs : _) (a : _) (r t : _) (s u : _) → frame-why.Learnt �
 frame-why-one κs a r t s u = agree
 
 -- ---- registers
-pub registers-obey-one : (κs : _) (a : _) (r t : _) (s u : _) → registers-obey.Learnt κs a r s → registers-obey.Learnt κs a t u → r ≡ t
-registers-obey-one κs a r t s u = agree
+pub registers-asks-write-one : (κs : _) (a : _) (r t : _) (s u : _) → registers-asks-write.Learnt κs a r s → registers-asks-write.Learnt κs a t u → r ≡ t
+registers-asks-write-one κs a r t s u = agree
+
+pub registers-asks-programming-one : (κs : _) (a : _) (r t : _) (s u : _) → registers-asks-programming.Learnt κs a r s → registers-asks-programming.Learnt κs a t u → r ≡ t
+registers-asks-programming-one κs a r t s u = agree
+
+pub registers-spends-cycle-one : (κs : _) (a : _) (r t : _) (s u : _) → registers-spends-cycle.Learnt κs a r s → registers-spends-cycle.Learnt κs a t u → r ≡ t
+registers-spends-cycle-one κs a r t s u = agree
+
+pub registers-read-reply-one : (κs : _) (a : _) (r t : _) (s u : _) → registers-read-reply.Learnt κs a r s → registers-read-reply.Learnt κs a t u → r ≡ t
+registers-read-reply-one κs a r t s u = agree
+
+pub registers-kept-reply-one : (κs : _) (a : _) (r t : _) (s u : _) → registers-kept-reply.Learnt κs a r s → registers-kept-reply.Learnt κs a t u → r ≡ t
+registers-kept-reply-one κs a r t s u = agree
+
+pub registers-stage-one : (κs : _) (a : _) (r t : _) (s u : _) → registers-stage.Learnt κs a r s → registers-stage.Learnt κs a t u → r ≡ t
+registers-stage-one κs a r t s u = agree
+
+pub registers-spend-one : (κs : _) (a : _) (r t : _) (s u : _) → registers-spend.Learnt κs a r s → registers-spend.Learnt κs a t u → r ≡ t
+registers-spend-one κs a r t s u = agree
 
 -- ---- reading
 pub reading-summary-of-one : (κs : _) (a : _) (r t : _) (s u : _) → reading-summary-of.Learnt κs a r s → reading-summary-of.Learnt κs a t u → r ≡ t

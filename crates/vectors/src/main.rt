@@ -1,9 +1,9 @@
-// Runs the published check bytes and worked samples and frames of one board, and prints what comes of each.
+// Runs the published check bytes and worked samples and frames of a stack of one board, and prints what comes of each.
 // The file stdout has what the publications and the paper say; nothing in it was taken from a run.
 use board::Answer;
-use board::Board;
 use board::Readings;
 use frame::Reply;
+use stack::Stack;
 
 const OUT: i32 = 1;
 
@@ -39,46 +39,54 @@ fn show_answer(answer: Answer) {
     end_line();
 }
 
+// A stack of one board with so many cells.
+fn alone(cells: u8) -> Stack {
+    let board = board::fresh_board(cells);
+    let boards = [board; 16];
+    Stack {
+        boards: boards,
+        count: 1,
+    }
+}
+
 // One sample of five cells, of which the first reads v and the others w.
 fn sampled(
-    b: Board,
+    s: Stack,
     elapsed: u32,
     v: u32,
     w: u32,
     shunt: i32,
     thermistor: u32,
     load: u32,
-) -> Board {
+) -> Stack {
     let x = Readings {
         elapsed: elapsed,
         shunt: shunt,
         thermistor: thermistor,
         load: load,
     };
-    let s = board::sample(b, x, &[v, w, w, w, w]);
-    let answer = s.answer;
+    let after = held::sample_held(s, 1, x, &[v, w, w, w, w]);
+    let answer = after.answer;
     show_answer(answer);
-    s.board
+    after.stack
 }
 
 // A quiet sample but for the first cell.
-fn first_cell(b: Board, elapsed: u32, v: u32) -> Board {
-    sampled(b, elapsed, v, 4000, 0, 2000, 0)
+fn first_cell(s: Stack, elapsed: u32, v: u32) -> Stack {
+    sampled(s, elapsed, v, 4000, 0, 2000, 0)
 }
 
 // A quiet sample but for the shunt.
-fn shunt_at(b: Board, elapsed: u32, shunt: i32, load: u32) -> Board {
-    sampled(b, elapsed, 4000, 4000, shunt, 2000, load)
+fn shunt_at(s: Stack, elapsed: u32, shunt: i32, load: u32) -> Stack {
+    sampled(s, elapsed, 4000, 4000, shunt, 2000, load)
 }
 
 // A frame with the check byte given; the reply goes into a buffer of six bytes, of which the last two are shown too.
-fn framed(b: Board, address: u8, register: u8, value: u8, check: u8) -> Board {
+fn framed(s: Stack, address: u8, register: u8, value: u8, check: u8) -> Stack {
     let mut buffer = [7u8; 6];
-    let taken = frame::take_apart(&[address, register, value, check], 6);
-    let s = registers::obey(b, taken);
-    let answer = s.answer;
-    let put = frame::put(&mut buffer, answer);
-    match put {
+    let after = held::frame_held(s, &[address, register, value, check], &mut buffer);
+    let answer = after.answer;
+    match answer {
         Reply::Replied {
             address: _,
             register: _,
@@ -94,13 +102,13 @@ fn framed(b: Board, address: u8, register: u8, value: u8, check: u8) -> Board {
     show(b" then ", buffer[4]);
     show(b" ", buffer[5]);
     end_line();
-    s.board
+    after.stack
 }
 
 // A frame with its right check byte.
-fn sent(b: Board, address: u8, register: u8, value: u8) -> Board {
+fn sent(s: Stack, address: u8, register: u8, value: u8) -> Stack {
     framed(
-        b,
+        s,
         address,
         register,
         value,
@@ -121,90 +129,90 @@ fn published() {
 
 // The session of the paper, its opening and its reading left out.
 fn session() {
-    let b = board::fresh_board(5);
-    let b = first_cell(b, 1000, 4000);
-    let b = framed(b, 2, 0, 0, 214);
-    let b = shunt_at(b, 1000, 60001, 1);
-    shunt_at(b, 20000, 0, 0);
+    let s = alone(5);
+    let s = first_cell(s, 1000, 4000);
+    let s = framed(s, 2, 0, 0, 214);
+    let s = shunt_at(s, 1000, 60001, 1);
+    shunt_at(s, 20000, 0, 0);
 }
 
 // M1 to M4: the first cell at 4,151 latches on the sixth sample; then all at 4,050, then all at 4,049.
 fn over_voltage() {
-    let b = board::fresh_board(5);
-    let b = first_cell(b, 100000, 4151);
-    let b = first_cell(b, 100000, 4151);
-    let b = first_cell(b, 100000, 4151);
-    let b = first_cell(b, 100000, 4151);
-    let b = first_cell(b, 100000, 4151);
-    let b = first_cell(b, 100000, 4151);
-    let b = sampled(b, 100000, 4050, 4050, 0, 2000, 0);
-    sampled(b, 100000, 4049, 4049, 0, 2000, 0);
+    let s = alone(5);
+    let s = first_cell(s, 100000, 4151);
+    let s = first_cell(s, 100000, 4151);
+    let s = first_cell(s, 100000, 4151);
+    let s = first_cell(s, 100000, 4151);
+    let s = first_cell(s, 100000, 4151);
+    let s = first_cell(s, 100000, 4151);
+    let s = sampled(s, 100000, 4050, 4050, 0, 2000, 0);
+    sampled(s, 100000, 4049, 4049, 0, 2000, 0);
 }
 
 // UV at the factory settings: level 1,400, no delay, release 1,600.
 fn under_voltage() {
-    let b = board::fresh_board(5);
-    let b = first_cell(b, 1, 1400);
-    let b = first_cell(b, 1, 1399);
-    let b = first_cell(b, 1, 1600);
-    first_cell(b, 1, 1601);
+    let s = alone(5);
+    let s = first_cell(s, 1, 1400);
+    let s = first_cell(s, 1, 1399);
+    let s = first_cell(s, 1, 1600);
+    first_cell(s, 1, 1601);
 }
 
 // The shunt at zero, at the OCD and SCD levels, at both ends and past them; OCD stands 20 ms.
 fn currents() {
-    let b = board::fresh_board(5);
-    let b = shunt_at(b, 20000, 0, 1);
-    let b = shunt_at(b, 20000, 10000, 1);
-    let b = shunt_at(b, 20000, 10001, 1);
-    let b = shunt_at(b, 19999, 10001, 1);
-    let b = shunt_at(b, 1, 10001, 1);
-    let b = shunt_at(b, 1, 60000, 1);
-    let b = shunt_at(b, 1, 500000, 1);
-    let b = shunt_at(b, 1, 500001, 1);
-    let b = shunt_at(b, 1, -500000, 1);
-    let b = shunt_at(b, 1, -500001, 1);
-    shunt_at(b, 1, -500000, 0);
+    let s = alone(5);
+    let s = shunt_at(s, 20000, 0, 1);
+    let s = shunt_at(s, 20000, 10000, 1);
+    let s = shunt_at(s, 20000, 10001, 1);
+    let s = shunt_at(s, 19999, 10001, 1);
+    let s = shunt_at(s, 1, 10001, 1);
+    let s = shunt_at(s, 1, 60000, 1);
+    let s = shunt_at(s, 1, 500000, 1);
+    let s = shunt_at(s, 1, 500001, 1);
+    let s = shunt_at(s, 1, -500000, 1);
+    let s = shunt_at(s, 1, -500001, 1);
+    shunt_at(s, 1, -500000, 0);
 }
 
 fn temperature_and_refusals() {
-    let b = board::fresh_board(5);
-    let b = sampled(b, 1, 4000, 4000, 0, 974, 0);
-    let b = sampled(b, 1, 4000, 4000, 0, 975, 0);
-    let b = sampled(b, 0, 5001, 4000, 0, 5001, 2);
-    let b = sampled(b, 100001, 4000, 4000, 0, 2000, 0);
-    let b = sampled(b, 100000, 4000, 4000, 0, 2000, 2);
-    let b = sampled(b, 1, 4000, 4000, 0, 5001, 0);
-    let b = first_cell(b, 1, 5001);
-    let b = first_cell(b, 1, 5000);
-    let six = board::fresh_board(6);
+    let s = alone(5);
+    let s = sampled(s, 1, 4000, 4000, 0, 974, 0);
+    let s = sampled(s, 1, 4000, 4000, 0, 975, 0);
+    let s = sampled(s, 0, 5001, 4000, 0, 5001, 2);
+    let s = sampled(s, 100001, 4000, 4000, 0, 2000, 0);
+    let s = sampled(s, 100000, 4000, 4000, 0, 2000, 2);
+    let s = sampled(s, 1, 4000, 4000, 0, 5001, 0);
+    let s = first_cell(s, 1, 5001);
+    let s = first_cell(s, 1, 5000);
+    let six = alone(6);
     first_cell(six, 0, 5001);
-    let four = board::fresh_board(4);
+    let four = alone(4);
     first_cell(four, 0, 5001);
 }
 
 // Three programmings that differ, and what a worn memory then says; equal settings spend nothing.
 fn programming() {
-    let b = board::fresh_board(5);
-    let b = sent(b, 3, 11, 0x41);
-    let b = sent(b, 3, 7, 0x38);
-    let b = sent(b, 2, 7, 0);
-    let b = sent(b, 3, 11, 0x41);
-    let b = sent(b, 2, 7, 0);
-    let b = sent(b, 3, 8, 16);
-    let b = sent(b, 3, 11, 0x41);
-    let b = sent(b, 3, 8, 15);
-    let b = sent(b, 3, 11, 0x41);
-    let b = sent(b, 3, 11, 0x41);
-    let b = sent(b, 3, 8, 16);
-    let b = sent(b, 3, 11, 0x41);
-    let b = sent(b, 2, 8, 0);
-    let b = sent(b, 2, 11, 0);
-    let b = sent(b, 3, 0, 0);
-    let b = sent(b, 2, 12, 0);
-    let b = sent(b, 3, 7, 64);
-    let b = sent(b, 2, 11, 0x41);
-    let b = sent(b, 3, 11, 0x40);
-    framed(b, 2, 0, 0, 215);
+    let s = alone(5);
+    let s = sent(s, 3, 11, 0x41);
+    let s = sent(s, 3, 7, 0x38);
+    let s = sent(s, 2, 7, 0);
+    let s = sent(s, 3, 11, 0x41);
+    let s = sent(s, 2, 7, 0);
+    let s = sent(s, 3, 8, 16);
+    let s = sent(s, 3, 11, 0x41);
+    let s = sent(s, 3, 8, 15);
+    let s = sent(s, 3, 11, 0x41);
+    let s = sent(s, 3, 11, 0x41);
+    let s = sent(s, 3, 8, 16);
+    let s = sent(s, 3, 11, 0x41);
+    let s = sent(s, 2, 8, 0);
+    let s = sent(s, 2, 11, 0);
+    let s = sent(s, 3, 0, 0);
+    let s = sent(s, 2, 12, 0);
+    let s = sent(s, 3, 7, 64);
+    let s = sent(s, 2, 11, 0x41);
+    let s = sent(s, 3, 11, 0x40);
+    framed(s, 2, 0, 0, 215);
 }
 
 fn main() {
