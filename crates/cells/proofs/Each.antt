@@ -41,3 +41,9 @@ pub set-front : {A : Type 0} (xs ys : List A) (i : ℕ) (v : A) → i < length x
 set-front [] ys i v p = absurd (not-suc-le-zero p)
 set-front (x ∷ xs) ys zero v p = refl
 set-front {A} (x ∷ xs) ys (suc i) v p = ap (λ (l : List A). x ∷ l) (set-front xs ys i v (le-of-suc-le-suc p))
+
+-- the same at every place
+pub each-same : {A : Type 0} (f g : ℕ → A) (i n : ℕ) → ((k : ℕ) → k < i + n → f k ≡ g k) → each i n f ≡ each i n g
+unfolding each
+each-same f g i zero h = refl
+each-same {A} f g i (suc n) h = (λ j. h i (omega arith) j ∷ each (suc i) n f) ∙ ap (λ (l : List A). g i ∷ l) (each-same f g (suc i) n (λ k p. h k (omega arith)))

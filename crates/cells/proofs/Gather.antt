@@ -3,21 +3,22 @@
 use Prim.Native.Nat.{ℕ, zero, suc, _-_, _<_, _≤_}
 use native.Mathlib.Nat.{not-suc-le-zero, le-of-suc-le-suc}
 use native.Mathlib.Omega.{arith}
-use mathlib.Core.Path.{_≡_, refl, ap, sym, _∙_}
-use mathlib.Core.Bool.{Bool, true, false, _&&_, _||_}
+use mathlib.Core.Path.{_≡_, refl, ap, _∙_}
+use mathlib.Core.Bool.{Bool, true, false, not, _&&_, _||_}
 use mathlib.Core.List.{List, [], _∷_, _++_}
-use lib.Dec.{ltb}
+use lib.Dec.{ltb, eqb}
 use lib.ListN.{length, take, drop, set, take-append-drop, length-append, length-take, length-drop, List·getD-append}
 use lib.Seq.{getD-take}
 use Rattle.runs.specs.Kept.{runNext, stood}
-use Rattle.marks.specs.Marks.{number, marked, marks}
-use Rattle.marks.proofs.Laws.{marks-number}
+use Rattle.marks.specs.Marks.{number, marked}
+use Rattle.marks.proofs.Laws.{number-at}
 use Rattle.cells.specs.declared.Cell.{Cell}
+use Rattle.cells.specs.declared.Flagged.{Flagged}
 use Rattle.cells.specs.Each.{each, some, all}
-use Rattle.cells.specs.Bleed.{bled, markNext}
-use Rattle.cells.specs.Cells.{cellBy, flagBy, cellAt, readingAt, cellCount, Limits, nextAt, ovStoodAt, uvStoodAt, flaggedAt, sweepBy}
-use Rattle.cells.proofs.Each.{each-length, each-down, each-none, set-front}
-use Rattle.cells.proofs.Bleed.{mark-turn, below-ten}
+use Rattle.cells.specs.Bleed.{markNext}
+use Rattle.cells.specs.Cells.{cellBy, cellAt, readingAt, cellCount, flagAt, flaggedBy, Limits, nextAt, ovStoodAt, uvStoodAt, flaggedAt, sweepBy}
+use Rattle.cells.proofs.Each.{each-length, each-place, each-down, each-none, each-same, set-front}
+use Rattle.cells.proofs.Bleed.{mark-turn, below-ten, some-number}
 
 -- a store of each run of a cell, which is one of the whole cell
 abbrev stored : List Cell → ℕ → ℕ → ℕ → List Cell
@@ -30,21 +31,19 @@ stored-cell (c ∷ cells) (suc k) ov uv p = ap (λ (l : List Cell). c ∷ l) (st
 
 module _ (l : Limits) (elapsed : ℕ) (cells : List Cell) (flags : ℕ) (mv : List ℕ) (n : ℕ) where
   -- what the pass holds with the cells from place i up behind it
-  pub record Gathered (i : ℕ) (next : List Cell) (flagged : ℕ) (ovStood ovLets uvStood uvLets : Bool) : Type 0 where
+  pub record Gathered (i : ℕ) (next : List Cell) (standing : ℕ) (ovLets uvStood uvLets : Bool) : Type 0 where
     pub in-cells : next ≡ take i cells ++ (each i (n - i) (nextAt l elapsed cells flags mv) ++ drop n cells)
-    pub in-flags : flagged ≡ number (each i (n - i) (flaggedAt l elapsed cells flags mv))
-    pub in-ov : ovStood ≡ some (each i (n - i) (ovStoodAt l elapsed cells flags mv))
+    pub in-ov : standing ≡ number (each i (n - i) (ovStoodAt l elapsed cells flags mv))
     pub in-ov-lets : ovLets ≡ all (each i (n - i) (λ k. ltb (readingAt mv k) (l .ovRelease)))
     pub in-uv : uvStood ≡ some (each i (n - i) (uvStoodAt l elapsed cells flags mv))
     pub in-uv-lets : uvLets ≡ all (each i (n - i) (λ k. ltb (l .uvRelease) (readingAt mv k)))
 
   -- nothing yet
-  pub nothing : n ≤ length cells → Gathered n cells 0 false true false true
+  pub nothing : n ≤ length cells → Gathered n cells 0 true false true
   unfolding number
   nothing h =
       record {
         in-cells = rw (each-none (nextAt l elapsed cells flags mv) n, take-append-drop n cells);
-        in-flags = rw (each-none (flaggedAt l elapsed cells flags mv) n);
         in-ov = rw (each-none (ovStoodAt l elapsed cells flags mv) n);
         in-ov-lets = rw (each-none (λ k. ltb (readingAt mv k) (l .ovRelease)) n);
         in-uv = rw (each-none (uvStoodAt l elapsed cells flags mv) n);
@@ -52,15 +51,15 @@ module _ (l : Limits) (elapsed : ℕ) (cells : List Cell) (flags : ℕ) (mv : Li
       }
 
   -- the cell at place i - 1 is still the one that was handed in
-  waits : {i : ℕ} {next : List Cell} {flagged : ℕ} {ovStood ovLets uvStood uvLets : Bool}
-      → Gathered i next flagged ovStood ovLets uvStood uvLets → 0 < i → i ≤ n → n ≤ length cells → cellAt next (i - 1) ≡ cellAt cells (i - 1)
+  waits : {i : ℕ} {next : List Cell} {standing : ℕ} {ovLets uvStood uvLets : Bool}
+      → Gathered i next standing ovLets uvStood uvLets → 0 < i → i ≤ n → n ≤ length cells → cellAt next (i - 1) ≡ cellAt cells (i - 1)
   waits {i} g p q h =
       let rest = each i (n - i) (nextAt l elapsed cells flags mv) ++ drop n cells in
       rw (g .in-cells, List·getD-append (take i cells) rest (record { ov = 0; uv = 0 }) (i - 1) (rw (length-take i cells) (omega arith)), getD-take i cells (i - 1) (record { ov = 0; uv = 0 }) (omega arith))
 
   -- no cell is lost
-  as-long : {i : ℕ} {next : List Cell} {flagged : ℕ} {ovStood ovLets uvStood uvLets : Bool}
-      → Gathered i next flagged ovStood ovLets uvStood uvLets → i ≤ n → n ≤ length cells → length next ≡ length cells
+  as-long : {i : ℕ} {next : List Cell} {standing : ℕ} {ovLets uvStood uvLets : Bool}
+      → Gathered i next standing ovLets uvStood uvLets → i ≤ n → n ≤ length cells → length next ≡ length cells
   as-long {i} g q h =
       let N = nextAt l elapsed cells flags mv in
       rw (g .in-cells, length-append (take i cells) (each i (n - i) N ++ drop n cells), length-append (each i (n - i) N) (drop n cells), length-take i cells, each-length N i (n - i), length-drop n cells) (omega arith)
@@ -72,18 +71,16 @@ module _ (l : Limits) (elapsed : ℕ) (cells : List Cell) (flags : ℕ) (mv : Li
   two-runs k c ov uv ec eo eu = rw (eo, eu, ec)
 
   -- the runs at place i - 1, what was found of them, and all before
-  pub turn : {i : ℕ} {next : List Cell} {flagged : ℕ} {ovStood ovLets uvStood uvLets : Bool} (ov uv : ℕ) (high low flag : Bool)
-      → Gathered i next flagged ovStood ovLets uvStood uvLets
+  pub turn : {i : ℕ} {next : List Cell} {standing : ℕ} {ovLets uvStood uvLets : Bool} (ov uv : ℕ) (high low : Bool)
+      → Gathered i next standing ovLets uvStood uvLets
       → ov ≡ runNext (cellAt next (i - 1) .ov) (ltb (l .ov) (readingAt mv (i - 1))) elapsed
       → uv ≡ runNext (cellAt next (i - 1) .uv) (ltb (readingAt mv (i - 1)) (l .uv)) elapsed
-      → high ≡ stood (l .ovDelay) ov → low ≡ stood (l .uvDelay) uv
-      → flag ≡ flagBy (l .ovRelease) high (marked flags (i - 1)) (readingAt mv (i - 1)) → 0 < i → i ≤ n → n ≤ length cells
-      → Gathered (i - 1) (stored next (i - 1) ov uv) (markNext flag flagged) (high || ovStood)
+      → high ≡ stood (l .ovDelay) ov → low ≡ stood (l .uvDelay) uv → 0 < i → i ≤ n → n ≤ length cells
+      → Gathered (i - 1) (stored next (i - 1) ov uv) (markNext high standing)
       (ltb (readingAt mv (i - 1)) (l .ovRelease) && ovLets) (low || uvStood) (ltb (l .uvRelease) (readingAt mv (i - 1)) && uvLets)
-  turn {i = zero} ov uv high low flag g eo eu eh el ef p q h = absurd (not-suc-le-zero p)
-  turn {i = suc j} {next} ov uv high low flag g eo eu eh el ef p q h =
+  turn {i = zero} ov uv high low g eo eu eh el p q h = absurd (not-suc-le-zero p)
+  turn {i = suc j} {next} ov uv high low g eo eu eh el p q h =
       let N = nextAt l elapsed cells flags mv in
-      let F = flaggedAt l elapsed cells flags mv in
       let H = ovStoodAt l elapsed cells flags mv in
       let L = uvStoodAt l elapsed cells flags mv in
       let back : suc j - 1 ≡ j = omega arith in
@@ -91,32 +88,40 @@ module _ (l : Limits) (elapsed : ℕ) (cells : List Cell) (flags : ℕ) (mv : Li
       let cell = two-runs (suc j - 1) (cellAt next (suc j - 1)) ov uv (waits g p q h) eo eu in
       let is-high : high ≡ H (suc j - 1) = eh ∙ ap (λ (c : Cell). stood (l .ovDelay) (c .ov)) cell in
       let is-low : low ≡ L (suc j - 1) = el ∙ ap (λ (c : Cell). stood (l .uvDelay) (c .uv)) cell in
-      let is-flag : flag ≡ F (suc j - 1) = ef ∙ rw is-high in
-      let rest = each (suc j) (n - suc j) F in
       record {
         in-cells = rw (each-down N (suc j) n p q, whole, cell, g .in-cells, back) (set-front cells (each (suc j) (n - suc j) N ++ drop n cells) j (N j) (omega arith));
-        in-flags = rw (each-down F (suc j) n p q, is-flag, g .in-flags) (mark-turn (F (suc j - 1)) rest);
-        in-ov = rw (each-down H (suc j) n p q, is-high, g .in-ov);
+        in-ov = rw (each-down H (suc j) n p q, is-high, g .in-ov) (mark-turn (H (suc j - 1)) (each (suc j) (n - suc j) H));
         in-ov-lets = rw (each-down (λ k. ltb (readingAt mv k) (l .ovRelease)) (suc j) n p q, g .in-ov-lets);
         in-uv = rw (each-down L (suc j) n p q, is-low, g .in-uv);
         in-uv-lets = rw (each-down (λ k. ltb (l .uvRelease) (readingAt mv k)) (suc j) n p q, g .in-uv-lets);
       }
 
   -- the number of up to ten cells is below 1,024
-  pub few-flags : {i : ℕ} {next : List Cell} {flagged : ℕ} {ovStood ovLets uvStood uvLets : Bool}
-      → Gathered i next flagged ovStood ovLets uvStood uvLets → n ≤ 10 → flagged < 1024
-  few-flags {i} g h =
-      rw (g .in-flags) (below-ten (each i (n - i) (flaggedAt l elapsed cells flags mv)) (rw (each-length (flaggedAt l elapsed cells flags mv) i (n - i)) (omega arith)))
+  pub few-standing : {i : ℕ} {next : List Cell} {standing : ℕ} {ovLets uvStood uvLets : Bool}
+      → Gathered i next standing ovLets uvStood uvLets → n ≤ 10 → standing < 1024
+  few-standing {i} g h =
+      rw (g .in-ov) (below-ten (each i (n - i) (ovStoodAt l elapsed cells flags mv)) (rw (each-length (ovStoodAt l elapsed cells flags mv) i (n - i)) (omega arith)))
 
 -- with every cell behind it the pass has what is asked
-pub done : (l : Limits) (elapsed : ℕ) (cells : List Cell) (flags : ℕ) (mv : List ℕ) {n i : ℕ} {next : List Cell} {flagged bleed : ℕ} {ovStood ovLets uvStood uvLets : Bool}
-    → n ≡ cellCount mv → Gathered l elapsed cells flags mv n i next flagged ovStood ovLets uvStood uvLets → bleed ≡ number (bled (marks n flagged)) → i ≡ 0
-    → record { cells = next; flags = flagged; bled = bleed; «ov_stood» = ovStood; «ov_lets_go» = ovLets; «uv_stood» = uvStood; «uv_lets_go» = uvLets } ≡ sweepBy l elapsed cells flags mv
-unfolding sweepBy
-done l elapsed cells flags mv {n} {i} {flagged = flagged} {bleed = bleed} en g eb z =
-    let F = flaggedAt l elapsed cells flags mv in
-    let all : n - i ≡ n = omega arith in
-    let is-flagged : flagged ≡ number (each 0 n F) = g .in-flags ∙ rw (all, z) in
-    let back : marks n (number (each 0 n F)) ≡ each 0 n F = ap (λ (m : ℕ). marks m (number (each 0 n F))) (sym (each-length F 0 n)) ∙ marks-number (each 0 n F) in
-    let is-bled : bleed ≡ number (bled (each 0 n F)) = eb ∙ rw (is-flagged, back) in
-    rw (g .in-cells, is-flagged, is-bled, g .in-ov, g .in-ov-lets, g .in-uv, g .in-uv-lets, all, z, en)
+module _ (l : Limits) (elapsed : ℕ) (cells : List Cell) (flags : ℕ) (mv : List ℕ) where
+  abbrev H : ℕ → Bool
+  H = ovStoodAt l elapsed cells flags mv
+
+  -- the cells are flagged by their own runs
+  by-number : (standing : ℕ) → standing ≡ number (each 0 (cellCount mv) H)
+      → each 0 (cellCount mv) (flagAt (l .ovRelease) standing flags mv) ≡ each 0 (cellCount mv) (flaggedAt l elapsed cells flags mv)
+  by-number standing e =
+      let n = cellCount mv in
+      let own : (k : ℕ) → k < n → marked standing k ≡ H k =
+      λ k p. rw e (number-at (each 0 n H) k (rw (each-length H 0 n) p) ∙ each-place H n k false p) in
+      each-same (flagAt (l .ovRelease) standing flags mv) (flaggedAt l elapsed cells flags mv) 0 n (λ k p. rw (own k (omega arith)))
+
+  pub done : {i : ℕ} {next : List Cell} {standing : ℕ} {ovLets uvStood uvLets : Bool} (m : Flagged)
+      → Gathered l elapsed cells flags mv (cellCount mv) i next standing ovLets uvStood uvLets → m ≡ flaggedBy (l .ovRelease) standing flags mv → i ≡ 0
+      → record { cells = next; flags = m .flags; bled = m .bled; «ov_stood» = not (eqb standing 0); «ov_lets_go» = ovLets; «uv_stood» = uvStood; «uv_lets_go» = uvLets } ≡ sweepBy l elapsed cells flags mv
+  unfolding sweepBy flaggedBy
+  done {i} {standing = standing} m g em z =
+      let all : cellCount mv - i ≡ cellCount mv = omega arith in
+      let high : standing ≡ number (each 0 (cellCount mv) H) = g .in-ov ∙ rw (all, z) in
+      let some-high : not (eqb standing 0) ≡ some (each 0 (cellCount mv) H) = rw high (some-number (each 0 (cellCount mv) H)) in
+      rw (em, some-high, by-number standing high, g .in-cells, g .in-ov-lets, g .in-uv, g .in-uv-lets, all, z)

@@ -4,16 +4,16 @@ use mathlib.Core.Path.{_≡_, ap, _∙_}
 use borrow.Author.Needs.{needs}
 use lib.ListN.{length}
 use Rattle.cells.specs.Cells.{cellCount, Limits, limitsOf, sweepBy}
-use Rattle.cells.proofs.Gather.{Gathered, nothing, turn, few-flags, done}
+use Rattle.cells.proofs.Gather.{Gathered, nothing, turn, few-standing, done}
 use Rattle.cells.proofs.sweep.Statement.{statement}
 use Rattle.cells.proofs.sweep.Tie as tie
 
 abbrev Inv-loop : tie.InvT-loop
-Inv-loop elapsed flags mv ov ov-release ov-delay uv uv-release uv-delay next₀ flagged₀ ov-stood₀ ov-lets-go₀ uv-stood₀ uv-lets-go₀ n i₀ next flagged ov-stood ov-lets-go uv-stood uv-lets-go i =
-    (i ≤ n) × (n ≡ cellCount mv) × (length next₀ ≡ 10) × Gathered (record { ov = ov; ovRelease = ov-release; ovDelay = ov-delay; uv = uv; uvRelease = uv-release; uvDelay = uv-delay }) elapsed next₀ flags mv n i next flagged ov-stood ov-lets-go uv-stood uv-lets-go
+Inv-loop elapsed flags mv ov ov-release ov-delay uv uv-release uv-delay next₀ stood₀ ov-lets-go₀ uv-stood₀ uv-lets-go₀ i₀ next stood ov-lets-go uv-stood uv-lets-go i =
+    (i ≤ cellCount mv) × (length next₀ ≡ 10) × Gathered (record { ov = ov; ovRelease = ov-release; ovDelay = ov-delay; uv = uv; uvRelease = uv-release; uvDelay = uv-delay }) elapsed next₀ flags mv (cellCount mv) i next stood ov-lets-go uv-stood uv-lets-go
 
 abbrev μ-loop : tie.MeasureT-loop
-μ-loop elapsed flags mv ov ov-release ov-delay uv uv-release uv-delay next₀ flagged₀ ov-stood₀ ov-lets-go₀ uv-stood₀ uv-lets-go₀ n i₀ next flagged ov-stood ov-lets-go uv-stood uv-lets-go i = i
+μ-loop elapsed flags mv ov ov-release ov-delay uv uv-release uv-delay next₀ stood₀ ov-lets-go₀ uv-stood₀ uv-lets-go₀ i₀ next stood ov-lets-go uv-stood uv-lets-go i = i
 
 ov-level-requires : tie.Need-ov-level-requires Inv-loop μ-loop
 ov-level-requires c κs = search needs
@@ -40,7 +40,7 @@ loop-holds : tie.Need-loop-holds Inv-loop μ-loop
 loop-holds c =
     let a = c .before .before .before .before .before .before .before .before .args in
     let long : length (a .cells) ≡ 10 = search needs in
-    (search needs, c .cell-count .ensures, long, nothing _ (a .elapsed) (a .cells) (a .flags) (a .mv .now) (c .cell-count .result) (omega (arith, c .cell-count .ensures)))
+    (search needs, long, rw (c .cell-count .ensures) (nothing _ (a .elapsed) (a .cells) (a .flags) (a .mv .now) (cellCount (a .mv .now)) (omega (arith, long))))
 
 sub-i : tie.Need-sub-i Inv-loop μ-loop
 sub-i c = search needs
@@ -84,19 +84,13 @@ way-write-given-next-2 c = search needs
 has-stood-requires : tie.Need-has-stood-requires Inv-loop μ-loop
 has-stood-requires c κs = search needs
 
-has-stood-requires-2 : tie.Need-has-stood-requires-2 Inv-loop μ-loop
-has-stood-requires-2 c κs = search needs
-
-mark-at-requires : tie.Need-mark-at-requires Inv-loop μ-loop
-mark-at-requires c κs = search needs
-
-flag-next-requires : tie.Need-flag-next-requires Inv-loop μ-loop
-flag-next-requires c κs = search needs
-
 mark-next-requires : tie.Need-mark-next-requires Inv-loop μ-loop
 mark-next-requires c κs =
-    let h = c .before .before .before .before .before .before .before .before .before .before in
-    few-flags _ _ _ _ _ _ (h .loop .inv .3) (omega arith)
+    let h = c .before .before .before .before .before .before .before in
+    few-standing _ _ _ _ _ _ (h .loop .inv .2) (omega arith)
+
+has-stood-requires-2 : tie.Need-has-stood-requires-2 Inv-loop μ-loop
+has-stood-requires-2 c κs = search needs
 
 loop-less : tie.Need-loop-less Inv-loop μ-loop
 loop-less c = search needs
@@ -105,18 +99,13 @@ loop-again : tie.Need-loop-again Inv-loop μ-loop
 loop-again c =
     let c1 = c .before in
     let c2 = c1 .before in
-    let c3 = c2 .before in
-    let c4 = c3 .before in
-    let c5 = c4 .before in
+    let c5 = c2 .before .before .before in
     let c6 = c5 .before in
-    let c7 = c6 .before in
-    let c8 = c7 .before in
-    let h = c8 .before .before .before in
-    let flag = rw (c2 .mark-at .ensures) at (c1 .flag-next .ensures) in
-    (search needs, h .loop .inv .1, h .loop .inv .2, rw (c .mark-next .ensures) (turn _ _ _ _ _ _ _ _ _ _ _ (h .loop .inv .3) (c8 .advance .ensures) (c7 .advance2 .ensures) (c4 .has-stood .ensures) (c3 .has-stood2 .ensures) flag (omega arith) (omega arith) (omega arith)))
+    let h = c6 .before .before .before in
+    (search needs, h .loop .inv .1, rw (c1 .mark-next .ensures) (turn _ _ _ _ _ _ _ _ _ _ (h .loop .inv .2) (c6 .advance .ensures) (c5 .advance2 .ensures) (c2 .has-stood .ensures) (c .has-stood2 .ensures) (omega arith) (omega arith) (omega arith)))
 
-bled-of-requires : tie.Need-bled-of-requires Inv-loop μ-loop
-bled-of-requires c κs = search needs
+flag-cells-requires : tie.Need-flag-cells-requires Inv-loop μ-loop
+flag-cells-requires c κs = search needs
 
 returns : tie.Need-returns Inv-loop μ-loop
 returns c =
@@ -130,7 +119,7 @@ returns c =
     let a = b6 .before .before .args in
     let same : _≡_ {A = Limits} (record { ov = b6 .ov-level .result; ovRelease = b5 .ov-release .result; ovDelay = b4 .ov-delay .result; uv = b3 .uv-level .result; uvRelease = b2 .uv-release .result; uvDelay = b1 .uv-delay .result }) (limitsOf (a .s)) =
     λ i. record { ov = b6 .ov-level .ensures i; ovRelease = b5 .ov-release .ensures i; ovDelay = b4 .ov-delay .ensures i; uv = b3 .uv-level .ensures i; uvRelease = b2 .uv-release .ensures i; uvDelay = b1 .uv-delay .ensures i } in
-    done _ (a .elapsed) (a .cells) (a .flags) (a .mv .now) (h .loop .inv .1) (h .loop .inv .3) (c .bled-of .ensures) (omega arith) ∙ ap (λ (l : Limits). sweepBy l (a .elapsed) (a .cells) (a .flags) (a .mv .now)) same
+    done _ (a .elapsed) (a .cells) (a .flags) (a .mv .now) (c .flag-cells .result) (h .loop .inv .2) (c .flag-cells .ensures) (omega arith) ∙ ap (λ (l : Limits). sweepBy l (a .elapsed) (a .cells) (a .flags) (a .mv .now)) same
 
 pub sweep-spec : {M : Type 1} → statement M
 sweep-spec =
@@ -160,11 +149,9 @@ sweep-spec =
     mul-next-2
     way-write-given-next-2
     has-stood-requires
-    has-stood-requires-2
-    mark-at-requires
-    flag-next-requires
     mark-next-requires
+    has-stood-requires-2
     loop-less
     loop-again
-    bled-of-requires
+    flag-cells-requires
     returns)
