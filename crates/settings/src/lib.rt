@@ -167,11 +167,19 @@ impl Settings {
     pub fn same(self, other: Settings) -> bool
         ensures { λ r. ⌜ r ≡ same self other ⌝ }
     {
-        (self.r6 == other.r6)
-            & (self.r7 == other.r7)
-            & (self.r8 == other.r8)
-            & (self.r9 == other.r9)
-            & (self.r10 == other.r10)
+        if self.r6 != other.r6 {
+            return false;
+        }
+        if self.r7 != other.r7 {
+            return false;
+        }
+        if self.r8 != other.r8 {
+            return false;
+        }
+        if self.r9 != other.r9 {
+            return false;
+        }
+        self.r10 == other.r10
     }
 
     // Whether a value may be written to a register: bits that must be zero are.
