@@ -1,46 +1,34 @@
 // One frame: the check byte, taking a frame apart, and putting the reply into the lent buffer (01, Frames and registers).
+ghost use Prim.Native.Nat.{_*_, _/_, _%_, _<_};
 ghost use mathlib.Core.Path.{_≡_};
 ghost use mathlib.Core.List.{[], _∷_};
-ghost use Rattle.frame.specs.Check.{shifted, times, checked, checkOf};
+ghost use lib.Bits.{bitXor};
+ghost use Rattle.frame.specs.Check.{checked, checkOf};
 ghost use Rattle.frame.specs.Frame.{takenApart, whyOf};
 ghost use Rattle.frame.specs.Reply.{putOf};
 use refusal::Refusal;
 
-// The check of a byte is the sum, bit by bit, of those of its upper and its lower four bits: two short tables.
-const UPPER: [u8; 16] = [
-    0,
-    112,
-    224,
-    144,
-    199,
-    183,
-    39,
-    87,
-    137,
-    249,
-    105,
-    25,
-    78,
-    62,
-    174,
-    222,
-];
-
-const LOWER: [u8; 16] = [0, 7, 14, 9, 28, 27, 18, 21, 56, 63, 54, 49, 36, 35, 42, 45];
-
-fn eight_bits(x: u8) -> u8
-    ensures { λ o. ⌜ o ≡ times 8 shifted x ⌝ }
+// A product by x^2 + x + 1, that is by 7, without carries.
+fn by_seven(x: u32) -> u32
+    requires { ⌜ x < 4096 ⌝ }
+    ensures { λ o. ⌜ o ≡ bitXor (bitXor x (2 * x)) (4 * x) ⌝ }
 {
-    let upper = (x / 16) as usize;
-    let lower = (x % 16) as usize;
-    UPPER[upper] ^ LOWER[lower]
+    x ^ (2 * x) ^ (4 * x)
 }
 
-// The check over one byte more.
+// What is left of a product below x^8: modulo the polynomial, x^8 is x^2 + x + 1.
+fn reduced(x: u32) -> u8
+    requires { ⌜ x < 16384 ⌝ }
+    ensures { λ o. ⌜ o ≡ bitXor (bitXor (bitXor (x / 256) (2 * (x / 256))) (4 * (x / 256))) (x % 256) ⌝ }
+{
+    (by_seven(x / 256) ^ (x % 256)) as u8
+}
+
+// The check over one byte more: eight shifts are one product.
 fn check_next(r: u8, byte: u8) -> u8
     ensures { λ o. ⌜ o ≡ checked r byte ⌝ }
 {
-    eight_bits(r ^ byte)
+    reduced(by_seven(r as u32 ^ byte as u32))
 }
 
 // The check byte over the bytes of a list, first to last.
@@ -56,11 +44,13 @@ pub fn check_all(bytes: &[u8]) -> u8
     r
 }
 
-// The check byte over the first three bytes of a frame or a reply.
+// The check byte over the first three bytes of a frame or a reply: one reduction at the end is enough.
 pub fn check_byte(address: u8, register: u8, value: u8) -> u8
     ensures { λ o. ⌜ o ≡ checkOf (address ∷ register ∷ value ∷ []) ⌝ }
 {
-    check_next(check_next(check_next(0, address), register), value)
+    let first = by_seven(address as u32);
+    let second = by_seven(first ^ register as u32);
+    reduced(by_seven(second ^ value as u32))
 }
 
 pub enum Taken {
