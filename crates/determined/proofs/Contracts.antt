@@ -47,6 +47,9 @@ use Rattle.cells.proofs.fresh_cells.Reads as cells-fresh-cells
 use Rattle.latches.proofs.latches_of.Reads as latches-latches-of
 use Rattle.latches.proofs.chg_of.Reads as latches-chg-of
 use Rattle.latches.proofs.dsg_of.Reads as latches-dsg-of
+use Rattle.latches.proofs.any_latch.Reads as latches-any-latch
+use Rattle.latches.proofs.chg_on.Reads as latches-chg-on
+use Rattle.latches.proofs.dsg_on.Reads as latches-dsg-on
 use Rattle.latches.proofs.byte_of.Reads as latches-byte-of
 use Rattle.latches.proofs.status_of.Reads as latches-status-of
 use Rattle.latches.proofs.latch_next.Reads as latches-latch-next
@@ -67,6 +70,8 @@ use Rattle.registers.proofs.kept_reply.Reads as registers-kept-reply
 use Rattle.registers.proofs.stage.Reads as registers-stage
 use Rattle.registers.proofs.spend.Reads as registers-spend
 use Rattle.reading.proofs.summary_of.Reads as reading-summary-of
+use Rattle.reading.proofs.none_seen.Reads as reading-none-seen
+use Rattle.reading.proofs.see.Reads as reading-see
 use Rattle.reading.proofs.read_all.Reads as reading-read-all
 use Rattle.stack.proofs.open_stack.Reads as stack-open-stack
 use Rattle.stack.proofs.bad_count.Reads as stack-bad-count
@@ -183,6 +188,15 @@ latches-chg-of-one κs a r t s u = agree
 pub latches-dsg-of-one : (κs : _) (a : _) (r t : _) (s u : _) → latches-dsg-of.Learnt κs a r s → latches-dsg-of.Learnt κs a t u → r ≡ t
 latches-dsg-of-one κs a r t s u = agree
 
+pub latches-any-latch-one : (κs : _) (a : _) (r t : _) (s u : _) → latches-any-latch.Learnt κs a r s → latches-any-latch.Learnt κs a t u → r ≡ t
+latches-any-latch-one κs a r t s u = agree
+
+pub latches-chg-on-one : (κs : _) (a : _) (r t : _) (s u : _) → latches-chg-on.Learnt κs a r s → latches-chg-on.Learnt κs a t u → r ≡ t
+latches-chg-on-one κs a r t s u = agree
+
+pub latches-dsg-on-one : (κs : _) (a : _) (r t : _) (s u : _) → latches-dsg-on.Learnt κs a r s → latches-dsg-on.Learnt κs a t u → r ≡ t
+latches-dsg-on-one κs a r t s u = agree
+
 pub latches-byte-of-one : (κs : _) (a : _) (r t : _) (s u : _) → latches-byte-of.Learnt κs a r s → latches-byte-of.Learnt κs a t u → r ≡ t
 latches-byte-of-one κs a r t s u = agree
 
@@ -246,6 +260,12 @@ registers-spend-one κs a r t s u = agree
 -- ---- reading
 pub reading-summary-of-one : (κs : _) (a : _) (r t : _) (s u : _) → reading-summary-of.Learnt κs a r s → reading-summary-of.Learnt κs a t u → r ≡ t
 reading-summary-of-one κs a r t s u = agree
+
+pub reading-none-seen-one : (κs : _) (a : _) (r t : _) (s u : _) → reading-none-seen.Learnt κs a r s → reading-none-seen.Learnt κs a t u → r ≡ t
+reading-none-seen-one κs a r t s u = agree
+
+pub reading-see-one : (κs : _) (a : _) (r t : _) (s u : _) → reading-see.Learnt κs a r s → reading-see.Learnt κs a t u → r ≡ t
+reading-see-one κs a r t s u = agree
 
 pub reading-read-all-one : (κs : _) (a : _) (r t : _) (s u : _) → reading-read-all.Learnt κs a r s → reading-read-all.Learnt κs a t u → r ≡ t
 reading-read-all-one κs a r t s u = agree

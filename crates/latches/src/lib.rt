@@ -37,6 +37,25 @@ pub fn dsg_of(t: Latches) -> bool
     !(t.uv | t.ocd | t.scd | t.ot)
 }
 
+// The same of the byte that a board keeps, by a mask for each.
+pub fn any_latch(byte: u8) -> bool
+    ensures { λ r. ⌜ r ≡ anyLatch (latchesOf byte) ⌝ }
+{
+    (byte & 31) != 0
+}
+
+pub fn chg_on(byte: u8) -> bool
+    ensures { λ r. ⌜ r ≡ chgOn (latchesOf byte) ⌝ }
+{
+    (byte & 23) == 0
+}
+
+pub fn dsg_on(byte: u8) -> bool
+    ensures { λ r. ⌜ r ≡ dsgOn (latchesOf byte) ⌝ }
+{
+    (byte & 27) == 0
+}
+
 fn bit_of(b: bool) -> u8
     ensures { λ r. ⌜ (r ≡ bit b) × (r ≤ 1) ⌝ }
 {

@@ -1,27 +1,142 @@
--- A board more of the reading: the line one board on, and a turn of the loops over the boards.
+-- A board more of the walk over the row, and the reading from what the walk keeps.
 -- Assumes nothing.
-use Prim.Native.Nat.{ℕ, zero, suc, _+_, _-_, _*_, _/_, _%_, _<_, _≤_, min}
-use native.Mathlib.Nat.{lt-of-lt-of-le}
-use lib.Pow.{pow-mono}
-use native.Mathlib.Omega.{arith}
+use Prim.Native.Nat.{ℕ, zero, suc, _+_, _-_, _*_, _/_, _%_, _^_, _<_, _≤_}
+use native.Mathlib.Nat.{two-pow-succ, mod-eq-of-lt, lt-of-lt-of-le, not-suc-le-zero}
 use native.Mathlib.Numerals.{add-one}
+use native.Mathlib.Omega.{arith}
 use mathlib.Core.Path.{_≡_, refl, sym, ap, _∙_}
-use mathlib.Core.Bool.{Bool, false, cond, _&&_, _||_, and-true, and-assoc}
-use mathlib.Core.List.{List, [], _∷_}
+use mathlib.Core.Bool.{Bool, true, false, cond, not, _&&_, _||_, and-true, and-assoc}
+use mathlib.Core.List.{List, [], _∷_, _++_, map-append}
+use lib.Bits.{bitOr, or-shifted-r}
 use lib.Dec.{eqb}
-use lib.ListN.{length, getD, take, drop, length-take, length-map, length-drop, drop-of-length-le, List·getD-map}
-use lib.Seq.{drop-cons, getD-take}
-use borrow.Author.Tests.{eqb-true}
-use Rattle.lists.proofs.Split.{split}
-use Rattle.marks.specs.Marks.{bit, number, marked, marks, lowest}
-use Rattle.marks.proofs.Laws.{marks-length, marks-at, marks-number, number-below, number-down, number-none, lowest-turn, lowest-none, lowest-zero}
-use Rattle.reading.specs.declared.Summary.{Summary}
+use lib.ListN.{length, length-map, length-append}
+use lib.Pow.{pow-mono, mod-pow-add, shl-exact}
+use borrow.Author.Tests.{eqb-true, eqb-false, ne-eqb, lt-leb, not-true, not-false}
 use Rattle.lists.specs.Every.{every}
-use Rattle.reading.specs.Reading.{lineUp, latchedOf, up, searchedOf, lowestFlagged, place, firstFlagged}
+use Rattle.lists.proofs.Split.{split}
+use Rattle.marks.specs.Marks.{bit, number, marks, lowest}
+use Rattle.marks.proofs.Laws.{marks-number, number-below, lowest-zero}
+use Rattle.board.specs.declared.Board.{Board}
+use Rattle.reading.specs.declared.Summary.{Summary}
+use Rattle.reading.specs.declared.First.{First}
+use Rattle.reading.specs.Reading.{summaryOf, lineUp, chgOn, dsgOn, place, firstFlagged, readOf, latchedOf, up, isFlagged, alone, further, firstOf, seenOf, withBoard, firstWith, seenWith, found, foundIn, wholeOf}
 
--- what is read past the row's end
-abbrev pub blank : Summary
-blank = record { latched = false; chg = false; dsg = false; count = 0; flags = 0 }
+-- ---- one board more, north of the others
+number-on : (bs : List Bool) → number (bs ++ (true ∷ [])) ≡ number bs + 2 ^ length bs
+unfolding number
+number-on [] = refl
+number-on (b ∷ bs) = rw (number-on bs, two-pow-succ (length bs)) (omega arith)
+
+number-off : (bs : List Bool) → number (bs ++ (false ∷ [])) ≡ number bs
+unfolding number
+number-off [] = refl
+number-off (b ∷ bs) = rw (number-off bs)
+
+set-more : (bs : List Bool) (b : Bool) → withBoard (number bs) (length bs) b ≡ number (bs ++ (b ∷ []))
+set-more bs false = sym (number-off bs)
+set-more bs true =
+    let one : 1 * 2 ^ length bs ≡ 2 ^ length bs = omega arith in
+    let sum : bitOr (number bs) (2 ^ length bs) ≡ 1 * 2 ^ length bs + number bs = ap (bitOr (number bs)) (sym one) ∙ or-shifted-r 1 (length bs) (number bs) (number-below bs) in
+    sum ∙ sym (number-on bs ∙ omega arith)
+
+latched-more : (south : List Summary) (x : Summary) → withBoard (number (latchedOf south)) (length south) (x .latched) ≡ number (latchedOf (south ++ (x ∷ [])))
+latched-more south x =
+    let more = set-more (latchedOf south) (x .latched) in
+    rw (map-append (λ (board : Summary). board .latched) south (x ∷ [])) (rw (length-map south (λ board. board .latched)) at more)
+
+every-more : (on : Summary → Bool) (south : List Summary) (x : Summary) → (every on south && on x) ≡ every on (south ++ (x ∷ []))
+unfolding every
+every-more on [] x = sym (and-true (on x))
+every-more on (b ∷ south) x = and-assoc (on b) (every on south) (on x) ∙ ap (λ (t : Bool). on b && t) (every-more on south x)
+
+double-zero : (n : ℕ) → eqb (2 * n) 0 ≡ eqb n 0
+double-zero n =
+    split (eqb n 0) (λ e. let none = eqb-true n 0 e in rw none) (λ e. let some = eqb-false n 0 e in ne-eqb (2 * n) 0 (λ z. some (omega arith)) ∙ sym e)
+
+alone-further : (at : ℕ) (x : Summary) → alone (suc at) x ≡ further (alone at x)
+alone-further at x = let double : 2 ^ suc at ≡ 2 * 2 ^ at = two-pow-succ at ∙ omega arith in rw double
+
+further-more : (f : First) (at : ℕ) (x : Summary) → firstWith (further f) (suc at) x ≡ further (firstWith f at x)
+further-more f at x = rw (double-zero (f .boards), alone-further at x) (by (eqb (f .boards) 0) (isFlagged x))
+  where
+    by : (none flagged : Bool) → cond none (cond flagged (further (alone at x)) (further f)) (further f) ≡ further (cond none (cond flagged (alone at x) f) f)
+    by true true = refl
+    by true false = refl
+    by false flagged = refl
+
+first-more : (south : List Summary) (x : Summary) → firstWith (firstOf south) (length south) x ≡ firstOf (south ++ (x ∷ []))
+unfolding firstOf
+first-more [] x = refl
+first-more (b ∷ south) x =
+    split (isFlagged b) (λ e. rw e) (λ e. rw e (further-more (firstOf south) (length south) x ∙ ap further (first-more south x)))
+
+pub seen-more : (south : List Summary) (b : Board) → length south < 16 → seenWith (seenOf south) (length south) b ≡ seenOf (south ++ (summaryOf b ∷ []))
+unfolding seenWith seenOf
+seen-more south b room =
+    let x = summaryOf b in
+    rw (lt-leb 16 (length south) room, latched-more south x, every-more chgOn south x, every-more dsgOn south x, first-more south x, length-append south (x ∷ []))
+
+-- ---- the reading from what is kept of some boards is their reading
+line-latches : (xs : List Summary) → lineUp xs ≡ up (latchedOf xs)
+unfolding lineUp up
+line-latches [] = refl
+line-latches (x ∷ xs) = rw (line-latches xs)
+
+line-seen : (boards : List Summary) → up (marks (length boards) (number (latchedOf boards))) ≡ lineUp boards
+line-seen boards =
+    let many : length boards ≡ length (latchedOf boards) = sym (length-map boards (λ board. board .latched)) in
+    rw (many, marks-number (latchedOf boards)) (sym (line-latches boards))
+
+-- the lowest cell of the board that is kept, or 0
+abbrev pub cellOf : First → ℕ
+cellOf first = lowest 1 (marks (first .count) (first .flags))
+
+found-first : (k : ℕ) (boards : List Summary) → 0 < k → found (lowest k (marks (length boards) (firstOf boards .boards))) (cellOf (firstOf boards)) ≡ firstFlagged k boards
+unfolding firstOf firstFlagged marks lowest
+found-first k [] p = refl
+found-first k (b ∷ north) p =
+    let set = firstOf north .boards in
+    let low = lowest-zero 0 (marks (b .count) (b .flags)) in
+    split (isFlagged b)
+    (λ e. rw (e, low ∙ not-true (eqb (number (marks (b .count) (b .flags))) 0) e, ne-eqb k 0 (λ z. omega arith)))
+    (λ e.
+    let off : eqb (2 * set % 2) 1 ≡ false = ne-eqb (2 * set % 2) 1 (λ z. omega arith) in
+    let half : 2 * set / 2 ≡ set = omega arith in
+    rw (e, off, half, low ∙ not-false (eqb (number (marks (b .count) (b .flags))) 0) e) (found-first (k + 1) north (omega arith)))
+
+pub whole-seen : (boards : List Summary) → wholeOf (seenOf boards) ≡ readOf boards
+unfolding wholeOf seenOf foundIn readOf
+whole-seen boards = rw (line-seen boards, found-first 1 boards (omega arith))
+
+-- ---- the numbers that the functions handle
+-- a board's worth in a set
+pub worth : (at : ℕ) → at < 16 → 1 * 2 ^ at % 65536 ≡ 2 ^ at
+worth at p = shl-exact 1 at 16 (omega arith) (omega arith) ∙ omega arith
+
+bit-low : (x : ℕ) → bit (eqb (x % 2) 1) ≡ x % 2
+bit-low x = split (eqb (x % 2) 1) (λ e. rw e (sym (eqb-true (x % 2) 1 e))) (λ e. let other = eqb-false (x % 2) 1 e in rw e (omega (arith, other)))
+
+-- the number of the first n cells
+pub marks-mod : (n x : ℕ) → number (marks n x) ≡ x % 2 ^ n
+unfolding number marks
+marks-mod zero x = omega arith
+marks-mod (suc n) x =
+    let whole : x % 2 ^ suc n ≡ x / 2 % 2 ^ n * 2 + x % 2 = ap (λ (m : ℕ). x % 2 ^ m) (sym (add-one n)) ∙ mod-pow-add x n 1 in
+    rw (bit-low x, marks-mod n (x / 2), whole) (omega arith)
+
+pub marks-all : (n x : ℕ) → x < 65536 → 16 ≤ n → number (marks n x) ≡ x
+marks-all n x small p = marks-mod n x ∙ mod-eq-of-lt (lt-of-lt-of-le small (pow-mono p))
+
+-- no cell of none
+pub marks-none : (n : ℕ) → number (marks n 0) ≡ 0
+unfolding number marks
+marks-none zero = refl
+marks-none (suc n) = rw (marks-none n)
+
+pub up-none : (n : ℕ) → up (marks n 0) ≡ false
+unfolding up marks
+up-none zero = refl
+up-none (suc n) = up-none n
 
 -- the line at a board: its latch, or the line one board on with one board less
 pub up-next : (set left : ℕ) → (left ≡ 0 → ⊥) → up (marks left set) ≡ (eqb (set % 2) 1 || up (marks (left - 1) (set / 2)))
@@ -29,86 +144,49 @@ unfolding up marks
 up-next set zero some = absurd (some refl)
 up-next set (suc left) some = let one : suc left - 1 ≡ left = omega arith in rw one
 
--- the line of the boards is that of their latches
-line-latches : (xs : List Summary) → lineUp xs ≡ up (latchedOf xs)
-unfolding lineUp up
-line-latches [] = refl
-line-latches (x ∷ xs) = rw (line-latches xs)
+-- the search of a set: one place on, past its last place, and in none
+pub lowest-next : (k n set j : ℕ) → j < n → lowest k (marks (n - j) set) ≡ cond (eqb (set % 2) 1) k (lowest (k + 1) (marks (n - (j + 1)) (set / 2)))
+unfolding lowest marks
+lowest-next k n set j p = let left : n - j ≡ suc (n - (j + 1)) = omega arith in rw left
 
-pub line-set : (xs : List Summary) (n : ℕ) → length xs ≡ 16 → up (marks (min n 16) (number (latchedOf (take n xs)))) ≡ lineUp (take n xs)
-line-set xs n long =
-    let many : min n 16 ≡ length (latchedOf (take n xs)) = sym (length-map (take n xs) (λ board. board .latched) ∙ length-take n xs ∙ ap (λ (m : ℕ). min n m) long) in
-    rw (many, marks-number (latchedOf (take n xs))) (sym (line-latches (take n xs)))
+pub lowest-past : (k n set j : ℕ) → n ≤ j → lowest k (marks (n - j) set) ≡ 0
+unfolding lowest marks
+lowest-past k n set j p = let left : n - j ≡ 0 = omega arith in rw left
 
--- a turn of the loop that gathers the set, from the north down
-pub set-start : (xs : List Summary) (n at : ℕ) → length xs ≡ 16 → at ≡ min n 16 → 0 ≡ number (drop at (latchedOf (take n xs)))
-set-start xs n at long e =
-    let many : length (latchedOf (take n xs)) ≤ at = rw (length-map (take n xs) (λ board. board .latched), length-take n xs, long) (omega arith) in
-    sym (number-none (latchedOf (take n xs)) at many)
+pub lowest-nowhere : (n : ℕ) → lowest 1 (marks n 0) ≡ 0
+lowest-nowhere n = eqb-true (lowest 1 (marks n 0)) 0 (lowest-zero 0 (marks n 0) ∙ rw (marks-none n))
 
-pub set-room : (xs : List Summary) (n at : ℕ) → length xs ≡ 16 → 0 < at → at ≤ min n 16 → number (drop at (latchedOf (take n xs))) < 32768
-set-room xs n at long p q =
-    let bs = latchedOf (take n xs) in
-    let many : length bs ≤ 16 = rw (length-map (take n xs) (λ board. board .latched), length-take n xs, long) (omega arith) in
-    let few : length (drop at bs) ≤ 15 = rw (length-drop at bs) (omega arith) in
-    lt-of-lt-of-le (number-below (drop at bs)) (pow-mono few)
+-- a search that goes on, goes on within all
+pub within : (some : Bool) (n j : ℕ) → j < cond some n 0 → (some ≡ true) × (j < n)
+within true n j p = (refl, p)
+within false n j p = absurd (not-suc-le-zero p)
 
-pub set-turn : (xs : List Summary) (n at out r : ℕ) → out ≡ number (drop at (latchedOf (take n xs))) → r ≡ bit (getD xs (at - 1) blank .latched) + 2 * out → length xs ≡ 16 → 0 < at → at ≤ min n 16
-    → r ≡ number (drop (at - 1) (latchedOf (take n xs)))
-set-turn xs n at out r o e long p q =
-    let bs = latchedOf (take n xs) in
-    let many : length bs ≡ min n 16 = length-map (take n xs) (λ board. board .latched) ∙ length-take n xs ∙ ap (λ (m : ℕ). min n m) long in
-    let here : getD bs (at - 1) false ≡ getD xs (at - 1) blank .latched = List·getD-map (λ (board : Summary). board .latched) (take n xs) (at - 1) blank ∙ ap (λ (board : Summary). board .latched) (getD-take n xs (at - 1) blank (omega arith)) in
-    number-down bs at out r o (rw here e) p (omega (arith, many))
+found-none : (cell : ℕ) → found 0 cell ≡ place 0 0
+found-none cell = split (eqb cell 0) (λ e. rw e) (λ e. rw e)
 
--- what is left of the first n boards at i: the board there, and what is left at i + 1; nothing, past the last
-next-left : (xs : List Summary) (n i : ℕ) → i < n → i < length xs → drop i (take n xs) ≡ getD xs i blank ∷ drop (i + 1) (take n xs)
-next-left xs n i p h =
-    let within : i < length (take n xs) = rw (length-take n xs) (omega arith) in
-    rw (drop-cons (take n xs) i blank within, getD-take n xs i blank p, add-one i)
+-- the search of the boards, past one that is not in the set or has no flagged cell
+pub board-passed : (first : First) (count boards i flags j : ℕ) → i < count → cond (eqb (boards % 2) 1) (first .count) 0 ≤ j
+    → cellOf first ≡ lowest (j + 1) (marks (first .count - j) flags)
+    → found (lowest (i + 1) (marks (count - i) boards)) (cellOf first) ≡ found (lowest (i + 1 + 1) (marks (count - (i + 1)) (boards / 2))) (cellOf first)
+board-passed first count boards i flags j here over cell =
+    split (eqb (boards % 2) 1)
+    (λ e. let none : cellOf first ≡ 0 = cell ∙ lowest-past (j + 1) (first .count) flags j (rw e at over) in rw none)
+    (λ e. rw (lowest-next (i + 1) count boards i here, e))
 
-none-left : (xs : List Summary) (n i : ℕ) → min n (length xs) ≤ i → drop i (take n xs) ≡ []
-none-left xs n i h =
-    let short : length (take n xs) ≤ i = rw (length-take n xs) (omega arith) in
-    drop-of-length-le (take n xs) short
+-- past the last board
+pub search-over : (first : First) (count boards i : ℕ) → cond (not (eqb (first .boards) 0)) count 0 ≤ i
+    → foundIn first count ≡ found (lowest (i + 1) (marks (count - i) boards)) (cellOf first) → foundIn first count ≡ place 0 0
+unfolding foundIn
+search-over first count boards i over so =
+    split (eqb (first .boards) 0)
+    (λ e. let none = eqb-true (first .boards) 0 e in rw (none, lowest-nowhere count) (found-none (cellOf first)))
+    (λ e. so ∙ rw (lowest-past (i + 1) count boards i (rw e at over)) (found-none (cellOf first)))
 
--- what is gathered at i with what is left there
-pub every-turn : (on : Summary → Bool) (xs : List Summary) (n i : ℕ) (sofar : Bool) → i < n → i < length xs → (sofar && every on (drop i (take n xs))) ≡ (sofar && on (getD xs i blank) && every on (drop (i + 1) (take n xs)))
-unfolding every
-every-turn on xs n i sofar p h = rw (next-left xs n i p h, and-assoc)
-
-pub every-done : (on : Summary → Bool) (xs : List Summary) (n i : ℕ) (sofar : Bool) → min n (length xs) ≤ i → (sofar && every on (drop i (take n xs))) ≡ sofar
-unfolding every
-every-done on xs n i sofar h = rw (none-left xs n i h, and-true)
-
--- the search at i, where the board there is board i + 1
-pub first-turn : (xs : List Summary) (n i : ℕ) → i < n → i < length xs → firstFlagged (i + 1) (drop i (take n xs)) ≡ cond (eqb (lowestFlagged (getD xs i blank)) 0) (firstFlagged (i + 1 + 1) (drop (i + 1) (take n xs))) (place (i + 1) (lowestFlagged (getD xs i blank)))
-unfolding firstFlagged
-first-turn xs n i p h = rw (next-left xs n i p h)
-
-pub first-none : (xs : List Summary) (n i k : ℕ) → min n (length xs) ≤ i → firstFlagged k (drop i (take n xs)) ≡ place 0 0
-unfolding firstFlagged
-first-none xs n i k h = rw (none-left xs n i h)
-
--- the search on a board, one cell on, and past its last cell
-pub cell-turn : (b : Summary) (j : ℕ) → j < b .count → lowest (j + 1) (drop j (marks (b .count) (b .flags))) ≡ cond (marked (b .flags) j) (j + 1) (lowest (j + 1 + 1) (drop (j + 1) (marks (b .count) (b .flags))))
-cell-turn b j p =
-    lowest-turn (j + 1) (marks (b .count) (b .flags)) j (rw (marks-length (b .count) (b .flags)) p) ∙ rw (marks-at (b .count) (b .flags) j p)
-
-pub cell-none : (b : Summary) (j : ℕ) → b .count ≤ j → lowest (j + 1) (drop j (marks (b .count) (b .flags))) ≡ 0
-cell-none b j p = lowest-none (j + 1) (marks (b .count) (b .flags)) j (rw (marks-length (b .count) (b .flags)) p)
-
--- a search that ends at the last cell that is searched has found none
-none-flagged : (n : ℕ) → number (marks n 0) ≡ 0
-unfolding number marks
-none-flagged zero = refl
-none-flagged (suc n) = rw (none-flagged n)
-
-unflagged-none : (b : Summary) → b .flags ≡ 0 → lowestFlagged b ≡ 0
-unflagged-none b e = rw e (eqb-true (lowest 1 (marks (b .count) 0)) 0 (lowest-zero 0 (marks (b .count) 0) ∙ rw (none-flagged (b .count))))
-
-pub searched-within : (b : Summary) → searchedOf b ≤ b .count
-searched-within b = split (eqb (b .flags) 0) (λ e. rw e (omega arith)) (λ e. rw e (omega arith))
-
-pub search-none : (b : Summary) (j : ℕ) → searchedOf b ≤ j → lowestFlagged b ≡ lowest (j + 1) (drop j (marks (b .count) (b .flags))) → lowestFlagged b ≡ 0
-search-none b j p e = split (eqb (b .flags) 0) (λ f. unflagged-none b (eqb-true (b .flags) 0 f)) (λ f. e ∙ cell-none b j (rw f at p))
+-- at a flagged cell of a board in the set
+pub search-done : (first : First) (count boards i flags j : ℕ) → i < count → j < cond (eqb (boards % 2) 1) (first .count) 0 → eqb (flags % 2) 1 ≡ true
+    → foundIn first count ≡ found (lowest (i + 1) (marks (count - i) boards)) (cellOf first) → cellOf first ≡ lowest (j + 1) (marks (first .count - j) flags)
+    → foundIn first count ≡ place (i + 1) (j + 1)
+search-done first count boards i flags j here on flagged so cell =
+    let w = within (eqb (boards % 2) 1) (first .count) j on in
+    let low : cellOf first ≡ j + 1 = cell ∙ lowest-next (j + 1) (first .count) flags j (w .1) ∙ rw flagged in
+    so ∙ rw (lowest-next (i + 1) count boards i here, w .0, low, ne-eqb (j + 1) 0 (λ z. omega arith), ne-eqb (i + 1) 0 (λ z. omega arith))

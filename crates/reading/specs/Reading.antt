@@ -1,17 +1,20 @@
 -- The whole-stack reading of a row of boards, southernmost first (01, Whole-stack reading).
 -- Assumes nothing.
-use Prim.Native.Nat.{ℕ, _+_}
-use mathlib.Core.Bool.{Bool, false, cond, _||_}
+use Prim.Native.Nat.{ℕ, _+_, _*_, _^_}
+use mathlib.Core.Bool.{Bool, false, cond, not, _&&_, _||_}
 use mathlib.Core.List.{List, [], _∷_, map}
-use lib.Dec.{eqb}
+use lib.Bits.{bitOr}
+use lib.Dec.{leb, eqb}
+use lib.ListN.{length}
 use Rattle.lists.specs.Every.{every}
-use Rattle.marks.specs.Marks.{bit, marks, lowest}
+use Rattle.marks.specs.Marks.{bit, number, marks, lowest}
 use Rattle.board.specs.declared.Board.{Board}
 use Rattle.latches.specs.Latches.{latchesOf, anyLatch}
 use Rattle.latches.specs.Latches as boards
 use Rattle.reading.specs.declared.Summary.{Summary}
 use Rattle.reading.specs.declared.Place.{Place}
-use Rattle.reading.specs.declared.Pack.{Pack}
+use Rattle.reading.specs.declared.First.{First}
+use Rattle.reading.specs.declared.Seen.{Seen}
 use Rattle.reading.specs.declared.Whole.{Whole}
 
 -- what the reading takes from a board's record
@@ -36,10 +39,6 @@ chgOn board = board .chg
 abbrev pub dsgOn : Summary → Bool
 dsgOn board = board .dsg
 
--- pack CHG and pack DSG: on exactly if on at every board
-unfoldable pub packOf : List Summary → Pack
-packOf boards = record { chg = every chgOn boards; dsg = every dsgOn boards }
-
 -- the lowest flagged cell of a board, or 0
 abbrev pub lowestFlagged : Summary → ℕ
 lowestFlagged board = lowest 1 (marks (board .count) (board .flags))
@@ -52,7 +51,7 @@ unfoldable pub firstFlagged : ℕ → List Summary → Place
 firstFlagged k [] = place 0 0
 firstFlagged k (board ∷ north) = cond (eqb (lowestFlagged board) 0) (firstFlagged (k + 1) north) (place k (lowestFlagged board))
 
--- board 1's line, pack CHG, pack DSG, and the flagged cell
+-- board 1's line; pack CHG and pack DSG, on exactly if on at every board; and the flagged cell
 unfoldable pub readOf : List Summary → Whole
 readOf boards =
     record { line = lineUp boards; chg = every chgOn boards; dsg = every dsgOn boards; flagged = firstFlagged 1 boards }
@@ -61,7 +60,7 @@ readOf boards =
 abbrev pub wholeSaid : Whole → List ℕ
 wholeSaid w = bit (w .line) ∷ bit (w .chg) ∷ bit (w .dsg) ∷ w .flagged .board ∷ w .flagged .cell ∷ []
 
--- ---- on the way: the same of the latches alone, board 1's first
+-- ---- on the way: the line of the latches alone, board 1's first
 abbrev pub latchedOf : List Summary → List Bool
 latchedOf boards = map (λ board. board .latched) boards
 
@@ -69,6 +68,55 @@ unfoldable pub up : List Bool → Bool
 up [] = false
 up (latched ∷ north) = latched || up north
 
--- a board without a flagged cell need not be searched
-abbrev pub searchedOf : Summary → ℕ
-searchedOf board = cond (eqb (board .flags) 0) 0 (board .count)
+-- ---- on the way: what a walk over the boards keeps of them, southernmost first
+abbrev pub isFlagged : Summary → Bool
+isFlagged board = not (eqb (number (marks (board .count) (board .flags))) 0)
+
+-- where a flagged cell is sought: on no board, or on the one at a place counted from 0
+abbrev pub nowhere : First
+nowhere = record { boards = 0; count = 0; flags = 0 }
+
+abbrev pub alone : ℕ → Summary → First
+alone at board = record { boards = 2 ^ at; count = board .count; flags = board .flags }
+
+-- the same with one more board south of all
+abbrev pub further : First → First
+further first = record { boards = 2 * first .boards; count = first .count; flags = first .flags }
+
+-- the southernmost board with a flagged cell
+unfoldable pub firstOf : List Summary → First
+firstOf [] = nowhere
+firstOf (board ∷ north) = cond (isFlagged board) (alone 0 board) (further (firstOf north))
+
+unfoldable pub seenOf : List Summary → Seen
+seenOf boards =
+    record { count = length boards; latched = number (latchedOf boards); chg = every chgOn boards; dsg = every dsgOn boards; first = firstOf boards }
+
+-- the same with one more board north of all, at its place
+abbrev pub withBoard : ℕ → ℕ → Bool → ℕ
+withBoard set at is = cond is (bitOr set (2 ^ at)) set
+
+abbrev pub firstWith : First → ℕ → Summary → First
+firstWith first at board = cond (eqb (first .boards) 0) (cond (isFlagged board) (alone at board) first) first
+
+unfoldable pub seenWith : Seen → ℕ → Board → Seen
+seenWith seen at b =
+    cond (leb 16 at) seen (record {
+      count = at + 1;
+      latched = withBoard (seen .latched) at (summaryOf b .latched);
+      chg = seen .chg && summaryOf b .chg;
+      dsg = seen .dsg && summaryOf b .dsg;
+      first = firstWith (seen .first) at (summaryOf b);
+    })
+
+-- ---- on the way: the reading from what was kept
+-- a board and a cell on it, or neither where one of them is 0
+abbrev pub found : ℕ → ℕ → Place
+found board cell = cond (eqb cell 0) (place 0 0) (cond (eqb board 0) (place 0 0) (place board cell))
+
+unfoldable pub foundIn : First → ℕ → Place
+foundIn first count = found (lowest 1 (marks count (first .boards))) (lowest 1 (marks (first .count) (first .flags)))
+
+unfoldable pub wholeOf : Seen → Whole
+wholeOf seen =
+    record { line = up (marks (seen .count) (seen .latched)); chg = seen .chg; dsg = seen .dsg; flagged = foundIn (seen .first) (seen .count) }

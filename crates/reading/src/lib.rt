@@ -1,9 +1,10 @@
 // The whole-stack reading, over a summary of each board by value (01, Whole-stack reading).
 ghost use mathlib.Core.Path.{_≡_};
-ghost use Prim.Native.Nat.{min, _+_, _*_, _<_};
-ghost use lib.ListN.{take};
-ghost use Rattle.marks.specs.Marks.{bit, number, marks};
-ghost use Rattle.reading.specs.Reading.{summaryOf, up, latchedOf, searchedOf, packOf, firstFlagged, readOf};
+ghost use mathlib.Core.Bool.{cond};
+ghost use mathlib.Core.List.{[]};
+ghost use Prim.Native.Nat.{_<_};
+ghost use Rattle.marks.specs.Marks.{marks};
+ghost use Rattle.reading.specs.Reading.{summaryOf, isFlagged, withBoard, firstWith, seenOf, seenWith, up, foundIn, wholeOf};
 use board::Board;
 
 // What the reading takes from one board; the flagged cells as a number.
@@ -19,11 +20,10 @@ pub struct Summary {
 pub fn summary_of(b: Board) -> Summary
     ensures { λ r. ⌜ r ≡ summaryOf b ⌝ }
 {
-    let t = latches::latches_of(b.latches);
     Summary {
-        latched: t.scd | t.ocd | t.ov | t.uv | t.ot,
-        chg: latches::chg_of(t),
-        dsg: latches::dsg_of(t),
+        latched: latches::any_latch(b.latches),
+        chg: latches::chg_on(b.latches),
+        dsg: latches::dsg_on(b.latches),
         count: b.count,
         flags: b.flags,
     }
@@ -42,40 +42,109 @@ pub struct Whole {
     pub flagged: Place,
 }
 
-// How many of the first n boards there are in the row.
-fn rows_of(n: usize) -> usize
-    ensures { λ r. ⌜ r ≡ min n 16 ⌝ }
-{
-    if n < 16 { n } else { 16 }
+// ---- the walk over the row
+
+// Where a flagged cell is sought: the southernmost board that has one, as a set, with its cells; or no board. A set of boards is a number, as a set of cells is:
+// board 1 is worth 1, board 2 is worth 2, board 3 is worth 4 and so on.
+pub struct First {
+    pub boards: u16,
+    pub count: u8,
+    pub flags: u16,
 }
 
-// A set of boards with one more below them: the lowest is worth 1.
-fn latch_below(latched: bool, above: u16) -> u16
-    requires { ⌜ above < 32768 ⌝ }
-    ensures { λ r. ⌜ r ≡ bit latched + 2 * above ⌝ }
-{
-    if latched { 1 + 2 * above } else { 2 * above }
+// What a walk over the row keeps of the boards, southernmost first: how many they are, which have a latch, and whether CHG and DSG are on at every one.
+pub struct Seen {
+    pub count: u8,
+    pub latched: u16,
+    pub chg: bool,
+    pub dsg: bool,
+    pub first: First,
 }
 
-// The boards that have a latch, of the first n, as a number.
-fn latched_set(boards: [Summary; 16], n: usize) -> u16
-    ensures { λ r. ⌜ r ≡ number (latchedOf (take n boards)) ⌝ }
+// Before the first board.
+pub fn none_seen() -> Seen
+    ensures { λ r. ⌜ r ≡ seenOf [] ⌝ }
 {
-    let mut set = 0;
-    let mut at = rows_of(n);
-    while 0 < at {
-        at -= 1;
-        let b = boards[at];
-        set = latch_below(b.latched, set);
+    let first = First {
+        boards: 0,
+        count: 0,
+        flags: 0,
+    };
+    Seen {
+        count: 0,
+        latched: 0,
+        chg: true,
+        dsg: true,
+        first: first,
     }
-    set
 }
+
+// Whether one of a board's cells is flagged; a flag beyond its cells is none.
+fn is_flagged(s: Summary) -> bool
+    ensures { λ r. ⌜ r ≡ isFlagged s ⌝ }
+{
+    if s.flags == 0 {
+        return false;
+    }
+    if 16 <= s.count {
+        return true;
+    }
+    s.flags % (1 << s.count) != 0
+}
+
+// A set of boards, with the board at this place or without it.
+fn with_board(set: u16, at: usize, is: bool) -> u16
+    requires { ⌜ at < 16 ⌝ }
+    ensures { λ r. ⌜ r ≡ withBoard set at is ⌝ }
+{
+    if is { set | (1 << at) } else { set }
+}
+
+// Where a flagged cell is sought, once the board at this place is known too.
+fn first_with(first: First, at: usize, s: Summary) -> First
+    requires { ⌜ at < 16 ⌝ }
+    ensures { λ r. ⌜ r ≡ firstWith first at s ⌝ }
+{
+    if first.boards != 0 {
+        return first;
+    }
+    if is_flagged(s) {
+        return First {
+            boards: 1 << at,
+            count: s.count,
+            flags: s.flags,
+        };
+    }
+    first
+}
+
+// One board more, north of those seen; a row has 16 at most.
+pub fn see(seen: Seen, at: usize, b: Board) -> Seen
+    ensures { λ r. ⌜ r ≡ seenWith seen at b ⌝ }
+{
+    if 16 <= at {
+        return seen;
+    }
+    let s = summary_of(b);
+    Seen {
+        count: at as u8 + 1,
+        latched: with_board(seen.latched, at, s.latched),
+        chg: seen.chg & s.chg,
+        dsg: seen.dsg & s.dsg,
+        first: first_with(seen.first, at, s),
+    }
+}
+
+// ---- the reading
 
 // The fault line of the lowest board of a set, with so many boards left from it northward.
-fn line_up(latched: u16, left: usize) -> bool
+fn line_up(latched: u16, left: u8) -> bool
     ensures { λ r. ⌜ r ≡ up (marks left latched) ⌝ }
 {
     if left == 0 {
+        return false;
+    }
+    if latched == 0 {
         return false;
     }
     if latched % 2 == 1 {
@@ -84,56 +153,36 @@ fn line_up(latched: u16, left: usize) -> bool
     line_up(latched / 2, left - 1)
 }
 
-struct Pack {
-    chg: bool,
-    dsg: bool,
-}
-
-// Pack CHG and pack DSG: on exactly if on at every board.
-fn pack_on(boards: [Summary; 16], n: usize) -> Pack
-    ensures { λ r. ⌜ r ≡ packOf (take n boards) ⌝ }
+// How many are searched: all of them, or none.
+fn searched(some: bool, n: u8) -> u8
+    ensures { λ r. ⌜ r ≡ cond some n 0 ⌝ }
 {
-    let rows = rows_of(n);
-    let mut chg = true;
-    let mut dsg = true;
-    let mut at = 0;
-    while at < rows {
-        let b = boards[at];
-        chg = chg & b.chg;
-        dsg = dsg & b.dsg;
-        at += 1;
-    }
-    Pack { chg: chg, dsg: dsg }
-}
-
-// How many cells of a board are searched for a flagged one.
-fn searched(b: Summary) -> u8
-    ensures { λ r. ⌜ r ≡ searchedOf b ⌝ }
-{
-    if b.flags == 0 { 0 } else { b.count }
+    if some { n } else { 0 }
 }
 
 // The southernmost board with a flagged cell, and the lowest such cell on it: the first one found ends both loops.
-fn first_flagged(boards: [Summary; 16], n: usize) -> Place
-    ensures { λ r. ⌜ r ≡ firstFlagged 1 (take n boards) ⌝ }
+fn first_flagged(first: First, count: u8) -> Place
+    ensures { λ r. ⌜ r ≡ foundIn first count ⌝ }
 {
-    let rows = rows_of(n);
+    let rows = searched(first.boards != 0, count);
     let mut board = 0;
     let mut cell = 0;
+    let mut boards = first.boards;
     let mut i = 0;
     'boards: while i < rows {
-        let b = boards[i];
-        let top = searched(b);
-        // below the count, so a cell's number fits its byte
+        let top = searched(boards % 2 == 1, first.count);
+        let mut flags = first.flags;
         let mut j = 0;
         while j < top {
-            if marks::mark_at(b.flags, j as usize) {
-                board = i as u8 + 1;
+            if flags % 2 == 1 {
+                board = i + 1;
                 cell = j + 1;
                 break 'boards;
             }
+            flags = flags / 2;
             j += 1;
         }
+        boards = boards / 2;
         i += 1;
     }
     Place {
@@ -142,17 +191,16 @@ fn first_flagged(boards: [Summary; 16], n: usize) -> Place
     }
 }
 
-// The reading of the first n boards: board 1's line, pack CHG, pack DSG and the flagged cell.
-pub fn read_all(boards: [Summary; 16], n: usize) -> Whole
-    ensures { λ r. ⌜ r ≡ readOf (take n boards) ⌝ }
+// The reading of the boards seen: board 1's line, pack CHG, pack DSG and the flagged cell.
+pub fn read_all(seen: Seen) -> Whole
+    ensures { λ r. ⌜ r ≡ wholeOf seen ⌝ }
 {
-    let line = line_up(latched_set(boards, n), rows_of(n));
-    let pack = pack_on(boards, n);
-    let flagged = first_flagged(boards, n);
+    let line = line_up(seen.latched, seen.count);
+    let flagged = first_flagged(seen.first, seen.count);
     Whole {
         line: line,
-        chg: pack.chg,
-        dsg: pack.dsg,
+        chg: seen.chg,
+        dsg: seen.dsg,
         flagged: flagged,
     }
 }

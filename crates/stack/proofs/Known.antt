@@ -25,8 +25,8 @@ use Rattle.frame.proofs.Reply as Reply
 use Rattle.frame.proofs.Reply.Laws as Reply′
 use Rattle.registers.proofs.Obeyed as Obeyed
 use Rattle.registers.proofs.Obeyed.Laws as Obeyed′
-use Rattle.stack.proofs.Scan as Scan
-use Rattle.stack.proofs.Scan.Laws as Scan′
+use Rattle.reading.proofs.Seen as Seen
+use Rattle.reading.proofs.Seen.Laws as Seen′
 use Rattle.stack.proofs.View as View
 use Rattle.stack.proofs.View.Laws as View′
 
@@ -52,8 +52,8 @@ module _ {M : Type 1} (𝓤 : URA M) (H : Heap 𝓤) (A : Atoms 𝓤) (W : Given
   abbrev pub reply : PlainType 𝓤 H A Reply.the-row
   reply = enumeration 𝓤 H A W Reply.the-type Reply′.the-laws Reply′.the-plain Reply′.the-copy tt
 
-  abbrev pub scan : PlainType 𝓤 H A Scan.the-row
-  scan = struct 𝓤 H A W Scan.the-type Scan′.the-laws Scan′.the-plain Scan′.the-copy
+  abbrev pub seen : PlainType 𝓤 H A Seen.the-row
+  seen = struct 𝓤 H A W Seen.the-type Seen′.the-laws Seen′.the-plain Seen′.the-copy
 
   abbrev pub view : PlainType 𝓤 H A View.the-row
   view = enumeration 𝓤 H A W View.the-type View′.the-laws View′.the-plain View′.the-copy tt

@@ -10,13 +10,13 @@ ghost use Rattle.stack.specs.Row.{badCount, goodRow, placeOf};
 ghost use Rattle.stack.specs.Open.{goodCounts, freshRow, noStack, openOf};
 ghost use Rattle.stack.specs.Sample.{sampleAnswerAt, sampleRowAt, sampleAnswer, sampleRow, noSample, noRowSample};
 ghost use Rattle.stack.specs.Frame.{takenPlace, obeyAnswerAt, obeyRowAt, obeyAnswer, obeyRow, frameAnswer, frameRow, frameBuffer, noReply, noRowReply};
-ghost use Rattle.stack.specs.Read.{blank, noted, scanOf, lookOf, viewOf, readingOf, noRowView};
+ghost use Rattle.stack.specs.Read.{seenRow, lookOf, viewOf, readingOf, noRowView};
 use board::Answer;
 use board::Board;
 use board::Readings;
 use frame::Reply;
 use frame::Taken;
-use reading::Summary;
+use reading::Seen;
 use reading::Whole;
 use refusal::Refusal;
 
@@ -39,12 +39,6 @@ pub struct Start {
 pub enum View {
     Read(Whole),
     Refused(Refusal),
-}
-
-// The summaries of a row's boards.
-pub struct Scan {
-    pub boards: [Summary; 16],
-    pub count: usize,
 }
 
 // ---- which row is good, and where a board is
@@ -322,60 +316,30 @@ pub fn frame_stack(row: &mut [Board], bytes: &[u8], reply: &mut [u8]) -> Reply
 
 // ---- the whole-stack reading
 
-fn blank_scan() -> Scan
-    ensures { λ r. ⌜ r ≡ blank ⌝ }
+// What is kept of the row's boards, gathered board by board.
+fn see_row(row: &[Board]) -> Seen
+    ensures { λ r. ⌜ r ≡ seenRow (now (row .entry)) ⌝ }
 {
-    let none = Summary {
-        latched: false,
-        chg: false,
-        dsg: false,
-        count: 0,
-        flags: 0,
-    };
-    let boards = [none; 16];
-    Scan {
-        boards: boards,
-        count: 0,
-    }
-}
-
-// The summaries with that of one more board; a row has 16 at most.
-fn note(scan: Scan, at: usize, b: Board) -> Scan
-    ensures { λ r. ⌜ r ≡ noted scan at b ⌝ }
-{
-    if 16 <= at {
-        return scan;
-    }
-    let mut next = scan;
-    next.boards[at] = reading::summary_of(b);
-    next.count = at + 1;
-    next
-}
-
-fn scan_row(row: &[Board]) -> Scan
-    ensures { λ r. ⌜ r ≡ scanOf (now (row .entry)) ⌝ }
-{
-    let mut scan = blank_scan();
+    let mut seen = reading::none_seen();
     let mut i = 0;
     while i < row.len() {
-        scan = note(scan, i, row[i]);
+        seen = reading::see(seen, i, row[i]);
         i += 1;
     }
-    scan
+    seen
 }
 
-fn view_of(scan: Scan) -> View
-    ensures { λ r. ⌜ r ≡ viewOf scan ⌝ }
+fn view_of(seen: Seen) -> View
+    ensures { λ r. ⌜ r ≡ viewOf seen ⌝ }
 {
-    let boards = scan.boards;
-    View::Read(reading::read_all(boards, scan.count))
+    View::Read(reading::read_all(seen))
 }
 
 fn look(row: &[Board]) -> View
     ensures { λ r. ⌜ r ≡ lookOf (now (row .entry)) ⌝ }
 {
-    let scan = scan_row(row);
-    view_of(scan)
+    let seen = see_row(row);
+    view_of(seen)
 }
 
 fn no_row_view() -> View

@@ -6,7 +6,7 @@ use borrow.Author.Tests.{eq-eqb, ne-eqb}
 use borrow.Author.Needs.{needs}
 use Rattle.marks.specs.Marks.{marks}
 use Rattle.reading.specs.Reading.{up}
-use Rattle.reading.proofs.Turns.{up-next}
+use Rattle.reading.proofs.Turns.{up-none, up-next}
 use borrow.Fn.Kinds.{In}
 use borrow.Fn.PlainCycle.{Measures, is, falls, and}
 use Rattle.reading.proofs.line_up.Reads as line-up
@@ -32,9 +32,14 @@ line-up-returns t c = rw (c .if1 .taken)
 line-up-returns-2 :
     (t : ℕ) →
     line-up-lts.Need-returns-2 (line-up-below t, line-up.Post) (line-up-at t) line-up.Post
-line-up-returns-2 t c =
-    let a = c .before .before .args in
-    sym (up-next (a .latched) (a .left) (c .before .if1 .left) ∙ rw (eq-eqb _ _ (c .if2 .taken)))
+line-up-returns-2 t c = rw (c .if2 .taken) (sym (up-none (c .before .before .args .left)))
+
+line-up-returns-3 :
+    (t : ℕ) →
+    line-up-lts.Need-returns-3 (line-up-below t, line-up.Post) (line-up-at t) line-up.Post
+line-up-returns-3 t c =
+    let a = c .before .before .before .args in
+    sym (up-next (a .latched) (a .left) (c .before .before .if1 .left) ∙ rw (eq-eqb _ _ (c .if3 .taken)))
 
 line-up-sub-line-up :
     (t : ℕ) →
@@ -47,12 +52,12 @@ line-up-line-up-requires : (t : ℕ) → line-up-lts.Need-line-up-requires (
 ) (line-up-at t) line-up.Post
 line-up-line-up-requires t c κs = search needs
 
-line-up-returns-3 :
+line-up-returns-4 :
     (t : ℕ) →
-    line-up-lts.Need-returns-3 (line-up-below t, line-up.Post) (line-up-at t) line-up.Post
-line-up-returns-3 t c =
-    let a = c .before .before .before .args in
-    c .line-up .ensures ∙ sym (up-next (a .latched) (a .left) (c .before .before .if1 .left) ∙ rw (ne-eqb _ _ (c .before .if2 .left)))
+    line-up-lts.Need-returns-4 (line-up-below t, line-up.Post) (line-up-at t) line-up.Post
+line-up-returns-4 t c =
+    let a = c .before .before .before .before .args in
+    c .line-up .ensures ∙ sym (up-next (a .latched) (a .left) (c .before .before .before .if1 .left) ∙ rw (ne-eqb _ _ (c .before .if3 .left)))
 
 pub +line-up-spec : {M : Type 1} → statement M
 +line-up-spec =
@@ -64,6 +69,7 @@ pub +line-up-spec : {M : Type 1} → statement M
     line-up.Post
     (line-up-returns t)
     (line-up-returns-2 t)
+    (line-up-returns-3 t)
     (line-up-sub-line-up t)
     (line-up-line-up-requires t)
-    (line-up-returns-3 t)
+    (line-up-returns-4 t)

@@ -1,59 +1,50 @@
 -- `first_flagged`: as long as both loops go on, the answer is the answer of the boards, and of the cells, that are left.
 -- Assumes nothing.
-use Prim.Native.Nat.{_+_, _-_, _<_, _≤_, min}
+use Prim.Native.Nat.{_+_, _-_, _%_, _<_, _≤_}
 use native.Mathlib.Omega.{arith}
 use mathlib.Core.Path.{_≡_, refl, sym, _∙_}
-use borrow.Author.Tests.{ne-eqb}
+use mathlib.Core.Bool.{cond, not}
+use lib.Dec.{eqb}
+use borrow.Author.Tests.{eq-eqb, ne-eqb}
 use borrow.Author.Needs.{needs}
-use lib.ListN.{length, getD, take, drop}
 use Rattle.marks.specs.Marks.{marks, lowest}
-use Rattle.reading.specs.Reading.{lowestFlagged, firstFlagged, searchedOf}
-use Rattle.reading.proofs.Turns.{blank, first-turn, first-none, cell-turn, searched-within, search-none}
+use Rattle.reading.specs.Reading.{found, foundIn}
+use Rattle.reading.proofs.Turns.{cellOf, lowest-next, within, board-passed, search-over, search-done}
 use Rattle.reading.proofs.first_flagged.Statement.{statement}
 use Rattle.reading.proofs.first_flagged.Tie as tie
 
 abbrev Inv-loop : tie.InvT-loop
-Inv-loop n boards rows board₀ cell₀ i b top j₀ board cell j =
-    (top ≡ searchedOf b) × (j ≤ top) × (board ≡ 0) × (cell ≡ 0) × (lowestFlagged b ≡ lowest (j + 1) (drop j (marks (b .count) (b .flags))))
+Inv-loop first count rows board₀ cell₀ boards i top flags₀ j₀ board cell flags j =
+    (top ≡ cond (eqb (boards % 2) 1) (first .count) 0) × (j ≤ top) × (board ≡ 0) × (cell ≡ 0) × (cellOf first ≡ lowest (j + 1) (marks (first .count - j) flags))
 
 abbrev μ-loop : tie.MeasureT-loop
-μ-loop n boards rows board₀ cell₀ i b top j₀ board cell j = top - j
+μ-loop first count rows board₀ cell₀ boards i top flags₀ j₀ board cell flags j = top - j
 
 abbrev Inv-boards : tie.InvT-boards
-Inv-boards n boards rows board₀ cell₀ i₀ board cell i =
-    (rows ≡ min n 16) × (i ≤ rows) × (board ≡ 0) × (cell ≡ 0) × (firstFlagged 1 (take n boards) ≡ firstFlagged (i + 1) (drop i (take n boards)))
+Inv-boards first count rows board₀ cell₀ boards₀ i₀ board cell boards i =
+    (rows ≡ cond (not (eqb (first .boards) 0)) count 0) × (i ≤ rows) × (board ≡ 0) × (cell ≡ 0) × (foundIn first count ≡ found (lowest (i + 1) (marks (count - i) boards)) (cellOf first))
 
 abbrev μ-boards : tie.MeasureT-boards
-μ-boards n boards rows board₀ cell₀ i₀ board cell i = rows - i
-
-rows-of-requires : tie.Need-rows-of-requires Inv-loop μ-loop Inv-boards μ-boards
-rows-of-requires c κs = search needs
-
-boards-holds : tie.Need-boards-holds Inv-loop μ-loop Inv-boards μ-boards
-boards-holds c = (c .rows-of .ensures, search needs, refl, refl, refl)
-
-mul-b : tie.Need-mul-b Inv-loop μ-loop Inv-boards μ-boards
-mul-b c = search needs
-
-array-copy-out-b : tie.Need-array-copy-out-b Inv-loop μ-loop Inv-boards μ-boards
-array-copy-out-b c = search needs
+μ-boards first count rows board₀ cell₀ boards₀ i₀ board cell boards i = rows - i
 
 searched-requires : tie.Need-searched-requires Inv-loop μ-loop Inv-boards μ-boards
 searched-requires c κs = search needs
 
+boards-holds : tie.Need-boards-holds Inv-loop μ-loop Inv-boards μ-boards
+unfolding foundIn
+boards-holds c =
+    let all : c .before .before .args .count - 0 ≡ c .before .before .args .count = omega arith in
+    (c .searched .ensures, search needs, refl, refl, rw all)
+
+searched-requires-2 : tie.Need-searched-requires-2 Inv-loop μ-loop Inv-boards μ-boards
+searched-requires-2 c κs = search needs
+
 loop-holds : tie.Need-loop-holds Inv-loop μ-loop Inv-boards μ-boards
 loop-holds c =
-    let o = c .before .before .before .boards in
-    (c .searched .ensures, search needs, o .inv .2, o .inv .3, refl)
-
-cast-mark-at : tie.Need-cast-mark-at Inv-loop μ-loop Inv-boards μ-boards
-cast-mark-at c = search needs
-
-mark-at-requires : tie.Need-mark-at-requires Inv-loop μ-loop Inv-boards μ-boards
-mark-at-requires c κs = search needs
-
-cast-board : tie.Need-cast-board Inv-loop μ-loop Inv-boards μ-boards
-cast-board c = search needs
+    let o = c .before .before .boards in
+    let first = c .before .before .before .before .before .args .first in
+    let all : first .count - 0 ≡ first .count = omega arith in
+    (c .searched2 .ensures, search needs, o .inv .2, o .inv .3, rw all)
 
 add-board : tie.Need-add-board Inv-loop μ-loop Inv-boards μ-boards
 add-board c = search needs
@@ -69,12 +60,13 @@ loop-less c = search needs
 
 loop-again : tie.Need-loop-again Inv-loop μ-loop Inv-boards μ-boards
 loop-again c =
-    let h = c .before .before .before in
-    let o = h .before .before .before .before in
-    let b = getD (o .before .before .args .t1) (o .boards .i) blank in
-    let in-count : h .loop .j < b .count = omega (arith, searched-within b, h .loop .inv .0) in
-    let on = cell-turn b (h .loop .j) in-count in
-    (h .loop .inv .0, search needs, h .loop .inv .2, h .loop .inv .3, h .loop .inv .4 ∙ on ∙ rw (← (c .before .mark-at .ensures), c .if1 .left))
+    let h = c .before .before in
+    let o = h .before .before .before in
+    let first = o .before .before .before .args .first in
+    let boards = o .boards .boards in
+    let on : h .loop .j < cond (eqb (boards % 2) 1) (first .count) 0 = omega (arith, h .loop .inv .0) in
+    let w = within (eqb (boards % 2) 1) (first .count) (h .loop .j) on in
+    (h .loop .inv .0, search needs, h .loop .inv .2, h .loop .inv .3, h .loop .inv .4 ∙ lowest-next (h .loop .j + 1) (first .count) (h .loop .flags) (h .loop .j) (w .1) ∙ rw (ne-eqb _ _ (c .if1 .left)))
 
 add-i : tie.Need-add-i Inv-loop μ-loop Inv-boards μ-boards
 add-i c = search needs
@@ -85,39 +77,34 @@ boards-less c = search needs
 boards-again : tie.Need-boards-again Inv-loop μ-loop Inv-boards μ-boards
 boards-again c =
     let h = c .before in
-    let o = h .before .before .before .before in
-    let a = o .before .before .args in
-    let here : o .boards .i < a .n = search needs in
-    let within : o .boards .i < length (a .t1) = search needs in
-    let b = getD (a .t1) (o .boards .i) blank in
-    let over : searchedOf b ≤ h .loop .j = omega (arith, h .loop .inv .0) in
-    let none : lowestFlagged b ≡ 0 = search-none b (h .loop .j) over (h .loop .inv .4) in (
-      search needs,
+    let o = h .before .before .before in
+    let a = o .before .before .before .args in
+    let going : o .boards .i < cond (not (eqb (a .first .boards) 0)) (a .count) 0 = omega (arith, o .boards .inv .0) in
+    let w = within (not (eqb (a .first .boards) 0)) (a .count) (o .boards .i) going in
+    let over : cond (eqb (o .boards .boards % 2) 1) (a .first .count) 0 ≤ h .loop .j = omega (arith, h .loop .inv .0) in (
+      o .boards .inv .0,
       search needs,
       h .loop .inv .2,
       h .loop .inv .3,
-      o .boards .inv .4 ∙ first-turn (a .t1) (a .n) (o .boards .i) here within ∙ rw none,
+      o .boards .inv .4 ∙ board-passed (a .first) (a .count) (o .boards .boards) (o .boards .i) (h .loop .flags) (h .loop .j) (w .1) over (h .loop .inv .4),
     )
 
 returns : tie.Need-returns Inv-loop μ-loop Inv-boards μ-boards
 returns c =
     let o = c .before in
-    let a = o .before .before .args in
-    let past : min (a .n) (length (a .t1)) ≤ o .boards .i = search needs in
-    rw (o .boards .inv .2, o .boards .inv .3) (sym (o .boards .inv .4 ∙ first-none (a .t1) (a .n) (o .boards .i) (o .boards .i + 1) past))
+    let a = o .before .before .before .args in
+    let over : cond (not (eqb (a .first .boards) 0)) (a .count) 0 ≤ o .boards .i = omega (arith, o .boards .inv .0) in
+    rw (o .boards .inv .2, o .boards .inv .3) (sym (search-over (a .first) (a .count) (o .boards .boards) (o .boards .i) over (o .boards .inv .4)))
 
 returns-2 : tie.Need-returns-2 Inv-loop μ-loop Inv-boards μ-boards
 returns-2 c =
-    let h = c .before .before .before in
-    let o = h .before .before .before .before in
-    let a = o .before .before .args in
-    let here : o .boards .i < a .n = search needs in
-    let within : o .boards .i < length (a .t1) = search needs in
-    let b = getD (a .t1) (o .boards .i) blank in
-    let in-count : h .loop .j < b .count = omega (arith, searched-within b, h .loop .inv .0) in
-    let on = cell-turn b (h .loop .j) in-count in
-    let low : lowestFlagged b ≡ h .loop .j + 1 = h .loop .inv .4 ∙ on ∙ rw (← (c .before .mark-at .ensures), c .if1 .taken) in
-    sym (o .boards .inv .4 ∙ first-turn (a .t1) (a .n) (o .boards .i) here within ∙ rw (low, ne-eqb (h .loop .j + 1) 0 (λ e. omega arith)))
+    let h = c .before .before in
+    let o = h .before .before .before in
+    let a = o .before .before .before .args in
+    let going : o .boards .i < cond (not (eqb (a .first .boards) 0)) (a .count) 0 = omega (arith, o .boards .inv .0) in
+    let w = within (not (eqb (a .first .boards) 0)) (a .count) (o .boards .i) going in
+    let on : h .loop .j < cond (eqb (o .boards .boards % 2) 1) (a .first .count) 0 = omega (arith, h .loop .inv .0) in
+    sym (search-done (a .first) (a .count) (o .boards .boards) (o .boards .i) (h .loop .flags) (h .loop .j) (w .1) on (eq-eqb _ _ (c .if1 .taken)) (o .boards .inv .4) (h .loop .inv .4))
 
 pub first-flagged-spec : {M : Type 1} → statement M
 first-flagged-spec =
@@ -127,15 +114,10 @@ first-flagged-spec =
     μ-loop
     Inv-boards
     μ-boards
-    rows-of-requires
-    boards-holds
-    mul-b
-    array-copy-out-b
     searched-requires
+    boards-holds
+    searched-requires-2
     loop-holds
-    cast-mark-at
-    mark-at-requires
-    cast-board
     add-board
     add-cell
     add-j

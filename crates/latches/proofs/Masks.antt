@@ -1,0 +1,67 @@
+-- The latches and the switches by a mask of the byte: a test that computes, over every byte.
+-- Assumes nothing.
+use Prim.Native.Nat.{ℕ, zero, suc, _<_}
+use native.Mathlib.Nat.{not-suc-le-zero}
+use native.Mathlib.Omega.{arith}
+use mathlib.Core.Path.{_≡_, refl, sym, subst}
+use mathlib.Core.Bool.{Bool, true, false, true≢false, not, _&&_}
+use lib.Bits.{bitAnd}
+use lib.Dec.{eqb}
+use borrow.Author.Tests.{eqb-true, eqb-false}
+use Rattle.lists.proofs.Split.{split, both}
+use Rattle.latches.specs.Latches.{anyLatch, chgOn, dsgOn, latchesOf}
+
+-- what the three masks say of a byte
+abbrev Right : ℕ → Type 0
+Right byte =
+    (not (eqb (bitAnd byte 31) 0) ≡ anyLatch (latchesOf byte)) × (eqb (bitAnd byte 23) 0 ≡ chgOn (latchesOf byte)) × (eqb (bitAnd byte 27) 0 ≡ dsgOn (latchesOf byte))
+
+-- the same as a test
+abbrev same : Bool → Bool → Bool
+same true b = b
+same false b = not b
+
+same-so : (a b : Bool) → same a b ≡ true → a ≡ b
+same-so true b e = sym e
+same-so false false e = refl
+same-so false true e = absurd (true≢false (sym e))
+
+abbrev any-right : ℕ → Bool
+any-right byte = same (not (eqb (bitAnd byte 31) 0)) (anyLatch (latchesOf byte))
+
+abbrev chg-right : ℕ → Bool
+chg-right byte = same (eqb (bitAnd byte 23) 0) (chgOn (latchesOf byte))
+
+abbrev dsg-right : ℕ → Bool
+dsg-right byte = same (eqb (bitAnd byte 27) 0) (dsgOn (latchesOf byte))
+
+abbrev right : ℕ → Bool
+right byte = any-right byte && (chg-right byte && dsg-right byte)
+
+right-so : (byte : ℕ) → right byte ≡ true → Right byte
+right-so byte t =
+    let h = both (any-right byte) (chg-right byte && dsg-right byte) t in
+    let k = both (chg-right byte) (dsg-right byte) (h .1) in
+    (same-so _ _ (h .0), same-so _ _ (k .0), same-so _ _ (k .1))
+
+-- the masks are right of every byte below n
+unfoldable right-below : ℕ → Bool
+right-below zero = true
+right-below (suc n) = right n && right-below n
+
+below : (x n : ℕ) → x < suc n → (x ≡ n → ⊥) → x < n
+below x n p other = omega (arith, other)
+
+right-at : (n : ℕ) → right-below n ≡ true → (x : ℕ) → x < n → Right x
+unfolding right-below
+right-at zero t x p = absurd (not-suc-le-zero p)
+right-at (suc n) t x p =
+    let h = both (right n) (right-below n) t in
+    split (eqb x n) (λ e. subst Right (sym (eqb-true x n e)) (right-so n (h .0))) (λ e. right-at n (h .1) x (below x n p (eqb-false x n e)))
+
+all-right : right-below 256 ≡ true
+unfolding right-below
+all-right = refl
+
+pub masks-right : (byte : ℕ) → byte < 256 → Right byte
+masks-right = right-at 256 all-right
