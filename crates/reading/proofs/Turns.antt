@@ -133,6 +133,22 @@ unfolding number marks
 marks-none zero = refl
 marks-none (suc n) = rw (marks-none n)
 
+-- the board sought stays where there is one, or where the next has no flag
+pub first-stays : (first : First) (at : ℕ) (s : Summary) → (not (eqb (first .boards) 0) || eqb (s .flags) 0) ≡ true → first ≡ firstWith first at s
+first-stays first at s h = by (eqb (first .boards) 0) refl h
+  where
+    by : (t : Bool) → eqb (first .boards) 0 ≡ t → (not t || eqb (s .flags) 0) ≡ true → first ≡ firstWith first at s
+    by true e f = rw (e, eqb-true (s .flags) 0 f, marks-none (s .count))
+    by false e f = rw e
+
+-- it may change where there is none
+pub none-first : (first : First) (s : Summary) → (not (eqb (first .boards) 0) || eqb (s .flags) 0) ≡ false → eqb (first .boards) 0 ≡ true
+none-first first s h = by (eqb (first .boards) 0) h
+  where
+    by : (t : Bool) → (not t || eqb (s .flags) 0) ≡ false → t ≡ true
+    by true e = refl
+    by false e = sym e
+
 pub up-none : (n : ℕ) → up (marks n 0) ≡ false
 unfolding up marks
 up-none zero = refl

@@ -105,7 +105,7 @@ fn first_with(first: First, at: usize, s: Summary) -> First
     requires { ⌜ at < 16 ⌝ }
     ensures { λ r. ⌜ r ≡ firstWith first at s ⌝ }
 {
-    if first.boards != 0 {
+    if (first.boards != 0) | (s.flags == 0) {
         return first;
     }
     if is_flagged(s) {
