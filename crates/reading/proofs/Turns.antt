@@ -128,10 +128,14 @@ pub marks-all : (n x : ℕ) → x < 65536 → 16 ≤ n → number (marks n x) �
 marks-all n x small p = marks-mod n x ∙ mod-eq-of-lt (lt-of-lt-of-le small (pow-mono p))
 
 -- no cell of none
-pub marks-none : (n : ℕ) → number (marks n 0) ≡ 0
+marks-none : (n : ℕ) → number (marks n 0) ≡ 0
 unfolding number marks
 marks-none zero = refl
 marks-none (suc n) = rw (marks-none n)
+
+-- a board without flags is nowhere to seek
+pub unflagged-with : (first : First) (at : ℕ) (x : Summary) → x .flags ≡ 0 → firstWith first at x ≡ first
+unflagged-with first at x none = rw (none, marks-none (x .count)) (split (eqb (first .boards) 0) (λ e. rw e) (λ e. rw e))
 
 pub up-none : (n : ℕ) → up (marks n 0) ≡ false
 unfolding up marks
