@@ -128,26 +128,14 @@ pub marks-all : (n x : ℕ) → x < 65536 → 16 ≤ n → number (marks n x) �
 marks-all n x small p = marks-mod n x ∙ mod-eq-of-lt (lt-of-lt-of-le small (pow-mono p))
 
 -- no cell of none
-pub marks-none : (n : ℕ) → number (marks n 0) ≡ 0
+marks-none : (n : ℕ) → number (marks n 0) ≡ 0
 unfolding number marks
 marks-none zero = refl
 marks-none (suc n) = rw (marks-none n)
 
--- the board sought stays where there is one, or where the next has no flag
-pub first-stays : (first : First) (at : ℕ) (s : Summary) → (not (eqb (first .boards) 0) || eqb (s .flags) 0) ≡ true → first ≡ firstWith first at s
-first-stays first at s h = by (eqb (first .boards) 0) refl h
-  where
-    by : (t : Bool) → eqb (first .boards) 0 ≡ t → (not t || eqb (s .flags) 0) ≡ true → first ≡ firstWith first at s
-    by true e f = rw (e, eqb-true (s .flags) 0 f, marks-none (s .count))
-    by false e f = rw e
-
--- it may change where there is none
-pub none-first : (first : First) (s : Summary) → (not (eqb (first .boards) 0) || eqb (s .flags) 0) ≡ false → eqb (first .boards) 0 ≡ true
-none-first first s h = by (eqb (first .boards) 0) h
-  where
-    by : (t : Bool) → (not t || eqb (s .flags) 0) ≡ false → t ≡ true
-    by true e = refl
-    by false e = sym e
+-- a board without flags is nowhere to seek
+pub unflagged-with : (first : First) (at : ℕ) (x : Summary) → x .flags ≡ 0 → firstWith first at x ≡ first
+unflagged-with first at x none = rw (none, marks-none (x .count)) (split (eqb (first .boards) 0) (λ e. rw e) (λ e. rw e))
 
 pub up-none : (n : ℕ) → up (marks n 0) ≡ false
 unfolding up marks

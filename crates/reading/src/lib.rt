@@ -83,11 +83,8 @@ pub fn none_seen() -> Seen
 fn is_flagged(s: Summary) -> bool
     ensures { λ r. ⌜ r ≡ isFlagged s ⌝ }
 {
-    if s.flags == 0 {
-        return false;
-    }
     if 16 <= s.count {
-        return true;
+        return s.flags != 0;
     }
     s.flags % (1 << s.count) != 0
 }
@@ -105,7 +102,10 @@ fn first_with(first: First, at: usize, s: Summary) -> First
     requires { ⌜ at < 16 ⌝ }
     ensures { λ r. ⌜ r ≡ firstWith first at s ⌝ }
 {
-    if (first.boards != 0) | (s.flags == 0) {
+    if s.flags == 0 {
+        return first;
+    }
+    if first.boards != 0 {
         return first;
     }
     if is_flagged(s) {
