@@ -131,16 +131,17 @@ pub fn accept(b: Board, x: Readings, mv: &[u32]) -> Stepped
         x,
         latches::latches_of(b.latches),
     );
+    let byte = latches::byte_of(latches);
     let cells = swept.cells;
     let mut next = b;
-    next.latches = latches::byte_of(latches);
+    next.latches = byte;
     next.flags = swept.flags;
     next.currents = currents;
     next.cells = cells;
     Stepped {
         board: next,
         answer: Answer::Sampled {
-            status: latches::status_of(latches),
+            status: latches::status_of(byte),
             bled: swept.bled,
         },
     }

@@ -45,8 +45,6 @@ use Rattle.cells.proofs.all_readable.Reads as cells-all-readable
 use Rattle.cells.proofs.calm.Reads as cells-calm
 use Rattle.cells.proofs.fresh_cells.Reads as cells-fresh-cells
 use Rattle.latches.proofs.latches_of.Reads as latches-latches-of
-use Rattle.latches.proofs.chg_of.Reads as latches-chg-of
-use Rattle.latches.proofs.dsg_of.Reads as latches-dsg-of
 use Rattle.latches.proofs.any_latch.Reads as latches-any-latch
 use Rattle.latches.proofs.chg_on.Reads as latches-chg-on
 use Rattle.latches.proofs.dsg_on.Reads as latches-dsg-on
@@ -181,12 +179,6 @@ cells-fresh-cells-one κs a r t s u = agree
 -- ---- latches
 pub latches-latches-of-one : (κs : _) (a : _) (r t : _) (s u : _) → latches-latches-of.Learnt κs a r s → latches-latches-of.Learnt κs a t u → r ≡ t
 latches-latches-of-one κs a r t s u = agree
-
-pub latches-chg-of-one : (κs : _) (a : _) (r t : _) (s u : _) → latches-chg-of.Learnt κs a r s → latches-chg-of.Learnt κs a t u → r ≡ t
-latches-chg-of-one κs a r t s u = agree
-
-pub latches-dsg-of-one : (κs : _) (a : _) (r t : _) (s u : _) → latches-dsg-of.Learnt κs a r s → latches-dsg-of.Learnt κs a t u → r ≡ t
-latches-dsg-of-one κs a r t s u = agree
 
 pub latches-any-latch-one : (κs : _) (a : _) (r t : _) (s u : _) → latches-any-latch.Learnt κs a r s → latches-any-latch.Learnt κs a t u → r ≡ t
 latches-any-latch-one κs a r t s u = agree

@@ -1,6 +1,6 @@
--- The latches and the switches by a mask of the byte: a test that computes, over every byte.
+-- The latches and the switches by a mask of the byte, and the byte without its upper bits: a test that computes, over every byte.
 -- Assumes nothing.
-use Prim.Native.Nat.{ℕ, zero, suc, _<_}
+use Prim.Native.Nat.{ℕ, zero, suc, _%_, _<_}
 use native.Mathlib.Nat.{not-suc-le-zero}
 use native.Mathlib.Omega.{arith}
 use mathlib.Core.Path.{_≡_, refl, sym, subst}
@@ -9,12 +9,16 @@ use lib.Bits.{bitAnd}
 use lib.Dec.{eqb}
 use borrow.Author.Tests.{eqb-true, eqb-false}
 use Rattle.lists.proofs.Split.{split, both}
-use Rattle.latches.specs.Latches.{anyLatch, chgOn, dsgOn, latchesOf}
+use Rattle.marks.specs.Marks.{number}
+use Rattle.latches.specs.Latches.{anyLatch, chgOn, dsgOn, latchesOf, latchesByte}
 
--- what the three masks say of a byte
+-- what the three masks say of a byte, and what its lower five bits do
 abbrev Right : ℕ → Type 0
 Right byte =
-    (not (eqb (bitAnd byte 31) 0) ≡ anyLatch (latchesOf byte)) × (eqb (bitAnd byte 23) 0 ≡ chgOn (latchesOf byte)) × (eqb (bitAnd byte 27) 0 ≡ dsgOn (latchesOf byte))
+    (not (eqb (bitAnd byte 31) 0) ≡ anyLatch (latchesOf byte))
+    × (eqb (bitAnd byte 23) 0 ≡ chgOn (latchesOf byte))
+    × (eqb (bitAnd byte 27) 0 ≡ dsgOn (latchesOf byte))
+    × (byte % 32 ≡ latchesByte (latchesOf byte))
 
 -- the same as a test
 abbrev same : Bool → Bool → Bool
@@ -35,14 +39,18 @@ chg-right byte = same (eqb (bitAnd byte 23) 0) (chgOn (latchesOf byte))
 abbrev dsg-right : ℕ → Bool
 dsg-right byte = same (eqb (bitAnd byte 27) 0) (dsgOn (latchesOf byte))
 
+abbrev low-right : ℕ → Bool
+low-right byte = eqb (byte % 32) (latchesByte (latchesOf byte))
+
 abbrev right : ℕ → Bool
-right byte = any-right byte && (chg-right byte && dsg-right byte)
+right byte = any-right byte && (chg-right byte && (dsg-right byte && low-right byte))
 
 right-so : (byte : ℕ) → right byte ≡ true → Right byte
 right-so byte t =
-    let h = both (any-right byte) (chg-right byte && dsg-right byte) t in
-    let k = both (chg-right byte) (dsg-right byte) (h .1) in
-    (same-so _ _ (h .0), same-so _ _ (k .0), same-so _ _ (k .1))
+    let h = both (any-right byte) (chg-right byte && (dsg-right byte && low-right byte)) t in
+    let k = both (chg-right byte) (dsg-right byte && low-right byte) (h .1) in
+    let l = both (dsg-right byte) (low-right byte) (k .1) in
+    (same-so _ _ (h .0), same-so _ _ (k .0), same-so _ _ (l .0), eqb-true (byte % 32) (latchesByte (latchesOf byte)) (l .1))
 
 -- the masks are right of every byte below n
 unfoldable right-below : ℕ → Bool
@@ -60,7 +68,7 @@ right-at (suc n) t x p =
     split (eqb x n) (λ e. subst Right (sym (eqb-true x n e)) (right-so n (h .0))) (λ e. right-at n (h .1) x (below x n p (eqb-false x n e)))
 
 all-right : right-below 256 ≡ true
-unfolding right-below
+unfolding right-below latchesByte number
 all-right = refl
 
 pub masks-right : (byte : ℕ) → byte < 256 → Right byte

@@ -1,18 +1,14 @@
 -- The latches as the low five bits of register 0.
 -- Assumes nothing.
-use Prim.Native.Nat.{_+_, _*_, _<_}
+use Prim.Native.Nat.{_+_, _*_}
 use native.Mathlib.Omega.{arith}
 use mathlib.Core.Path.{_≡_}
 use mathlib.Core.Bool.{Bool}
 use mathlib.Core.List.{List, [], _∷_}
 use Rattle.marks.specs.Marks.{bit, number}
-use Rattle.marks.proofs.Laws.{number-below, number-at}
+use Rattle.marks.proofs.Laws.{number-at}
 use Rattle.latches.specs.declared.Latches.{Latches}
 use Rattle.latches.specs.Latches.{chgOn, dsgOn, register0, latchesByte, latchesOf}
-
-pub byte-below : (t : Latches) → latchesByte t < 32
-unfolding latchesByte
-byte-below t = number-below (t .scd ∷ t .ocd ∷ t .ov ∷ t .uv ∷ t .ot ∷ [])
 
 pub byte-sum : (t : Latches) → latchesByte t ≡ bit (t .scd) + 2 * bit (t .ocd) + 4 * bit (t .ov) + 8 * bit (t .uv) + 16 * bit (t .ot)
 unfolding latchesByte number

@@ -25,19 +25,7 @@ pub fn latches_of(byte: u8) -> Latches
     }
 }
 
-pub fn chg_of(t: Latches) -> bool
-    ensures { λ r. ⌜ r ≡ chgOn t ⌝ }
-{
-    !(t.ov | t.ocd | t.scd | t.ot)
-}
-
-pub fn dsg_of(t: Latches) -> bool
-    ensures { λ r. ⌜ r ≡ dsgOn t ⌝ }
-{
-    !(t.uv | t.ocd | t.scd | t.ot)
-}
-
-// The same of the byte that a board keeps, by a mask for each.
+// A board keeps its latches as a byte, and what follows from them is a mask of it.
 pub fn any_latch(byte: u8) -> bool
     ensures { λ r. ⌜ r ≡ anyLatch (latchesOf byte) ⌝ }
 {
@@ -69,11 +57,11 @@ pub fn byte_of(t: Latches) -> u8
     bit_of(t.scd) + 2 * bit_of(t.ocd) + 4 * bit_of(t.ov) + 8 * bit_of(t.uv) + 16 * bit_of(t.ot)
 }
 
-// Register 0: the latches, then DSG and CHG.
-pub fn status_of(t: Latches) -> u8
-    ensures { λ r. ⌜ r ≡ register0 t ⌝ }
+// Register 0 of the byte that a board keeps: the latches, then DSG and CHG.
+pub fn status_of(byte: u8) -> u8
+    ensures { λ r. ⌜ r ≡ register0 (latchesOf byte) ⌝ }
 {
-    byte_of(t) + 64 * bit_of(dsg_of(t)) + 128 * bit_of(chg_of(t))
+    byte % 32 + 64 * bit_of(dsg_on(byte)) + 128 * bit_of(chg_on(byte))
 }
 
 pub fn latch_next(latched: bool, stands: bool, lets_go: bool) -> bool

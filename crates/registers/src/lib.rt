@@ -40,7 +40,7 @@ fn read_value(b: Board, register: u8) -> u8
     ensures { λ r. ⌜ r ≡ readValue b register ⌝ }
 {
     match register {
-        0 => latches::status_of(latches::latches_of(b.latches)),
+        0 => latches::status_of(b.latches),
         11 => b.cycles,
         _ => b.working.byte(register),
     }

@@ -1,4 +1,5 @@
-use Rattle.board.specs.Sample.{acceptedOf, boardNext}
+use Rattle.latches.proofs.Packed.{latches-kept}
+use Rattle.board.specs.Sample.{acceptedOf, latchesAfter, boardNext}
 use borrow.Author.Needs.{needs}
 use Rattle.board.proofs.accept.Statement.{statement}
 use Rattle.board.proofs.accept.Tie as tie
@@ -24,12 +25,13 @@ status-of-requires c κs = search needs
 returns : tie.Need-returns
 unfolding acceptedOf boardNext
 returns c =
-    let c1 = c .before in
-    let c3 = c1 .before .before in
+    let c2 = c .before .before in
+    let c3 = c2 .before in
     let c4 = c3 .before in
     let c5 = c4 .before in
     let c6 = c5 .before in
-    rw (c .status-of .ensures, c1 .byte-of .ensures, c3 .latches-next .ensures, c4 .latches-of .ensures, c5 .currents-next .ensures, c6 .sweep .ensures)
+    let a = c6 .before .before .before .args in
+    rw (c .status-of .ensures, c2 .byte-of .ensures, c3 .latches-next .ensures, c4 .latches-of .ensures, c5 .currents-next .ensures, c6 .sweep .ensures, latches-kept (latchesAfter (a .b) (a .x) (a .mv .now)))
 
 pub accept-spec : {M : Type 1} → statement M
 accept-spec =

@@ -5,9 +5,6 @@ use borrow.Author.Needs.{needs}
 use Rattle.registers.proofs.read_value.Statement.{statement}
 use Rattle.registers.proofs.read_value.Tie as tie
 
-latches-of-requires : tie.Need-latches-of-requires
-latches-of-requires c κs = search needs
-
 status-of-requires : tie.Need-status-of-requires
 status-of-requires c κs = search needs
 
@@ -15,7 +12,7 @@ byte-requires : tie.Need-byte-requires
 byte-requires c κs = search needs
 
 returns : tie.Need-returns
-returns c = rw (c .before .before .match .keys1, c .status-of .ensures, c .before .latches-of .ensures)
+returns c = rw (c .before .match .keys1, c .status-of .ensures)
 
 returns-2 : tie.Need-returns-2
 returns-2 c = rw (c .match .keys2)
@@ -26,4 +23,4 @@ returns-3 c = rw (ne-eqb _ 0 (c .before .match .rest .0 .1), ne-eqb _ 11 (c .bef
 pub read-value-spec : {M : Type 1} → statement M
 read-value-spec =
     tie.close
-    (tie.spec latches-of-requires status-of-requires byte-requires returns returns-2 returns-3)
+    (tie.spec status-of-requires byte-requires returns returns-2 returns-3)
