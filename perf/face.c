@@ -139,8 +139,25 @@ static void ours_read(int i) { (void)i; sum += adomvik_read(ours, boards, &whole
 static void theirs_read(int i) { (void)i; sum += peer_read(theirs, boards, &whole); }
 
 /* a cycle spent at each call: the count goes back, and the staged byte is another than the working one */
-static void ours_spend(int i) { ours[0].cycles = 0; ours[0].staged.r6 = (uint8_t)i; ours[0].working.r6 = (uint8_t)(i + 1); ours_frame(i); }
-static void theirs_spend(int i) { theirs[0].cycles = 0; theirs[0].staged[0] = (uint8_t)i; theirs[0].working[0] = (uint8_t)(i + 1); theirs_frame(i); }
+static size_t addressed(int i) { return frames[i % KINDS][0] / 2 - 1u; }
+
+static void ours_spend(int i)
+{
+    adomvik_board *b = &ours[addressed(i)];
+    b->cycles = 0;
+    b->staged.r6 = (uint8_t)i;
+    b->working.r6 = (uint8_t)(i + 1);
+    ours_frame(i);
+}
+
+static void theirs_spend(int i)
+{
+    struct peer_board *b = &theirs[addressed(i)];
+    b->cycles = 0;
+    b->staged[0] = (uint8_t)i;
+    b->working[0] = (uint8_t)(i + 1);
+    theirs_frame(i);
+}
 
 static double nanoseconds(void (*act)(int))
 {
@@ -204,19 +221,25 @@ static void samples(void)
     }
 }
 
-static void other_acts(void)
+static void frames_in(size_t count)
 {
-    open_both(BOARDS);
-    set_frames(2, 0, 0);
-    time_both("frame, a read", ours_frame, theirs_frame);
-    set_frames(3, 9, 0x25);
-    time_both("frame, a staging write", ours_frame, theirs_frame);
-    open_both(BOARDS);
-    set_frames(3, 11, 0x41);
-    time_both("frame, programming equal", ours_frame, theirs_frame);
-    open_both(1);
-    set_frames(3, 11, 0x41);
-    time_both("frame, programming that spends", ours_spend, theirs_spend);
+    static const struct { const char *name; uint8_t address, reg, value; void (*one)(int), (*other)(int); } acts[] = {
+        {"a read", 2, 0, 0, ours_frame, theirs_frame},
+        {"a staging write", 3, 9, 0x25, ours_frame, theirs_frame},
+        {"programming equal", 3, 11, 0x41, ours_frame, theirs_frame},
+        {"programming that spends", 3, 11, 0x41, ours_spend, theirs_spend},
+    };
+    char name[80];
+    for (int k = 0; k < 4; k++) {
+        open_both(count);
+        set_frames(acts[k].address, acts[k].reg, acts[k].value);
+        snprintf(name, sizeof name, "frame in a row of %zu, %s", count, acts[k].name);
+        time_both(name, acts[k].one, acts[k].other);
+    }
+}
+
+static void readings_of_16(void)
+{
     open_both(BOARDS);
     time_both("reading of 16, quiet", ours_read, theirs_read);
     set_samples(CELLS);
@@ -276,7 +299,9 @@ int main(void)
 {
     same_answers();
     samples();
-    other_acts();
+    frames_in(1);
+    frames_in(BOARDS);
+    readings_of_16();
     stacks();
     printf("record: %zu %zu\n", sizeof(adomvik_board), sizeof(struct peer_board));
     return 0;

@@ -9,6 +9,7 @@ pub mod OverRow
 pub mod Through
 pub mod Beside
 pub mod Asked
+pub mod TwoWays
 pub mod EitherOne
 pub mod Chosen
 pub mod Looked

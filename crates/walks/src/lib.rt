@@ -65,5 +65,5 @@
 //                 g as g of LendAtPlain
 //
 // Under the theorems: Plain (plain types), Form (a function by the kinds of its parameters: its signature and contract, a call of it, how a walk of it begins and ends), Callee (the forms that
-// several shapes have or call), Steps (the MIR of the shapes in words, with one step for each), Walk (a row's arithmetic, the freeing of the locals), Lent (a lent row or record, lent on),
+// several shapes have or call), TwoWays (what EitherOne and Chosen share), Steps (the MIR of the shapes in words, with one step for each), Walk (a row's arithmetic, the freeing of the locals), Lent (a lent row or record, lent on),
 // LendArray (a local array, lent), OverRow (a loop over a shared row, left early or not: Every and Fold).

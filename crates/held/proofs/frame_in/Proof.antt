@@ -19,7 +19,6 @@ use contract.Running.{givenOf, tables, tablesOf}
 use types.Kit.{Given}
 use denote.Triple.Table.{entered, cited}
 use Rattle.walks.proofs.LendsFrame.{Shape, Knows, meets}
-use Rattle.stack.proofs.Known as rows
 use Rattle.held.proofs.Known as known
 use Rattle.stack.proofs.frame_stack.Symbol.{name as #frame-stack}
 use Rattle.stack.proofs.frame_stack.Met as frame-stack′

@@ -26,19 +26,21 @@ use Rattle.stack.proofs.change_board.Code as code
 abbrev shape : Shape
 shape =
     record {
-      T = Board.the-type;
-      X = Taken.the-row;
-      O = Reply.the-row;
+      ways = record {
+        T = Board.the-type;
+        X = Taken.the-row;
+        O = Reply.the-row;
+        f = #program-board;
+        h = #stage-board;
+        answer-f = λ b t. programmedBy b t .answer;
+        record-f = λ b t. programmedBy b t .board;
+        answer-h = λ b t. stagedBy b t .answer;
+        record-h = λ b t. stagedBy b t .board;
+        answer-in = λ b t. changedBy b t .answer;
+        record-in = λ b t. changedBy b t .board;
+      };
       test = #asks-programming;
-      f = #program-board;
-      h = #stage-board;
       is-so = asksProgramming;
-      answer-f = λ b t. programmedBy b t .answer;
-      record-f = λ b t. programmedBy b t .board;
-      answer-h = λ b t. stagedBy b t .answer;
-      record-h = λ b t. stagedBy b t .board;
-      answer-in = λ b t. changedBy b t .answer;
-      record-in = λ b t. changedBy b t .board;
     }
 
 abbrev knows : {M : Type 1} (𝓤 : URA M) (H : Heap 𝓤) (A : Atoms 𝓤) (W : Given 𝓤 H A) → Knows 𝓤 H A shape

@@ -26,19 +26,21 @@ use Rattle.stack.proofs.obey_board.Code as code
 abbrev shape : Shape
 shape =
     record {
-      T = Board.the-type;
-      X = Taken.the-row;
-      O = Reply.the-row;
+      ways = record {
+        T = Board.the-type;
+        X = Taken.the-row;
+        O = Reply.the-row;
+        f = #change-board;
+        h = #read-board;
+        answer-f = λ b t. changedBy b t .answer;
+        record-f = λ b t. changedBy b t .board;
+        answer-h = readReply;
+        record-h = λ b t. b;
+        answer-in = λ b t. obeyedOf b t .answer;
+        record-in = λ b t. obeyedOf b t .board;
+      };
       test = #asks-write;
-      f = #change-board;
-      h = #read-board;
       is-so = asksWrite;
-      answer-f = λ b t. changedBy b t .answer;
-      record-f = λ b t. changedBy b t .board;
-      answer-h = readReply;
-      record-h = λ b t. b;
-      answer-in = λ b t. obeyedOf b t .answer;
-      record-in = λ b t. obeyedOf b t .board;
     }
 
 abbrev knows : {M : Type 1} (𝓤 : URA M) (H : Heap 𝓤) (A : Atoms 𝓤) (W : Given 𝓤 H A) → Knows 𝓤 H A shape

@@ -26,19 +26,21 @@ use Rattle.stack.proofs.program_board.Code as code
 abbrev shape : Shape
 shape =
     record {
-      T = Board.the-type;
-      X = Taken.the-row;
-      O = Reply.the-row;
+      ways = record {
+        T = Board.the-type;
+        X = Taken.the-row;
+        O = Reply.the-row;
+        f = #spend-board;
+        h = #keep-board;
+        answer-f = λ b t. spentBy b t .answer;
+        record-f = λ b t. spentBy b t .board;
+        answer-h = keptReply;
+        record-h = λ b t. b;
+        answer-in = λ b t. programmedBy b t .answer;
+        record-in = λ b t. programmedBy b t .board;
+      };
       test = #spends-cycle;
-      f = #spend-board;
-      h = #keep-board;
       is-so = spendsCycle;
-      answer-f = λ b t. spentBy b t .answer;
-      record-f = λ b t. spentBy b t .board;
-      answer-h = keptReply;
-      record-h = λ b t. b;
-      answer-in = λ b t. programmedBy b t .answer;
-      record-in = λ b t. programmedBy b t .board;
     }
 
 abbrev knows : {M : Type 1} (𝓤 : URA M) (H : Heap 𝓤) (A : Atoms 𝓤) (W : Given 𝓤 H A) → Knows 𝓤 H A shape
