@@ -62,6 +62,7 @@ pub enum Taken {
     Refused(Refusal),
 }
 
+// What a frame comes to is made here and in `parts` alone, so that the compiled code keeps it in one word.
 fn refuse(why: Refusal) -> Taken
     ensures { λ o. ⌜ o ≡ Taken.Refused why ⌝ }
 {

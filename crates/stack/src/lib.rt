@@ -150,6 +150,7 @@ pub fn open_stack(counts: &[u32]) -> Start
 
 // ---- a sample
 
+// An accepted sample: the record is taken apart, stepped by value and stored back.
 fn accept_board(b: &mut Board, x: Readings, mv: &[u32]) -> Answer
     ensures { λ r. ⌜ (r ≡ acceptedOf (now (b .entry)) x (now (mv .entry)) .answer) × (now (b .exit) ≡ acceptedOf (now (b .entry)) x (now (mv .entry)) .board) ⌝ }
 {
@@ -203,6 +204,7 @@ pub fn sample_stack(row: &mut [Board], board: u32, x: Readings, mv: &[u32]) -> A
 
 // ---- a frame
 
+// The ways of a frame on one board: two that leave the record, and two that store.
 fn read_board(b: &mut Board, taken: Taken) -> Reply
     ensures { λ r. ⌜ (r ≡ readReply (now (b .entry)) taken) × (now (b .exit) ≡ now (b .entry)) ⌝ }
 {
@@ -231,6 +233,7 @@ fn stage_board(b: &mut Board, taken: Taken) -> Reply
     s.answer
 }
 
+// Which of them it goes: the board is asked only whether programming would spend a cycle.
 fn program_board(b: &mut Board, taken: Taken) -> Reply
     ensures { λ r. ⌜ (r ≡ programmedBy (now (b .entry)) taken .answer) × (now (b .exit) ≡ programmedBy (now (b .entry)) taken .board) ⌝ }
 {
