@@ -1,23 +1,20 @@
--- The numbers of the flagged and the bled cells, from the highest cell down.
+-- The number of the bled cells, from the highest cell down.
 -- Assumes nothing.
 use Prim.Native.Nat.{ℕ, zero, suc, _+_, _-_, _<_, _≤_}
-use native.Mathlib.Nat.{lt-of-lt-of-le}
+use native.Mathlib.Nat.{lt-of-lt-of-le, not-suc-le-zero}
 use native.Mathlib.Omega.{arith}
-use mathlib.Core.Path.{_≡_, refl, sym, ap}
+use mathlib.Core.Path.{_≡_, refl, sym, ap, _∙_}
 use mathlib.Core.Bool.{Bool, true, false, cond, not, _&&_}
 use mathlib.Core.List.{List, [], _∷_}
 use borrow.Author.Tests.{eqb-true, ne-eqb}
 use lib.Dec.{eqb}
-use lib.ListN.{length}
+use lib.ListN.{length, drop, length-drop, drop-of-length-le}
+use lib.Seq.{drop-cons}
 use lib.Pow.{pow-mono}
-use Rattle.lists.proofs.Split.{both}
-use Rattle.marks.specs.Marks.{number, lowest}
-use Rattle.marks.proofs.Laws.{marked-above, number-below, lowest-zero}
-use Rattle.cells.specs.declared.Flagged.{Flagged}
-use Rattle.cells.specs.Each.{each, some}
+use Rattle.marks.specs.Marks.{number, marked, marks, lowest}
+use Rattle.marks.proofs.Laws.{marks-length, marks-at, number-below, lowest-zero}
+use Rattle.cells.specs.Each.{some}
 use Rattle.cells.specs.Bleed.{next, bled, markNext}
-use Rattle.cells.specs.Cells.{cellCount, flagAt, flaggedBy}
-use Rattle.cells.proofs.Each.{each-length, each-down, each-none, each-same}
 
 -- a cell below others, and the number with it
 pub mark-turn : (b : Bool) (above : List Bool) → markNext b (number above) ≡ number (b ∷ above)
@@ -45,86 +42,56 @@ bled-length [] = refl
 bled-length (f ∷ flags) = ap suc (bled-length flags)
 
 -- where no cell is flagged none is bled
-pub none-number : (i n : ℕ) → number (each i n (λ _. false)) ≡ 0
-unfolding each number
-none-number i zero = refl
-none-number i (suc n) = rw (none-number (suc i) n)
+none-bled : (n : ℕ) → number (bled (marks n 0)) ≡ 0
+unfolding marks bled number
+none-bled zero = refl
+none-bled (suc n) = rw (none-bled n)
 
-pub none-bled : (i n : ℕ) → bled (each i n (λ _. false)) ≡ each i n (λ _. false)
-unfolding each bled
-none-bled i zero = refl
-none-bled i (suc n) = rw (none-bled (suc i) n)
+none-next : (n : ℕ) → next (bled (marks n 0)) ≡ false
+unfolding marks bled
+none-next zero = refl
+none-next (suc n) = refl
 
-none-next : (i n : ℕ) → next (each i n (λ _. false)) ≡ false
-unfolding each
-none-next i zero = refl
-none-next i (suc n) = refl
+module _ (flags n : ℕ) where
+  -- what the pass holds with the cells from place i up behind it: the bled ones, and whether the last one bleeds
+  pub record Bled (i out : ℕ) (bleeds : Bool) : Type 0 where
+    pub in-out : out ≡ number (bled (drop i (marks n flags)))
+    pub in-bleeds : bleeds ≡ next (bled (drop i (marks n flags)))
 
-module _ (release stands flags : ℕ) (mv : List ℕ) (n : ℕ) where
-  abbrev F : ℕ → Bool
-  F = flagAt release stands flags mv
-
-  -- what the pass holds with the cells from place i up behind it: the flagged and the bled ones, and whether the last one bleeds
-  pub record Marked (i flagged bleed : ℕ) (bleeds : Bool) : Type 0 where
-    pub in-flags : flagged ≡ number (each i (n - i) F)
-    pub in-bled : bleed ≡ number (bled (each i (n - i) F))
-    pub in-bleeds : bleeds ≡ next (bled (each i (n - i) F))
-
-  abbrev nothing-there : Bool
-  nothing-there = eqb stands 0 && eqb flags 0
-
-  -- the pass starts within the cells
-  pub starts-within : cond nothing-there 0 n ≤ n
-  starts-within = by nothing-there where
+  -- the search starts within the cells
+  pub search-within : cond (eqb flags 0) 0 n ≤ n
+  search-within = by (eqb flags 0) where
     by : (t : Bool) → cond t 0 n ≤ n
     by true = omega arith
     by false = omega arith
 
-  none-flagged : nothing-there ≡ true → each 0 (n - 0) F ≡ each 0 n (λ _. false)
-  none-flagged e =
-      let none = both (eqb stands 0) (eqb flags 0) e in
-      let stood-none = eqb-true stands 0 (none .0) in
-      let flagged-none = eqb-true flags 0 (none .1) in
-      let all : n - 0 ≡ n = omega arith in
-      rw all (each-same F (λ _. false) 0 n (λ k p. rw (stood-none, flagged-none, marked-above 0 0 k (omega arith) (omega arith))))
-
-  -- at its start, which is the end where there is nothing to look for
-  pub marked-start : Marked (cond nothing-there 0 n) 0 0 false
+  -- at its start, which is the end where no cell is flagged
+  pub bled-start : Bled (cond (eqb flags 0) 0 n) 0 false
   unfolding bled number
-  marked-start = by nothing-there refl where
-    by : (t : Bool) → nothing-there ≡ t → Marked (cond t 0 n) 0 0 false
-    by true e =
-        let none = none-flagged e in
-        record {
-          in-flags = rw none (sym (none-number 0 n));
-          in-bled = rw (none, none-bled 0 n) (sym (none-number 0 n));
-          in-bleeds = rw (none, none-bled 0 n) (sym (none-next 0 n));
-        }
-    by false e = record { in-flags = rw (each-none F n); in-bled = rw (each-none F n); in-bleeds = rw (each-none F n) }
+  bled-start = by (eqb flags 0) refl where
+    by : (t : Bool) → eqb flags 0 ≡ t → Bled (cond t 0 n) 0 false
+    by true e = let z = eqb-true flags 0 e in record { in-out = rw z (sym (none-bled n)); in-bleeds = rw z (sym (none-next n)) }
+    by false e =
+        let past : drop n (marks n flags) ≡ [] = drop-of-length-le (marks n flags) {i = n} (rw (marks-length n flags) (omega arith)) in
+        record { in-out = rw past; in-bleeds = rw past }
 
   -- one cell further down
-  pub marked-turn : {i flagged bleed : ℕ} {bleeds : Bool} (flag : Bool) → Marked i flagged bleed bleeds → flag ≡ F (i - 1) → 0 < i → i ≤ n
-      → Marked (i - 1) (markNext flag flagged) (markNext (flag && not bleeds) bleed) (flag && not bleeds)
+  pub bled-turn : {i out : ℕ} {bleeds : Bool} (b : Bool) → Bled i out bleeds → b ≡ (marked flags (i - 1) && not bleeds) → 0 < i → i ≤ n → Bled (i - 1) (markNext b out) b
   unfolding bled
-  marked-turn {i} flag g e p q =
-      let rest = each i (n - i) F in
+  bled-turn {i = zero} b g e p q = absurd (not-suc-le-zero p)
+  bled-turn {i = suc j} b g e p q =
+      let F = marks n flags in
+      let back : suc j - 1 ≡ j = omega arith in
+      let here : drop j F ≡ marked flags j ∷ drop (suc j) F = drop-cons F j false (rw (marks-length n flags) (omega arith)) ∙ rw (marks-at n flags j (omega arith)) in
+      let is-bled : b ≡ (marked flags j && not (next (bled (drop (suc j) F)))) = rw (g .in-bleeds, back) at e in
       record {
-        in-flags = rw (each-down F i n p q, e, g .in-flags) (mark-turn (F (i - 1)) rest);
-        in-bled = rw (each-down F i n p q, e, g .in-bleeds, g .in-bled) (mark-turn (F (i - 1) && not (next (bled rest))) (bled rest));
-        in-bleeds = rw (each-down F i n p q, e, g .in-bleeds);
+        in-out = rw (back, here, ← is-bled, g .in-out) (mark-turn b (bled (drop (suc j) F)));
+        in-bleeds = rw (back, here) is-bled;
       }
 
-  -- both are numbers of up to ten cells
-  pub few-flagged : {i flagged bleed : ℕ} {bleeds : Bool} → Marked i flagged bleed bleeds → n ≤ 10 → flagged < 1024
-  few-flagged {i} g h = rw (g .in-flags) (below-ten (each i (n - i) F) (rw (each-length F i (n - i)) (omega arith)))
+  pub bled-done : {i out : ℕ} {bleeds : Bool} → Bled i out bleeds → i ≡ 0 → out ≡ number (bled (marks n flags))
+  bled-done g z = g .in-out ∙ rw z
 
-  pub few-bled : {i flagged bleed : ℕ} {bleeds : Bool} → Marked i flagged bleed bleeds → n ≤ 10 → bleed < 1024
-  few-bled {i} g h = rw (g .in-bled) (below-ten (bled (each i (n - i) F)) (rw (bled-length, each-length F i (n - i)) (omega arith)))
-
--- with every cell behind it
-pub marked-done : (release stands flags : ℕ) (mv : List ℕ) {i flagged bleed : ℕ} {bleeds : Bool} → Marked release stands flags mv (cellCount mv) i flagged bleed bleeds → i ≡ 0
-    → _≡_ {A = Flagged} (record { flags = flagged; bled = bleed }) (flaggedBy release stands flags mv)
-unfolding flaggedBy
-marked-done release stands flags mv {i} g z =
-    let all : cellCount mv - i ≡ cellCount mv = omega arith in
-    rw (g .in-flags, g .in-bled, all, z)
+  pub few-bled : {i out : ℕ} {bleeds : Bool} → Bled i out bleeds → n ≤ 10 → out < 1024
+  few-bled {i} g h =
+      rw (g .in-out) (below-ten (bled (drop i (marks n flags))) (rw (bled-length, length-drop i (marks n flags), marks-length n flags) (omega arith)))

@@ -1,22 +1,21 @@
 -- One pass over the cells, from the highest down: what it has gathered, and one cell more.
 -- Assumes nothing.
-use Prim.Native.Nat.{ℕ, zero, suc, _-_, _<_, _≤_}
+use Prim.Native.Nat.{ℕ, zero, suc, _-_, _^_, _<_, _≤_}
 use native.Mathlib.Nat.{not-suc-le-zero, le-of-suc-le-suc}
 use native.Mathlib.Omega.{arith}
-use mathlib.Core.Path.{_≡_, refl, ap, _∙_}
+use mathlib.Core.Path.{_≡_, refl, ap, sym, _∙_}
 use mathlib.Core.Bool.{Bool, true, false, not, _&&_, _||_}
 use mathlib.Core.List.{List, [], _∷_, _++_}
 use lib.Dec.{ltb, eqb}
 use lib.ListN.{length, take, drop, set, take-append-drop, length-append, length-take, length-drop, List·getD-append}
 use lib.Seq.{getD-take}
 use Rattle.runs.specs.Kept.{runNext, stood}
-use Rattle.marks.specs.Marks.{number, marked}
-use Rattle.marks.proofs.Laws.{number-at}
+use Rattle.marks.specs.Marks.{number, marked, marks}
+use Rattle.marks.proofs.Laws.{number-at, number-below, marks-number}
 use Rattle.cells.specs.declared.Cell.{Cell}
-use Rattle.cells.specs.declared.Flagged.{Flagged}
 use Rattle.cells.specs.Each.{each, some, all}
-use Rattle.cells.specs.Bleed.{markNext}
-use Rattle.cells.specs.Cells.{cellBy, cellAt, readingAt, cellCount, flagAt, flaggedBy, Limits, nextAt, ovStoodAt, uvStoodAt, flaggedAt, sweepBy}
+use Rattle.cells.specs.Bleed.{bled, markNext}
+use Rattle.cells.specs.Cells.{cellBy, cellAt, readingAt, cellCount, flagAt, Limits, nextAt, ovStoodAt, uvStoodAt, flaggedAt, sweepBy}
 use Rattle.cells.proofs.Each.{each-length, each-place, each-down, each-none, each-same, set-front}
 use Rattle.cells.proofs.Bleed.{mark-turn, below-ten, some-number}
 
@@ -31,35 +30,37 @@ stored-cell (c ∷ cells) (suc k) ov uv p = ap (λ (l : List Cell). c ∷ l) (st
 
 module _ (l : Limits) (elapsed : ℕ) (cells : List Cell) (flags : ℕ) (mv : List ℕ) (n : ℕ) where
   -- what the pass holds with the cells from place i up behind it
-  pub record Gathered (i : ℕ) (next : List Cell) (standing : ℕ) (ovLets uvStood uvLets : Bool) : Type 0 where
+  pub record Gathered (i : ℕ) (next : List Cell) (standing lower : ℕ) (ovLets uvStood uvLets : Bool) : Type 0 where
     pub in-cells : next ≡ take i cells ++ (each i (n - i) (nextAt l elapsed cells flags mv) ++ drop n cells)
     pub in-ov : standing ≡ number (each i (n - i) (ovStoodAt l elapsed cells flags mv))
+    pub in-low : lower ≡ number (each i (n - i) (λ k. ltb (readingAt mv k) (l .ovRelease)))
     pub in-ov-lets : ovLets ≡ all (each i (n - i) (λ k. ltb (readingAt mv k) (l .ovRelease)))
     pub in-uv : uvStood ≡ some (each i (n - i) (uvStoodAt l elapsed cells flags mv))
     pub in-uv-lets : uvLets ≡ all (each i (n - i) (λ k. ltb (l .uvRelease) (readingAt mv k)))
 
   -- nothing yet
-  pub nothing : n ≤ length cells → Gathered n cells 0 true false true
+  pub nothing : n ≤ length cells → Gathered n cells 0 0 true false true
   unfolding number
   nothing h =
       record {
         in-cells = rw (each-none (nextAt l elapsed cells flags mv) n, take-append-drop n cells);
         in-ov = rw (each-none (ovStoodAt l elapsed cells flags mv) n);
+        in-low = rw (each-none (λ k. ltb (readingAt mv k) (l .ovRelease)) n);
         in-ov-lets = rw (each-none (λ k. ltb (readingAt mv k) (l .ovRelease)) n);
         in-uv = rw (each-none (uvStoodAt l elapsed cells flags mv) n);
         in-uv-lets = rw (each-none (λ k. ltb (l .uvRelease) (readingAt mv k)) n);
       }
 
   -- the cell at place i - 1 is still the one that was handed in
-  waits : {i : ℕ} {next : List Cell} {standing : ℕ} {ovLets uvStood uvLets : Bool}
-      → Gathered i next standing ovLets uvStood uvLets → 0 < i → i ≤ n → n ≤ length cells → cellAt next (i - 1) ≡ cellAt cells (i - 1)
+  waits : {i : ℕ} {next : List Cell} {standing lower : ℕ} {ovLets uvStood uvLets : Bool}
+      → Gathered i next standing lower ovLets uvStood uvLets → 0 < i → i ≤ n → n ≤ length cells → cellAt next (i - 1) ≡ cellAt cells (i - 1)
   waits {i} g p q h =
       let rest = each i (n - i) (nextAt l elapsed cells flags mv) ++ drop n cells in
       rw (g .in-cells, List·getD-append (take i cells) rest (record { ov = 0; uv = 0 }) (i - 1) (rw (length-take i cells) (omega arith)), getD-take i cells (i - 1) (record { ov = 0; uv = 0 }) (omega arith))
 
   -- no cell is lost
-  as-long : {i : ℕ} {next : List Cell} {standing : ℕ} {ovLets uvStood uvLets : Bool}
-      → Gathered i next standing ovLets uvStood uvLets → i ≤ n → n ≤ length cells → length next ≡ length cells
+  as-long : {i : ℕ} {next : List Cell} {standing lower : ℕ} {ovLets uvStood uvLets : Bool}
+      → Gathered i next standing lower ovLets uvStood uvLets → i ≤ n → n ≤ length cells → length next ≡ length cells
   as-long {i} g q h =
       let N = nextAt l elapsed cells flags mv in
       rw (g .in-cells, length-append (take i cells) (each i (n - i) N ++ drop n cells), length-append (each i (n - i) N) (drop n cells), length-take i cells, each-length N i (n - i), length-drop n cells) (omega arith)
@@ -71,18 +72,19 @@ module _ (l : Limits) (elapsed : ℕ) (cells : List Cell) (flags : ℕ) (mv : Li
   two-runs k c ov uv ec eo eu = rw (eo, eu, ec)
 
   -- the runs at place i - 1, what was found of them, and all before
-  pub turn : {i : ℕ} {next : List Cell} {standing : ℕ} {ovLets uvStood uvLets : Bool} (ov uv : ℕ) (high low : Bool)
-      → Gathered i next standing ovLets uvStood uvLets
+  pub turn : {i : ℕ} {next : List Cell} {standing lower : ℕ} {ovLets uvStood uvLets : Bool} (ov uv : ℕ) (high low : Bool)
+      → Gathered i next standing lower ovLets uvStood uvLets
       → ov ≡ runNext (cellAt next (i - 1) .ov) (ltb (l .ov) (readingAt mv (i - 1))) elapsed
       → uv ≡ runNext (cellAt next (i - 1) .uv) (ltb (readingAt mv (i - 1)) (l .uv)) elapsed
       → high ≡ stood (l .ovDelay) ov → low ≡ stood (l .uvDelay) uv → 0 < i → i ≤ n → n ≤ length cells
-      → Gathered (i - 1) (stored next (i - 1) ov uv) (markNext high standing)
+      → Gathered (i - 1) (stored next (i - 1) ov uv) (markNext high standing) (markNext (ltb (readingAt mv (i - 1)) (l .ovRelease)) lower)
       (ltb (readingAt mv (i - 1)) (l .ovRelease) && ovLets) (low || uvStood) (ltb (l .uvRelease) (readingAt mv (i - 1)) && uvLets)
   turn {i = zero} ov uv high low g eo eu eh el p q h = absurd (not-suc-le-zero p)
   turn {i = suc j} {next} ov uv high low g eo eu eh el p q h =
       let N = nextAt l elapsed cells flags mv in
       let H = ovStoodAt l elapsed cells flags mv in
       let L = uvStoodAt l elapsed cells flags mv in
+      let U : ℕ → Bool = λ k. ltb (readingAt mv k) (l .ovRelease) in
       let back : suc j - 1 ≡ j = omega arith in
       let whole = stored-cell next (suc j - 1) ov uv (omega (arith, as-long g q h)) in
       let cell = two-runs (suc j - 1) (cellAt next (suc j - 1)) ov uv (waits g p q h) eo eu in
@@ -91,37 +93,64 @@ module _ (l : Limits) (elapsed : ℕ) (cells : List Cell) (flags : ℕ) (mv : Li
       record {
         in-cells = rw (each-down N (suc j) n p q, whole, cell, g .in-cells, back) (set-front cells (each (suc j) (n - suc j) N ++ drop n cells) j (N j) (omega arith));
         in-ov = rw (each-down H (suc j) n p q, is-high, g .in-ov) (mark-turn (H (suc j - 1)) (each (suc j) (n - suc j) H));
-        in-ov-lets = rw (each-down (λ k. ltb (readingAt mv k) (l .ovRelease)) (suc j) n p q, g .in-ov-lets);
+        in-low = rw (each-down U (suc j) n p q, g .in-low) (mark-turn (U (suc j - 1)) (each (suc j) (n - suc j) U));
+        in-ov-lets = rw (each-down U (suc j) n p q, g .in-ov-lets);
         in-uv = rw (each-down L (suc j) n p q, is-low, g .in-uv);
         in-uv-lets = rw (each-down (λ k. ltb (l .uvRelease) (readingAt mv k)) (suc j) n p q, g .in-uv-lets);
       }
 
   -- the number of up to ten cells is below 1,024
-  pub few-standing : {i : ℕ} {next : List Cell} {standing : ℕ} {ovLets uvStood uvLets : Bool}
-      → Gathered i next standing ovLets uvStood uvLets → n ≤ 10 → standing < 1024
-  few-standing {i} g h =
-      rw (g .in-ov) (below-ten (each i (n - i) (ovStoodAt l elapsed cells flags mv)) (rw (each-length (ovStoodAt l elapsed cells flags mv) i (n - i)) (omega arith)))
+  few : (f : ℕ → Bool) (i : ℕ) → n ≤ 10 → number (each i (n - i) f) < 1024
+  few f i h = below-ten (each i (n - i) f) (rw (each-length f i (n - i)) (omega arith))
+
+  pub few-standing : {i : ℕ} {next : List Cell} {standing lower : ℕ} {ovLets uvStood uvLets : Bool}
+      → Gathered i next standing lower ovLets uvStood uvLets → n ≤ 10 → standing < 1024
+  few-standing {i} g h = rw (g .in-ov) (few (ovStoodAt l elapsed cells flags mv) i h)
+
+  pub few-lower : {i : ℕ} {next : List Cell} {standing lower : ℕ} {ovLets uvStood uvLets : Bool}
+      → Gathered i next standing lower ovLets uvStood uvLets → n ≤ 10 → lower < 1024
+  few-lower {i} g h = rw (g .in-low) (few (λ k. ltb (readingAt mv k) (l .ovRelease)) i h)
 
 -- with every cell behind it the pass has what is asked
-module _ (l : Limits) (elapsed : ℕ) (cells : List Cell) (flags : ℕ) (mv : List ℕ) where
+module _ (l : Limits) (elapsed : ℕ) (cells : List Cell) (flags : ℕ) (mv : List ℕ) {n i : ℕ} {next : List Cell} {standing lower : ℕ} {ovLets uvStood uvLets : Bool} (g : Gathered l elapsed cells flags mv n i next standing lower ovLets uvStood uvLets) (z : i ≡ 0) where
   abbrev H : ℕ → Bool
   H = ovStoodAt l elapsed cells flags mv
 
-  -- the cells are flagged by their own runs
-  by-number : (standing : ℕ) → standing ≡ number (each 0 (cellCount mv) H)
-      → each 0 (cellCount mv) (flagAt (l .ovRelease) standing flags mv) ≡ each 0 (cellCount mv) (flaggedAt l elapsed cells flags mv)
-  by-number standing e =
-      let n = cellCount mv in
-      let own : (k : ℕ) → k < n → marked standing k ≡ H k =
-      λ k p. rw e (number-at (each 0 n H) k (rw (each-length H 0 n) p) ∙ each-place H n k false p) in
-      each-same (flagAt (l .ovRelease) standing flags mv) (flaggedAt l elapsed cells flags mv) 0 n (λ k p. rw (own k (omega arith)))
+  abbrev U : ℕ → Bool
+  U k = ltb (readingAt mv k) (l .ovRelease)
 
-  pub done : {i : ℕ} {next : List Cell} {standing : ℕ} {ovLets uvStood uvLets : Bool} (m : Flagged)
-      → Gathered l elapsed cells flags mv (cellCount mv) i next standing ovLets uvStood uvLets → m ≡ flaggedBy (l .ovRelease) standing flags mv → i ≡ 0
-      → record { cells = next; flags = m .flags; bled = m .bled; «ov_stood» = not (eqb standing 0); «ov_lets_go» = ovLets; «uv_stood» = uvStood; «uv_lets_go» = uvLets } ≡ sweepBy l elapsed cells flags mv
-  unfolding sweepBy flaggedBy
-  done {i} {standing = standing} m g em z =
-      let all : cellCount mv - i ≡ cellCount mv = omega arith in
-      let high : standing ≡ number (each 0 (cellCount mv) H) = g .in-ov ∙ rw (all, z) in
-      let some-high : not (eqb standing 0) ≡ some (each 0 (cellCount mv) H) = rw high (some-number (each 0 (cellCount mv) H)) in
-      rw (em, some-high, by-number standing high, g .in-cells, g .in-ov-lets, g .in-uv, g .in-uv-lets, all, z)
+  abbrev F : ℕ → Bool
+  F = flaggedAt l elapsed cells flags mv
+
+  all-behind : n - i ≡ n
+  all-behind = omega (arith, z)
+
+  all-standing : standing ≡ number (each 0 n H)
+  all-standing = g .in-ov ∙ rw (all-behind, z)
+
+  all-lower : lower ≡ number (each 0 n U)
+  all-lower = g .in-low ∙ rw (all-behind, z)
+
+  set-below : (f : ℕ → Bool) → number (each 0 n f) < 2 ^ n
+  set-below f = rw (each-length f 0 n) at (number-below (each 0 n f))
+
+  -- they are sets of the cells
+  pub two-sets : (standing < 2 ^ n) × (lower < 2 ^ n)
+  two-sets = rw (all-standing, all-lower) (set-below H, set-below U)
+
+  own : (f : ℕ → Bool) (set : ℕ) → set ≡ number (each 0 n f) → (k : ℕ) → k < n → marked set k ≡ f k
+  own f set e k p = rw e (number-at (each 0 n f) k (rw (each-length f 0 n) p) ∙ each-place f n k false p)
+
+  -- the cells are flagged by their own runs and readings
+  by-sets : each 0 n (flagAt standing lower flags) ≡ each 0 n F
+  by-sets = each-same (flagAt standing lower flags) F 0 n (λ k p. rw (own H standing all-standing k (omega arith), own U lower all-lower k (omega arith)))
+
+  pub done : (flagged bleed : ℕ) → n ≡ cellCount mv → flagged ≡ number (each 0 n (flagAt standing lower flags)) → bleed ≡ number (bled (marks n flagged))
+      → record { cells = next; flags = flagged; bled = bleed; «ov_stood» = not (eqb standing 0); «ov_lets_go» = ovLets; «uv_stood» = uvStood; «uv_lets_go» = uvLets } ≡ sweepBy l elapsed cells flags mv
+  unfolding sweepBy
+  done flagged bleed en ef eb =
+      let is-flagged : flagged ≡ number (each 0 n F) = ef ∙ ap number by-sets in
+      let back : marks n (number (each 0 n F)) ≡ each 0 n F = ap (λ (m : ℕ). marks m (number (each 0 n F))) (sym (each-length F 0 n)) ∙ marks-number (each 0 n F) in
+      let is-bled : bleed ≡ number (bled (each 0 n F)) = eb ∙ rw (is-flagged, back) in
+      let some-high : not (eqb standing 0) ≡ some (each 0 n H) = rw all-standing (some-number (each 0 n H)) in
+      rw (some-high, is-flagged, is-bled, g .in-cells, g .in-ov-lets, g .in-uv, g .in-uv-lets, all-behind, z, en)

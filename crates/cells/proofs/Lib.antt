@@ -1,5 +1,6 @@
 pub mod Each
 pub mod Bleed
+pub mod Sets
 pub mod Gather
 pub mod Laws
 pub mod Stays

@@ -22,7 +22,6 @@ use Rattle.cells.specs.Each.{each, some, all}
 use Rattle.cells.specs.Bleed.{bled}
 use Rattle.cells.specs.Cells.{cellBy, cellAt, readingAt, cellCount, limitsOf, nextAt, ovStoodAt, uvStoodAt, flaggedAt, sweepBy, sweepOf, readable, noRun, noRuns, between, allBetween, calmOf}
 use Rattle.cells.proofs.Each.{each-same}
-use Rattle.cells.proofs.Bleed.{none-number, none-bled}
 
 -- ---- lists by places
 each-getD : {A : Type 0} (xs : List A) (d : A) (i n : ℕ) → i + n ≤ length xs → each i n (λ k. getD xs k d) ++ drop (i + n) xs ≡ drop i xs
@@ -31,6 +30,16 @@ each-getD xs d i zero h = let here : i + 0 ≡ i = omega arith in rw here
 each-getD {A} xs d i (suc n) h =
     let there : i + suc n ≡ suc i + n = omega arith in
     rw (there, drop-cons xs i d (omega arith)) (ap (λ (l : List A). getD xs i d ∷ l) (each-getD xs d (suc i) n (omega arith)))
+
+none-number : (i n : ℕ) → number (each i n (λ _. false)) ≡ 0
+unfolding each number
+none-number i zero = refl
+none-number i (suc n) = rw (none-number (suc i) n)
+
+none-bled : (i n : ℕ) → bled (each i n (λ _. false)) ≡ each i n (λ _. false)
+unfolding each bled
+none-bled i zero = refl
+none-bled i (suc n) = rw (none-bled (suc i) n)
 
 none-some : (i n : ℕ) → some (each i n (λ _. false)) ≡ false
 unfolding each

@@ -12,7 +12,6 @@ use Rattle.runs.specs.Kept.{runNext, stood}
 use Rattle.marks.specs.Marks.{number, marked}
 use Rattle.cells.specs.declared.Cell.{Cell}
 use Rattle.cells.specs.declared.Swept.{Swept}
-use Rattle.cells.specs.declared.Flagged.{Flagged}
 use Rattle.cells.specs.Each.{each, some, all}
 use Rattle.cells.specs.Bleed.{bled}
 
@@ -42,14 +41,9 @@ readingAt mv k = getD mv k 0
 abbrev pub cellCount : List ℕ → ℕ
 cellCount mv = min (length mv) 10
 
--- the cell at a place is flagged, from the numbers of the cells whose OV run has stood and of those flagged before
-abbrev pub flagAt : ℕ → ℕ → ℕ → List ℕ → ℕ → Bool
-flagAt release stands flags mv k = flagBy release (marked stands k) (marked flags k) (readingAt mv k)
-
--- the flagged and the bled cells
-unfoldable pub flaggedBy : ℕ → ℕ → ℕ → List ℕ → Flagged
-flaggedBy release stands flags mv =
-    record { flags = number (each 0 (cellCount mv) (flagAt release stands flags mv)); bled = number (bled (each 0 (cellCount mv) (flagAt release stands flags mv))) }
+-- the cell at a place is flagged, from the numbers of the cells whose OV run has stood, of those that read low and of those flagged before
+abbrev pub flagAt : ℕ → ℕ → ℕ → ℕ → Bool
+flagAt stands low flags k = marked stands k || (marked flags k && not (marked low k))
 
 -- what the cells are held against, from the settings
 pub record Limits : Type 0 where

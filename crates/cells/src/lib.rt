@@ -1,11 +1,13 @@
 // The cells of one board: their runs and flags, what they say of OV and UV, and bleeding
 // (01, When a fault latches and lets go; Bleeding).
 ghost use mathlib.Core.Path.{_≡_};
-ghost use Prim.Native.Nat.{min, _<_};
-ghost use mathlib.Core.Bool.{cond, _&&_};
+ghost use Prim.Native.Nat.{min, _^_, _<_, _≤_};
+ghost use mathlib.Core.Bool.{cond};
 ghost use lib.Dec.{eqb};
-ghost use Rattle.cells.specs.Cells.{flagBy, flaggedBy, sweepOf, noCells, readable, noRuns, allBetween, calmOf};
-ghost use Rattle.cells.specs.Bleed.{markNext};
+ghost use Rattle.marks.specs.Marks.{number, marks};
+ghost use Rattle.cells.specs.Cells.{flagAt, sweepOf, noCells, readable, noRuns, allBetween, calmOf};
+ghost use Rattle.cells.specs.Each.{each};
+ghost use Rattle.cells.specs.Bleed.{bled, markNext};
 use settings::Settings;
 
 // What a board keeps of one cell: the runs of its OV and UV conditions.
@@ -26,18 +28,6 @@ pub struct Swept {
     pub uv_lets_go: bool,
 }
 
-// The flagged and the bled cells, as numbers.
-struct Flagged {
-    flags: u16,
-    bled: u16,
-}
-
-fn flag_next(release: u32, stood: bool, flagged: bool, mv: u32) -> bool
-    ensures { λ r. ⌜ r ≡ flagBy release stood flagged mv ⌝ }
-{
-    stood | (flagged & !(mv < release))
-}
-
 // A number of cells with one more cell below them.
 fn mark_next(marked: bool, above: u16) -> u16
     requires { ⌜ above < 1024 ⌝ }
@@ -53,42 +43,37 @@ fn cell_count(readings: usize) -> usize
     if readings < 10 { readings } else { 10 }
 }
 
-// How many cells to flag: where no run has stood and no cell was flagged there is nothing to look for.
-fn cells_to_flag(stood: u16, flags: u16, cells: usize) -> usize
-    ensures { λ r. ⌜ r ≡ cond (eqb stood 0 && eqb flags 0) 0 cells ⌝ }
+// The flagged cells after a sample, as sets: those that have stood, and those flagged before that do not read low.
+fn flags_next(stood: u16, low: u16, flags: u16, cells: usize) -> u16
+    requires { ⌜ (cells ≤ 10) × (stood < 2 ^ cells) × (low < 2 ^ cells) ⌝ }
+    ensures { λ r. ⌜ r ≡ number (each 0 cells (flagAt stood low flags)) ⌝ }
 {
-    if (stood == 0) & (flags == 0) {
-        0
-    } else {
-        cells
-    }
+    // a number handed in may have marks past the cells
+    let kept = flags % (1 << cells);
+    stood | (kept ^ (kept & low))
 }
 
-// The flagged cells, of those whose OV run has stood and those flagged before, and the bled ones, from the highest down.
-fn flag_cells(release: u32, stood: u16, flags: u16, mv: &[u32]) -> Flagged
-    ensures { λ r. ⌜ r ≡ flaggedBy release stood flags (now (mv .entry)) ⌝ }
+// How many cells to look through for bled ones: with none flagged there is nothing to look for.
+fn cells_to_search(flags: u16, cells: usize) -> usize
+    ensures { λ r. ⌜ r ≡ cond (eqb flags 0) 0 cells ⌝ }
 {
-    let mut flagged = 0;
-    let mut bled = 0;
+    if flags == 0 { 0 } else { cells }
+}
+
+// The bled cells of the flagged ones: from the highest down, a flagged cell bleeds unless the next higher one does.
+fn bled_of(flags: u16, cells: usize) -> u16
+    requires { ⌜ cells ≤ 10 ⌝ }
+    ensures { λ r. ⌜ r ≡ number (bled (marks cells flags)) ⌝ }
+{
+    let mut out = 0;
     let mut bleeds = false;
-    let mut i = cells_to_flag(stood, flags, cell_count(mv.len()));
+    let mut i = cells_to_search(flags, cells);
     while 0 < i {
         i -= 1;
-        let flag = flag_next(
-            release,
-            marks::mark_at(stood, i),
-            marks::mark_at(flags, i),
-            mv[i],
-        );
-        flagged = mark_next(flag, flagged);
-        // a flagged cell bleeds unless the next higher one, which the pass has just left, does
-        bleeds = flag & !bleeds;
-        bled = mark_next(bleeds, bled);
+        bleeds = marks::mark_at(flags, i) & !bleeds;
+        out = mark_next(bleeds, out);
     }
-    Flagged {
-        flags: flagged,
-        bled: bled,
-    }
+    out
 }
 
 // One pass over the cells, from the highest down. The settings are decoded once, in front of it.
@@ -102,12 +87,14 @@ pub fn sweep(s: Settings, elapsed: u32, cells: [Cell; 10], flags: u16, mv: &[u32
     let uv_release = s.uv_release();
     let uv_delay = s.uv_delay();
     let mut next = cells;
-    // the cells whose OV run has stood, as a number
+    // the cells whose OV run has stood, and those that read lower than where OV lets go, as numbers
     let mut stood = 0;
+    let mut low = 0;
     let mut ov_lets_go = true;
     let mut uv_stood = false;
     let mut uv_lets_go = true;
-    let mut i = cell_count(mv.len());
+    let n = cell_count(mv.len());
+    let mut i = n;
     while 0 < i {
         i -= 1;
         let v = mv[i];
@@ -116,16 +103,18 @@ pub fn sweep(s: Settings, elapsed: u32, cells: [Cell; 10], flags: u16, mv: &[u32
         next[i].ov = ov_run;
         next[i].uv = uv_run;
         stood = mark_next(runs::has_stood(ov_delay, ov_run), stood);
-        ov_lets_go = (v < ov_release) & ov_lets_go;
+        let under = v < ov_release;
+        low = mark_next(under, low);
+        ov_lets_go = under & ov_lets_go;
         uv_stood = runs::has_stood(uv_delay, uv_run) | uv_stood;
         uv_lets_go = (uv_release < v) & uv_lets_go;
     }
-    // behind the pass, as cells are seldom flagged
-    let marked = flag_cells(ov_release, stood, flags, mv);
+    let flagged = flags_next(stood, low, flags, n);
     Swept {
         cells: next,
-        flags: marked.flags,
-        bled: marked.bled,
+        flags: flagged,
+        // behind the pass, as cells are seldom flagged
+        bled: bled_of(flagged, n),
         ov_stood: stood != 0,
         ov_lets_go: ov_lets_go,
         uv_stood: uv_stood,

@@ -1,17 +1,18 @@
--- The laws of a set of cells: its list and its number say the same, cell by cell, and a turn of a loop over either.
+-- The laws of a set of cells: its list and its number say the same, cell by cell, a turn of a loop over either, and two sets joined or parted.
 -- Assumes nothing.
-use Prim.Native.Nat.{ℕ, zero, suc, _+_, _-_, _*_, _/_, _%_, _^_, _<_, _≤_}
+use Prim.Native.Nat.{ℕ, zero, suc, _+_, _-_, _*_, _/_, _%_, _^_, _<_, _≤_, min, max}
 use native.Mathlib.Nat.{two-pow-succ, two-mul, zero-add, div-one, div-eq-of-lt, div-div-eq-div-mul, lt-of-lt-of-le, not-suc-le-zero, le-of-suc-le-suc}
 use native.Mathlib.Numerals.{add-one}
 use native.Mathlib.Omega.{arith}
 use mathlib.Core.Path.{_≡_, refl, ap, sym, _∙_}
-use mathlib.Core.Bool.{Bool, true, false, cond}
+use mathlib.Core.Bool.{Bool, true, false, cond, not, _&&_, _||_}
 use mathlib.Core.List.{List, [], _∷_}
-use borrow.Author.Tests.{eq-eqb, ne-eqb}
+use borrow.Author.Tests.{eqb-true, eqb-false, eq-eqb, ne-eqb}
+use lib.Bits.{bitAnd, bitOr, bitXor, differ, and-step, or-step, xor-step}
 use lib.Dec.{eqb, lit<}
 use lib.ListN.{length, getD, drop, drop-of-length-le}
 use lib.Seq.{drop-cons}
-use lib.Pow.{pow-mono}
+use lib.Pow.{pow-mono, mod-pow-add, shl-exact}
 use Rattle.marks.specs.Marks.{bit, number, marked, marks, lowest}
 
 -- a number of w places has no cell from place w up
@@ -40,6 +41,10 @@ high-bits : (b : Bool) (k : ℕ) → (bit b + 2 * k) / 2 ≡ k
 high-bits true k = omega arith
 high-bits false k = omega arith
 
+low-digit : (b : Bool) (k : ℕ) → (bit b + 2 * k) % 2 ≡ bit b
+low-digit true k = omega arith
+low-digit false k = omega arith
+
 -- a list is the list of its number
 pub marks-number : (bs : List Bool) → marks (length bs) (number bs) ≡ bs
 unfolding marks number
@@ -60,6 +65,60 @@ number-below (b ∷ bs) =
 -- a cell of the number is the cell of the list
 pub number-at : (bs : List Bool) (i : ℕ) → i < length bs → marked (number bs) i ≡ getD bs i false
 number-at bs i p = sym (marks-at (length bs) (number bs) i p) ∙ ap (λ (l : List Bool). getD l i false) (marks-number bs)
+
+-- the worth of a place of a u16
+pub place-worth : (at : ℕ) → at < 16 → 1 * 2 ^ at % 65536 ≡ 2 ^ at
+place-worth at p = shl-exact 1 at 16 (omega arith) (omega arith) ∙ omega arith
+
+low-mark : (x : ℕ) → bit (eqb (x % 2) 1) ≡ x % 2
+low-mark x = by (eqb (x % 2) 1) refl where
+  by : (t : Bool) → eqb (x % 2) 1 ≡ t → bit t ≡ x % 2
+  by true e = sym (eqb-true (x % 2) 1 e)
+  by false e = let other = eqb-false (x % 2) 1 e in omega (arith, other)
+
+-- the number of the first n cells of a number
+pub number-marks : (n x : ℕ) → number (marks n x) ≡ x % 2 ^ n
+unfolding number marks
+number-marks zero x = omega arith
+number-marks (suc n) x =
+    let whole : x % 2 ^ suc n ≡ x / 2 % 2 ^ n * 2 + x % 2 = ap (λ (m : ℕ). x % 2 ^ m) (sym (add-one n)) ∙ mod-pow-add x n 1 in
+    rw (low-mark x, number-marks n (x / 2), whole) (omega arith)
+
+-- the cells of either set, and those of one that are not in the other: one more cell below the others, digit by digit
+or-digit : (b c : Bool) → max (bit b) (bit c) ≡ bit (b || c)
+or-digit true true = refl
+or-digit true false = refl
+or-digit false true = refl
+or-digit false false = refl
+
+and-digit : (b c : Bool) → min (bit b) (bit c) ≡ bit (b && c)
+and-digit true true = refl
+and-digit true false = refl
+and-digit false true = refl
+and-digit false false = refl
+
+without-digit : (b c : Bool) → differ (bit b) (bit (b && c)) ≡ bit (b && not c)
+without-digit true true = refl
+without-digit true false = refl
+without-digit false c = refl
+
+abbrev pub without : ℕ → ℕ → ℕ
+without x y = bitXor x (bitAnd x y)
+
+pub or-turn : (b c : Bool) (x y : ℕ) → bitOr (bit b + 2 * x) (bit c + 2 * y) ≡ bit (b || c) + 2 * bitOr x y
+or-turn b c x y =
+    or-step (bit b + 2 * x) (bit c + 2 * y) ∙ rw (high-bits b x, high-bits c y, low-digit b x, low-digit c y, or-digit b c) (omega arith)
+
+and-turn : (b c : Bool) (x y : ℕ) → bitAnd (bit b + 2 * x) (bit c + 2 * y) ≡ bit (b && c) + 2 * bitAnd x y
+and-turn b c x y =
+    and-step (bit b + 2 * x) (bit c + 2 * y) ∙ rw (high-bits b x, high-bits c y, low-digit b x, low-digit c y, and-digit b c) (omega arith)
+
+xor-turn : (b c : Bool) (x y : ℕ) → bitXor (bit b + 2 * x) (bit (b && c) + 2 * y) ≡ bit (b && not c) + 2 * bitXor x y
+xor-turn b c x y =
+    xor-step (bit b + 2 * x) (bit (b && c) + 2 * y) ∙ rw (high-bits b x, high-bits (b && c) y, low-digit b x, low-digit (b && c) y, without-digit b c) (omega arith)
+
+pub without-turn : (b c : Bool) (x y : ℕ) → without (bit b + 2 * x) (bit c + 2 * y) ≡ bit (b && not c) + 2 * without x y
+without-turn b c x y = ap (bitXor (bit b + 2 * x)) (and-turn b c x y) ∙ xor-turn b c x (bitAnd x y)
 
 -- the number from the highest cell down: one cell more
 pub number-turn : (bs : List Bool) (i : ℕ) → i < length bs → number (drop i bs) ≡ bit (getD bs i false) + 2 * number (drop (suc i) bs)

@@ -4,16 +4,16 @@ use mathlib.Core.Path.{_≡_, ap, _∙_}
 use borrow.Author.Needs.{needs}
 use lib.ListN.{length}
 use Rattle.cells.specs.Cells.{cellCount, Limits, limitsOf, sweepBy}
-use Rattle.cells.proofs.Gather.{Gathered, nothing, turn, few-standing, done}
+use Rattle.cells.proofs.Gather.{Gathered, nothing, turn, few-standing, few-lower, two-sets, done}
 use Rattle.cells.proofs.sweep.Statement.{statement}
 use Rattle.cells.proofs.sweep.Tie as tie
 
 abbrev Inv-loop : tie.InvT-loop
-Inv-loop elapsed flags mv ov ov-release ov-delay uv uv-release uv-delay next₀ stood₀ ov-lets-go₀ uv-stood₀ uv-lets-go₀ i₀ next stood ov-lets-go uv-stood uv-lets-go i =
-    (i ≤ cellCount mv) × (length next₀ ≡ 10) × Gathered (record { ov = ov; ovRelease = ov-release; ovDelay = ov-delay; uv = uv; uvRelease = uv-release; uvDelay = uv-delay }) elapsed next₀ flags mv (cellCount mv) i next stood ov-lets-go uv-stood uv-lets-go
+Inv-loop elapsed flags mv ov ov-release ov-delay uv uv-release uv-delay next₀ stood₀ low₀ ov-lets-go₀ uv-stood₀ uv-lets-go₀ n i₀ next stood low ov-lets-go uv-stood uv-lets-go i =
+    (i ≤ n) × (n ≡ cellCount mv) × (length next₀ ≡ 10) × Gathered (record { ov = ov; ovRelease = ov-release; ovDelay = ov-delay; uv = uv; uvRelease = uv-release; uvDelay = uv-delay }) elapsed next₀ flags mv n i next stood low ov-lets-go uv-stood uv-lets-go
 
 abbrev μ-loop : tie.MeasureT-loop
-μ-loop elapsed flags mv ov ov-release ov-delay uv uv-release uv-delay next₀ stood₀ ov-lets-go₀ uv-stood₀ uv-lets-go₀ i₀ next stood ov-lets-go uv-stood uv-lets-go i = i
+μ-loop elapsed flags mv ov ov-release ov-delay uv uv-release uv-delay next₀ stood₀ low₀ ov-lets-go₀ uv-stood₀ uv-lets-go₀ n i₀ next stood low ov-lets-go uv-stood uv-lets-go i = i
 
 ov-level-requires : tie.Need-ov-level-requires Inv-loop μ-loop
 ov-level-requires c κs = search needs
@@ -39,8 +39,9 @@ cell-count-requires c κs = search needs
 loop-holds : tie.Need-loop-holds Inv-loop μ-loop
 loop-holds c =
     let a = c .before .before .before .before .before .before .before .before .args in
+    let count = c .cell-count .ensures in
     let long : length (a .cells) ≡ 10 = search needs in
-    (search needs, long, rw (c .cell-count .ensures) (nothing _ (a .elapsed) (a .cells) (a .flags) (a .mv .now) (cellCount (a .mv .now)) (omega (arith, long))))
+    (search needs, count, long, nothing _ (a .elapsed) (a .cells) (a .flags) (a .mv .now) (c .cell-count .result) (omega (arith, long, count)))
 
 sub-i : tie.Need-sub-i Inv-loop μ-loop
 sub-i c = search needs
@@ -87,7 +88,12 @@ has-stood-requires c κs = search needs
 mark-next-requires : tie.Need-mark-next-requires Inv-loop μ-loop
 mark-next-requires c κs =
     let h = c .before .before .before .before .before .before .before in
-    few-standing _ _ _ _ _ _ (h .loop .inv .2) (omega arith)
+    few-standing _ _ _ _ _ _ (h .loop .inv .3) (omega arith)
+
+mark-next-requires-2 : tie.Need-mark-next-requires-2 Inv-loop μ-loop
+mark-next-requires-2 c κs =
+    let h = c .before .before .before .before .before .before .before .before in
+    few-lower _ _ _ _ _ _ (h .loop .inv .3) (omega arith)
 
 has-stood-requires-2 : tie.Need-has-stood-requires-2 Inv-loop μ-loop
 has-stood-requires-2 c κs = search needs
@@ -99,17 +105,24 @@ loop-again : tie.Need-loop-again Inv-loop μ-loop
 loop-again c =
     let c1 = c .before in
     let c2 = c1 .before in
-    let c5 = c2 .before .before .before in
-    let c6 = c5 .before in
-    let h = c6 .before .before .before in
-    (search needs, h .loop .inv .1, rw (c1 .mark-next .ensures) (turn _ _ _ _ _ _ _ _ _ _ (h .loop .inv .2) (c6 .advance .ensures) (c5 .advance2 .ensures) (c2 .has-stood .ensures) (c .has-stood2 .ensures) (omega arith) (omega arith) (omega arith)))
+    let c3 = c2 .before in
+    let c6 = c3 .before .before .before in
+    let c7 = c6 .before in
+    let h = c7 .before .before .before in
+    (search needs, h .loop .inv .1, h .loop .inv .2, rw (c2 .mark-next .ensures, c1 .mark-next2 .ensures) (turn _ _ _ _ _ _ _ _ _ _ (h .loop .inv .3) (c7 .advance .ensures) (c6 .advance2 .ensures) (c3 .has-stood .ensures) (c .has-stood2 .ensures) (omega arith) (omega arith) (omega arith)))
 
-flag-cells-requires : tie.Need-flag-cells-requires Inv-loop μ-loop
-flag-cells-requires c κs = search needs
+flags-next-requires : tie.Need-flags-next-requires Inv-loop μ-loop
+flags-next-requires c κs =
+    let sets = two-sets _ _ _ _ _ (c .before .loop .inv .3) (omega arith) in
+    (search needs, sets .0, sets .1)
+
+bled-of-requires : tie.Need-bled-of-requires Inv-loop μ-loop
+bled-of-requires c κs = search needs
 
 returns : tie.Need-returns Inv-loop μ-loop
 returns c =
-    let h = c .before .before in
+    let c1 = c .before in
+    let h = c1 .before .before in
     let b1 = h .before .before in
     let b2 = b1 .before in
     let b3 = b2 .before in
@@ -119,7 +132,7 @@ returns c =
     let a = b6 .before .before .args in
     let same : _≡_ {A = Limits} (record { ov = b6 .ov-level .result; ovRelease = b5 .ov-release .result; ovDelay = b4 .ov-delay .result; uv = b3 .uv-level .result; uvRelease = b2 .uv-release .result; uvDelay = b1 .uv-delay .result }) (limitsOf (a .s)) =
     λ i. record { ov = b6 .ov-level .ensures i; ovRelease = b5 .ov-release .ensures i; ovDelay = b4 .ov-delay .ensures i; uv = b3 .uv-level .ensures i; uvRelease = b2 .uv-release .ensures i; uvDelay = b1 .uv-delay .ensures i } in
-    done _ (a .elapsed) (a .cells) (a .flags) (a .mv .now) (c .flag-cells .result) (h .loop .inv .2) (c .flag-cells .ensures) (omega arith) ∙ ap (λ (l : Limits). sweepBy l (a .elapsed) (a .cells) (a .flags) (a .mv .now)) same
+    done _ (a .elapsed) (a .cells) (a .flags) (a .mv .now) (h .loop .inv .3) (omega arith) _ _ (h .loop .inv .1) (c1 .flags-next .ensures) (c .bled-of .ensures) ∙ ap (λ (l : Limits). sweepBy l (a .elapsed) (a .cells) (a .flags) (a .mv .now)) same
 
 pub sweep-spec : {M : Type 1} → statement M
 sweep-spec =
@@ -150,8 +163,10 @@ sweep-spec =
     way-write-given-next-2
     has-stood-requires
     mark-next-requires
+    mark-next-requires-2
     has-stood-requires-2
     loop-less
     loop-again
-    flag-cells-requires
+    flags-next-requires
+    bled-of-requires
     returns)

@@ -1,0 +1,45 @@
+-- The flagged cells as a set: by numbers, and cell by cell.
+-- Assumes nothing.
+use Prim.Native.Nat.{ℕ, zero, suc, _/_, _%_, _^_, _<_}
+use native.Mathlib.Nat.{two-pow-succ, div-one, div-div-eq-div-mul, mod-eq-of-lt}
+use native.Mathlib.Omega.{arith}
+use mathlib.Core.Path.{_≡_, refl, sym, ap, ap₂, _∙_}
+use mathlib.Core.Bool.{Bool, not, _&&_, _||_}
+use lib.Bits.{bitOr}
+use Rattle.marks.specs.Marks.{number, marked, marks}
+use Rattle.marks.proofs.Laws.{without, number-marks, or-turn, without-turn}
+use Rattle.cells.specs.Each.{each}
+use Rattle.cells.specs.Cells.{flagAt}
+
+module _ (f g : ℕ → Bool) where
+  or-each : (i n : ℕ) → bitOr (number (each i n f)) (number (each i n g)) ≡ number (each i n (λ k. f k || g k))
+  unfolding each number
+  or-each i zero = refl
+  or-each i (suc n) = rw (← or-each (suc i) n) (or-turn (f i) (g i) (number (each (suc i) n f)) (number (each (suc i) n g)))
+
+  without-each : (i n : ℕ) → without (number (each i n f)) (number (each i n g)) ≡ number (each i n (λ k. f k && not (g k)))
+  unfolding each number
+  without-each i zero = refl
+  without-each i (suc n) = rw (← without-each (suc i) n) (without-turn (f i) (g i) (number (each (suc i) n f)) (number (each (suc i) n g)))
+
+-- the first n cells of a number, place by place
+marks-each : (x i n : ℕ) → marks n (x / 2 ^ i) ≡ each i n (marked x)
+unfolding marks each
+marks-each x i zero = refl
+marks-each x i (suc n) =
+    let on : x / 2 ^ i / 2 ≡ x / 2 ^ suc i = div-div-eq-div-mul x (2 ^ i) 2 ∙ ap (λ (m : ℕ). x / m) (omega (arith, two-pow-succ i)) in
+    rw (on, marks-each x (suc i) n)
+
+first-each : (x n : ℕ) → x % 2 ^ n ≡ number (each 0 n (marked x))
+first-each x n = sym (number-marks n x) ∙ ap number (ap (marks n) (sym (div-one x)) ∙ marks-each x 0 n)
+
+own-each : (x n : ℕ) → x < 2 ^ n → x ≡ number (each 0 n (marked x))
+own-each x n h = sym (mod-eq-of-lt h) ∙ first-each x n
+
+-- those that have stood, and those flagged before that do not read low
+pub flags-set : (stands low flags n : ℕ) → stands < 2 ^ n → low < 2 ^ n
+    → bitOr stands (without (flags % 2 ^ n) low) ≡ number (each 0 n (flagAt stands low flags))
+flags-set stands low flags n hs hl =
+    let kept : without (flags % 2 ^ n) low ≡ number (each 0 n (λ k. marked flags k && not (marked low k))) =
+    ap₂ without (first-each flags n) (own-each low n hl) ∙ without-each (marked flags) (marked low) 0 n in
+    ap₂ bitOr (own-each stands n hs) kept ∙ or-each (marked stands) (λ k. marked flags k && not (marked low k)) 0 n
