@@ -6,12 +6,12 @@ use native.Mathlib.Numerals.{add-one}
 use mathlib.Core.Path.{_≡_, refl, sym, ap, _∙_}
 use mathlib.Core.Bool.{cond}
 use mathlib.Core.List.{List, [], _∷_, _++_, append-assoc, append-nil}
-use lib.Dec.{eqb, ltb}
+use lib.Dec.{eqb}
 use lib.ListN.{length, getD, take, drop, length-drop, drop-of-length-le, take-append-drop}
 use lib.Seq.{take-all, take-add, drop-cons}
-use borrow.Author.Tests.{eqb-true, lt-ltb}
+use borrow.Author.Tests.{eqb-true}
 use borrow.Table.Steps.{cases}
-use Rattle.cutter.specs.Lines.{before, ended, left, lastLine, upTo}
+use Rattle.cutter.specs.Lines.{before, ended, left, upTo}
 use Rattle.cutter.proofs.Pieces.{ended-none, left-none, ended-byte, left-byte, ended-newline, left-newline}
 use Rattle.cutter.proofs.Blocks.{ended-append, left-append}
 
@@ -68,9 +68,6 @@ part from to s = take (to - from) (drop from s)
 -- ---- a block s is used up to at, with h kept before it, and the next line ends at e
 
 module _ (h s : List ℕ) (at e : ℕ) (end : e ≡ at + length (upTo (drop at s))) where
-  pub end-within : at ≤ length s → e ≤ length s
-  end-within l = let few = rw (length-drop at s) at (line-le (drop at s)) in omega arith
-
   pub line-part : part at e s ≡ upTo (drop at s)
   line-part = let len : e - at ≡ length (upTo (drop at s)) = omega arith in rw len (line-take (drop at s))
 
@@ -105,8 +102,3 @@ module _ (h s : List ℕ) (at e : ℕ) (end : e ≡ at + length (upTo (drop at s
       ap (left h) (sym (take-append-drop at s)) ∙ left-append h (take at s) (drop at s) ∙ all ∙ rw (to-rest l)
 
 -- ---- the last line is there where anything is left
-
-pub last-held : (p : List ℕ) → lastLine p ≡ cond (ltb 0 (length p)) (p ∷ []) []
-unfolding lastLine
-last-held [] = refl
-last-held (b ∷ p) = rw (lt-ltb 0 (suc (length p)) (omega arith))

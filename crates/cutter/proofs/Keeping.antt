@@ -11,16 +11,8 @@ use lib.Seq.{take-suc-set, take-all, take-at, drop-cons, length-take-le}
 use borrow.Author.Tests.{leb-true, leb-false}
 use borrow.Table.Steps.{cases}
 use Rattle.cutter.specs.declared.Cutter.{Cutter}
-use Rattle.cutter.specs.Kept.{most, clip, held, nothing, emptiedOf, byteKept, listKept, Kept}
+use Rattle.cutter.specs.Kept.{most, clip, held, byteKept, listKept, Kept}
 use Rattle.cutter.proofs.Clips.{clip-append}
-
-pub held-nothing : held nothing ≡ []
-unfolding held nothing
-held-nothing = refl
-
-pub held-emptied : (c : Cutter) → held (emptiedOf c) ≡ []
-unfolding held emptiedOf
-held-emptied c = refl
 
 -- whatever its length says, a cutter keeps no more than it has
 pub held-clip : (c : Cutter) → length (c .bytes) ≡ most → clip (held c) ≡ held c
@@ -63,10 +55,6 @@ kept-all c next s i e h long =
 -- ---- n bytes are kept: the first n of the array, and with n = 0 nothing
 
 module _ (c : Cutter) (n : ℕ) (kept : n ≡ length (held c)) where
-  pub held-fits : n ≤ length (c .bytes)
-  unfolding held
-  held-fits = let few = rw (length-take (c .len) (c .bytes)) at kept in omega arith
-
   pub held-take : take n (c .bytes) ≡ held c
   unfolding held
   held-take = rw kept (by (c .len) (c .bytes))
@@ -75,6 +63,3 @@ module _ (c : Cutter) (n : ℕ) (kept : n ≡ length (held c)) where
       by zero l = refl
       by (suc m) [] = refl
       by (suc m) (b ∷ l) = ap (λ (r : List ℕ). b ∷ r) (by m l)
-
-  pub held-none : n ≡ 0 → held c ≡ []
-  held-none e = sym held-take ∙ rw e

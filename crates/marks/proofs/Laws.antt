@@ -1,17 +1,16 @@
--- The laws of a set of cells: its list and its number say the same, cell by cell, a turn of a loop over either, and two sets joined or parted.
+-- The laws of a set of cells: its list and its number say the same, cell by cell; and two sets joined or parted.
 -- Assumes nothing.
 use Prim.Native.Nat.{ℕ, zero, suc, _+_, _-_, _*_, _/_, _%_, _^_, _<_, _≤_, min, max}
 use native.Mathlib.Nat.{two-pow-succ, two-mul, zero-add, div-one, div-eq-of-lt, div-div-eq-div-mul, lt-of-lt-of-le, not-suc-le-zero, le-of-suc-le-suc}
 use native.Mathlib.Numerals.{add-one}
 use native.Mathlib.Omega.{arith}
 use mathlib.Core.Path.{_≡_, refl, ap, sym, _∙_}
-use mathlib.Core.Bool.{Bool, true, false, cond, not, _&&_, _||_}
+use mathlib.Core.Bool.{Bool, true, false, not, _&&_, _||_}
 use mathlib.Core.List.{List, [], _∷_}
 use borrow.Author.Tests.{eqb-true, eqb-false, eq-eqb, ne-eqb}
 use lib.Bits.{bitAnd, bitOr, bitXor, differ, and-step, or-step, xor-step}
 use lib.Dec.{eqb, lit<}
-use lib.ListN.{length, getD, drop, drop-of-length-le}
-use lib.Seq.{drop-cons}
+use lib.ListN.{length, getD}
 use lib.Pow.{pow-mono, mod-pow-add, shl-exact}
 use Rattle.marks.specs.Marks.{bit, number, marked, marks, lowest}
 
@@ -119,32 +118,6 @@ xor-turn b c x y =
 
 pub without-turn : (b c : Bool) (x y : ℕ) → without (bit b + 2 * x) (bit c + 2 * y) ≡ bit (b && not c) + 2 * without x y
 without-turn b c x y = ap (bitXor (bit b + 2 * x)) (and-turn b c x y) ∙ xor-turn b c x (bitAnd x y)
-
--- the number from the highest cell down: one cell more
-pub number-turn : (bs : List Bool) (i : ℕ) → i < length bs → number (drop i bs) ≡ bit (getD bs i false) + 2 * number (drop (suc i) bs)
-unfolding number
-number-turn bs i p = rw (drop-cons bs i false p)
-
--- the same, for a loop that takes 1 from i first
-pub number-down : (bs : List Bool) (i out r : ℕ) → out ≡ number (drop i bs) → r ≡ bit (getD bs (i - 1) false) + 2 * out → 0 < i → i ≤ length bs → r ≡ number (drop (i - 1) bs)
-number-down bs zero out r o e p q = absurd (not-suc-le-zero p)
-number-down bs (suc i) out r o e p q =
-    let back : suc i - 1 ≡ i = omega arith in
-    rw (back, number-turn bs i q, ← o) (rw back at e)
-
--- past the highest cell
-pub number-none : (bs : List Bool) (i : ℕ) → length bs ≤ i → number (drop i bs) ≡ 0
-unfolding number
-number-none bs i p = rw (drop-of-length-le bs p)
-
--- the search from the lowest cell up: one cell on, and past the highest
-pub lowest-turn : (k : ℕ) (bs : List Bool) (i : ℕ) → i < length bs → lowest k (drop i bs) ≡ cond (getD bs i false) k (lowest (k + 1) (drop (i + 1) bs))
-unfolding lowest
-lowest-turn k bs i p = rw (drop-cons bs i false p, add-one i)
-
-pub lowest-none : (k : ℕ) (bs : List Bool) (i : ℕ) → length bs ≤ i → lowest k (drop i bs) ≡ 0
-unfolding lowest
-lowest-none k bs i p = rw (drop-of-length-le bs p)
 
 double-zero : (n : ℕ) → eqb (2 * n) 0 ≡ eqb n 0
 double-zero zero = refl

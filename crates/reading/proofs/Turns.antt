@@ -2,7 +2,6 @@
 -- Assumes nothing.
 use Prim.Native.Nat.{ℕ, zero, suc, _+_, _-_, _*_, _/_, _%_, _^_, _<_, _≤_}
 use native.Mathlib.Nat.{two-pow-succ, mod-eq-of-lt, lt-of-lt-of-le, not-suc-le-zero}
-use native.Mathlib.Numerals.{add-one}
 use native.Mathlib.Omega.{arith}
 use mathlib.Core.Path.{_≡_, refl, sym, ap, _∙_}
 use mathlib.Core.Bool.{Bool, true, false, cond, not, _&&_, _||_, and-true, and-assoc}
@@ -10,12 +9,12 @@ use mathlib.Core.List.{List, [], _∷_, _++_, map-append}
 use lib.Bits.{bitOr, or-shifted-r}
 use lib.Dec.{eqb}
 use lib.ListN.{length, length-map, length-append}
-use lib.Pow.{pow-mono, mod-pow-add, shl-exact}
+use lib.Pow.{pow-mono}
 use borrow.Author.Tests.{eqb-true, eqb-false, ne-eqb, lt-leb, not-true, not-false}
 use Rattle.lists.specs.Every.{every}
 use Rattle.lists.proofs.Split.{split}
-use Rattle.marks.specs.Marks.{bit, number, marks, lowest}
-use Rattle.marks.proofs.Laws.{marks-number, number-below, lowest-zero}
+use Rattle.marks.specs.Marks.{number, marks, lowest}
+use Rattle.marks.proofs.Laws.{marks-number, number-below, lowest-zero, number-marks}
 use Rattle.board.specs.declared.Board.{Board}
 use Rattle.reading.specs.declared.Summary.{Summary}
 use Rattle.reading.specs.declared.First.{First}
@@ -109,23 +108,9 @@ unfolding wholeOf seenOf foundIn readOf
 whole-seen boards = rw (line-seen boards, found-first 1 boards (omega arith))
 
 -- ---- the numbers that the functions handle
--- a board's worth in a set
-pub worth : (at : ℕ) → at < 16 → 1 * 2 ^ at % 65536 ≡ 2 ^ at
-worth at p = shl-exact 1 at 16 (omega arith) (omega arith) ∙ omega arith
-
-bit-low : (x : ℕ) → bit (eqb (x % 2) 1) ≡ x % 2
-bit-low x = split (eqb (x % 2) 1) (λ e. rw e (sym (eqb-true (x % 2) 1 e))) (λ e. let other = eqb-false (x % 2) 1 e in rw e (omega (arith, other)))
-
--- the number of the first n cells
-pub marks-mod : (n x : ℕ) → number (marks n x) ≡ x % 2 ^ n
-unfolding number marks
-marks-mod zero x = omega arith
-marks-mod (suc n) x =
-    let whole : x % 2 ^ suc n ≡ x / 2 % 2 ^ n * 2 + x % 2 = ap (λ (m : ℕ). x % 2 ^ m) (sym (add-one n)) ∙ mod-pow-add x n 1 in
-    rw (bit-low x, marks-mod n (x / 2), whole) (omega arith)
-
+-- a number of at least 16 cells has every mark
 pub marks-all : (n x : ℕ) → x < 65536 → 16 ≤ n → number (marks n x) ≡ x
-marks-all n x small p = marks-mod n x ∙ mod-eq-of-lt (lt-of-lt-of-le small (pow-mono p))
+marks-all n x small p = number-marks n x ∙ mod-eq-of-lt (lt-of-lt-of-le small (pow-mono p))
 
 -- no cell of none
 marks-none : (n : ℕ) → number (marks n 0) ≡ 0

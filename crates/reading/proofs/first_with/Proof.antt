@@ -1,7 +1,8 @@
 use mathlib.Core.Path.{sym}
 use borrow.Author.Tests.{eq-eqb, ne-eqb}
 use borrow.Author.Needs.{needs}
-use Rattle.reading.proofs.Turns.{worth, unflagged-with}
+use Rattle.marks.proofs.Laws.{place-worth}
+use Rattle.reading.proofs.Turns.{unflagged-with}
 use Rattle.reading.proofs.first_with.Statement.{statement}
 use Rattle.reading.proofs.first_with.Tie as tie
 
@@ -25,7 +26,7 @@ shl-t7 c = search needs
 returns-3 : tie.Need-returns-3
 returns-3 c =
     let h = c .before .before .before .before .before .before in
-    rw (worth (h .args .at) (h .pre), eq-eqb (h .args .first .boards) 0 (c .before .before .if2 .left), ← (c .before .is-flagged .ensures), c .if3 .taken)
+    rw (place-worth (h .args .at) (h .pre), eq-eqb (h .args .first .boards) 0 (c .before .before .if2 .left), ← (c .before .is-flagged .ensures), c .if3 .taken)
 
 returns-4 : tie.Need-returns-4
 returns-4 c =

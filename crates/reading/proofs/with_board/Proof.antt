@@ -1,5 +1,5 @@
 use borrow.Author.Needs.{needs}
-use Rattle.reading.proofs.Turns.{worth}
+use Rattle.marks.proofs.Laws.{place-worth}
 use Rattle.reading.proofs.with_board.Statement.{statement}
 use Rattle.reading.proofs.with_board.Tie as tie
 
@@ -10,7 +10,7 @@ shl-result : tie.Need-shl-result
 shl-result c = search needs
 
 returns : tie.Need-returns
-returns c = rw (worth (c .before .args .at) (c .before .pre), c .if1 .taken)
+returns c = rw (place-worth (c .before .args .at) (c .before .pre), c .if1 .taken)
 
 returns-2 : tie.Need-returns-2
 returns-2 c = search needs
