@@ -1,12 +1,12 @@
 -- Eight shifts of the check are one product by seven without carries, and several products may be reduced once, at the end.
 -- Assumes nothing.
-use Prim.Native.Nat.{ℕ, zero, suc, _*_, _/_, _%_, _^_, _<_}
+use Prim.Native.Nat.{ℕ, zero, suc, _+_, _*_, _/_, _%_, _^_, _<_}
 use native.Mathlib.Nat.{not-suc-le-zero}
 use native.Mathlib.Omega.{arith}
-use mathlib.Core.Path.{_≡_, refl, sym, subst, _∙_}
+use mathlib.Core.Path.{_≡_, refl, sym, ap, subst, _∙_}
 use mathlib.Core.Bool.{Bool, true, _&&_}
 use lib.Arith.{bin-ind}
-use lib.Bits.{bitXor, xor-mod, xor-shr, xor-lt, xor-zero-r}
+use lib.Bits.{bitXor, xor-block, xor-comm, xor-mod, xor-shifted, xor-shr, xor-lt, xor-zero-r}
 use lib.Dec.{eqb}
 use borrow.Author.Tests.{eqb-true, eqb-false}
 use Rattle.lists.proofs.Split.{split, both}
@@ -18,29 +18,46 @@ bySeven x = bitXor (bitXor x (2 * x)) (4 * x)
 abbrev pub reduced : ℕ → ℕ
 reduced x = bitXor (bySeven (x / 256)) (x % 256)
 
--- a product reduces to eight shifts of what its number reduces to: of every number below n
-unfoldable right-below : ℕ → Bool
-right-below zero = true
-right-below (suc n) = eqb (reduced (bySeven n)) (times 8 shifted (reduced n)) && right-below n
+-- a test that computes, of every number below n
+unfoldable right-below : (ℕ → Bool) → ℕ → Bool
+right-below right zero = true
+right-below right (suc n) = right n && right-below right n
 
 below : (x n : ℕ) → x < suc n → (x ≡ n → ⊥) → x < n
 below x n p other = omega (arith, other)
 
-right-at : (n : ℕ) → right-below n ≡ true → (x : ℕ) → x < n → reduced (bySeven x) ≡ times 8 shifted (reduced x)
+right-at : (right : ℕ → Bool) (n : ℕ) → right-below right n ≡ true → (x : ℕ) → x < n → right x ≡ true
 unfolding right-below
-right-at zero t x p = absurd (not-suc-le-zero p)
-right-at (suc n) t x p =
-    let h = both (eqb (reduced (bySeven n)) (times 8 shifted (reduced n))) (right-below n) t in
+right-at right zero t x p = absurd (not-suc-le-zero p)
+right-at right (suc n) t x p =
+    let h = both (right n) (right-below right n) t in
     split (eqb x n)
-    (λ e. subst (λ (y : ℕ). reduced (bySeven y) ≡ times 8 shifted (reduced y)) (sym (eqb-true x n e)) (eqb-true (reduced (bySeven n)) (times 8 shifted (reduced n)) (h .0)))
-    (λ e. let other = eqb-false x n e in right-at n (h .1) x (below x n p other))
+    (λ e. subst (λ (y : ℕ). right y ≡ true) (sym (eqb-true x n e)) (h .0))
+    (λ e. let other = eqb-false x n e in right-at right n (h .1) x (below x n p other))
 
-all-right : right-below 4096 ≡ true
-unfolding right-below shifted
-all-right = refl
+-- of a byte, one product reduces to eight shifts
+byte-right : ℕ → Bool
+byte-right x = eqb (reduced (bySeven x)) (times 8 shifted x)
 
-reduced-seven : (x : ℕ) → x < 4096 → reduced (bySeven x) ≡ times 8 shifted (reduced x)
-reduced-seven = right-at 4096 all-right
+bytes-right : right-below byte-right 256 ≡ true
+unfolding right-below byte-right shifted
+bytes-right = refl
+
+pub one-byte : (x : ℕ) → x < 256 → reduced (bySeven x) ≡ times 8 shifted x
+unfolding byte-right
+one-byte x p = eqb-true (reduced (bySeven x)) (times 8 shifted x) (right-at byte-right 256 bytes-right x p)
+
+-- and so above it, for as far as two products go
+high-right : ℕ → Bool
+high-right h = eqb (reduced (bySeven (h * 256))) (times 8 shifted (bySeven h))
+
+highs-right : right-below high-right 16 ≡ true
+unfolding right-below high-right shifted
+highs-right = refl
+
+one-high : (h : ℕ) → h < 16 → reduced (bySeven (h * 256)) ≡ times 8 shifted (bySeven h)
+unfolding high-right
+one-high h p = eqb-true (reduced (bySeven (h * 256))) (times 8 shifted (bySeven h)) (right-at high-right 16 highs-right h p)
 
 -- the laws of bitXor lack this one: it holds of the halves and of the last digits
 half : (a b : ℕ) → bitXor a b / 2 ≡ bitXor (a / 2) (b / 2)
@@ -67,6 +84,53 @@ xor-assoc =
     (λ n ih b c. same _ _ (rw (half (bitXor n b) c, half n b, half n (bitXor b c), half b c) (ih (b / 2) (c / 2)))
     (rw (odd (bitXor n b) c, odd n b, odd n (bitXor b c), odd b c) (digit-assoc (n % 2) (b % 2) (c % 2) (omega arith) (omega arith) (omega arith))))
 
+exchange : (a b c d : ℕ) → bitXor (bitXor a b) (bitXor c d) ≡ bitXor (bitXor a c) (bitXor b d)
+exchange a b c d =
+    xor-assoc a b (bitXor c d) ∙ ap (bitXor a) (sym (xor-assoc b c d) ∙ ap (λ (x : ℕ). bitXor x d) (xor-comm b c) ∙ xor-assoc c b d)
+    ∙ sym (xor-assoc a c (bitXor b d))
+
+-- products and their reductions go part by part
+doubled : (a b : ℕ) → 2 * bitXor a b ≡ bitXor (2 * a) (2 * b)
+doubled a b =
+    let one : a * 2 ^ 1 + 0 ≡ 2 * a = omega arith in
+    let other : b * 2 ^ 1 + 0 ≡ 2 * b = omega arith in
+    let both′ : bitXor (a * 2 ^ 1 + 0) (b * 2 ^ 1 + 0) ≡ bitXor a b * 2 ^ 1 + bitXor 0 0 = xor-block 1 a b 0 0 (omega arith) (omega arith) in
+    let sum : 2 * bitXor a b ≡ bitXor a b * 2 ^ 1 + 0 = omega arith in
+    sum ∙ sym (rw (one, other) at both′)
+
+fourfold : (a b : ℕ) → 4 * bitXor a b ≡ bitXor (4 * a) (4 * b)
+fourfold a b =
+    let twice : (x : ℕ) → 4 * x ≡ 2 * (2 * x) = λ x. omega arith in
+    rw (twice (bitXor a b), doubled a b, doubled (2 * a) (2 * b), twice a, twice b)
+
+seven-sum : (x y : ℕ) → bySeven (bitXor x y) ≡ bitXor (bySeven x) (bySeven y)
+seven-sum x y =
+    rw (doubled x y, fourfold x y)
+    (ap (λ (z : ℕ). bitXor z (bitXor (4 * x) (4 * y))) (exchange x y (2 * x) (2 * y)) ∙ exchange (bitXor x (2 * x)) (bitXor y (2 * y)) (4 * x) (4 * y))
+
+reduced-sum : (x y : ℕ) → reduced (bitXor x y) ≡ bitXor (reduced x) (reduced y)
+reduced-sum x y =
+    rw (xor-shr x y 8, xor-mod x y 8, seven-sum (x / 256) (y / 256)) (exchange (bySeven (x / 256)) (bySeven (y / 256)) (x % 256) (y % 256))
+
+pub seven-lt : (k x : ℕ) → 4 * x < 2 ^ k → bySeven x < 2 ^ k
+seven-lt k x p = xor-lt k _ _ (xor-lt k x (2 * x) (omega (arith, p)) (omega (arith, p))) p
+
+-- a product reduces to eight shifts of what its number reduces to: its upper and its lower part do
+reduced-seven : (x : ℕ) → x < 4096 → reduced (bySeven x) ≡ times 8 shifted (reduced x)
+reduced-seven x p =
+    let h = x / 256 in
+    let l = x % 256 in
+    let few : h < 16 = omega (arith, p) in
+    let low : l < 256 = omega arith in
+    let small : bySeven h < 64 = seven-lt 6 h (omega (arith, few)) in
+    let upper : bySeven h < 256 = omega (arith, small) in
+    let parts : x ≡ bitXor (h * 256) l = (let e : x ≡ h * 256 + l = omega arith in e ∙ sym (xor-shifted h 8 l low)) in
+    let here : reduced (bySeven x) ≡ bitXor (times 8 shifted (bySeven h)) (times 8 shifted l)
+    = ap (λ (y : ℕ). reduced (bySeven y)) parts ∙ ap reduced (seven-sum (h * 256) l) ∙ reduced-sum (bySeven (h * 256)) (bySeven l) ∙ rw (one-high h few, one-byte l low) in
+    let there : times 8 shifted (bitXor (bySeven h) l) ≡ bitXor (times 8 shifted (bySeven h)) (times 8 shifted l)
+    = sym (one-byte (bitXor (bySeven h) l) (xor-lt 8 _ _ upper low)) ∙ ap reduced (seven-sum (bySeven h) l) ∙ reduced-sum (bySeven (bySeven h)) (bySeven l) ∙ rw (one-byte (bySeven h) upper, one-byte l low) in
+    here ∙ sym there
+
 -- a byte that is added before the reduction may as well be added after it
 reduced-byte : (x r : ℕ) → r < 256 → reduced (bitXor x r) ≡ bitXor (reduced x) r
 reduced-byte x r p =
@@ -76,21 +140,9 @@ reduced-byte x r p =
     let low : bitXor x r % 256 ≡ bitXor (x % 256) r = xor-mod x r 8 ∙ rw all in
     rw (high, low) (sym (xor-assoc (bySeven (x / 256)) (x % 256) r))
 
-reduced-self : (x : ℕ) → x < 256 → reduced x ≡ x
-reduced-self x p =
-    let none : x / 256 ≡ 0 = omega (arith, p) in
-    let all : x % 256 ≡ x = omega (arith, p) in
-    rw (none, all)
-
-pub one-byte : (x : ℕ) → x < 256 → reduced (bySeven x) ≡ times 8 shifted x
-one-byte x p = reduced-seven x (omega (arith, p)) ∙ rw (reduced-self x p)
-
 -- the sum of a product and the next byte
 abbrev pub next : ℕ → ℕ → ℕ
 next x r = bitXor (bySeven x) r
-
-pub seven-lt : (k x : ℕ) → 4 * x < 2 ^ k → bySeven x < 2 ^ k
-seven-lt k x p = xor-lt k _ _ (xor-lt k x (2 * x) (omega (arith, p)) (omega (arith, p))) p
 
 pub second-lt : (a r : ℕ) → a < 256 → r < 256 → next a r < 1024
 second-lt a r p q = xor-lt 10 _ _ (seven-lt 10 a (omega (arith, p))) (omega (arith, q))
