@@ -1,15 +1,14 @@
 -- Eight shifts of the check are one product by seven without carries, and several products may be reduced once, at the end.
 -- Assumes nothing.
 use Prim.Native.Nat.{ℕ, zero, suc, _+_, _*_, _/_, _%_, _^_, _<_}
-use native.Mathlib.Nat.{not-suc-le-zero}
 use native.Mathlib.Omega.{arith}
-use mathlib.Core.Path.{_≡_, refl, sym, ap, subst, _∙_}
-use mathlib.Core.Bool.{Bool, true, _&&_}
+use mathlib.Core.Path.{_≡_, refl, sym, ap, _∙_}
+use mathlib.Core.Bool.{Bool, true}
 use lib.Arith.{bin-ind}
 use lib.Bits.{bitXor, xor-block, xor-comm, xor-mod, xor-shifted, xor-shr, xor-lt, xor-zero-r}
 use lib.Dec.{eqb}
-use borrow.Author.Tests.{eqb-true, eqb-false}
-use Rattle.lists.proofs.Split.{split, both}
+use borrow.Author.Tests.{eqb-true}
+use Rattle.lists.proofs.Below.{right-below, right-at}
 use Rattle.frame.specs.Check.{shifted, times, checked}
 
 abbrev pub bySeven : ℕ → ℕ
@@ -17,23 +16,6 @@ bySeven x = bitXor (bitXor x (2 * x)) (4 * x)
 
 abbrev pub reduced : ℕ → ℕ
 reduced x = bitXor (bySeven (x / 256)) (x % 256)
-
--- a test that computes, of every number below n
-unfoldable right-below : (ℕ → Bool) → ℕ → Bool
-right-below right zero = true
-right-below right (suc n) = right n && right-below right n
-
-below : (x n : ℕ) → x < suc n → (x ≡ n → ⊥) → x < n
-below x n p other = omega (arith, other)
-
-right-at : (right : ℕ → Bool) (n : ℕ) → right-below right n ≡ true → (x : ℕ) → x < n → right x ≡ true
-unfolding right-below
-right-at right zero t x p = absurd (not-suc-le-zero p)
-right-at right (suc n) t x p =
-    let h = both (right n) (right-below right n) t in
-    split (eqb x n)
-    (λ e. subst (λ (y : ℕ). right y ≡ true) (sym (eqb-true x n e)) (h .0))
-    (λ e. let other = eqb-false x n e in right-at right n (h .1) x (below x n p other))
 
 -- of a byte, one product reduces to eight shifts
 byte-right : ℕ → Bool

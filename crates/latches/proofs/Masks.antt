@@ -1,14 +1,13 @@
 -- The latches and the switches by a mask of the byte, and the byte without its upper bits: a test that computes, over every byte.
 -- Assumes nothing.
-use Prim.Native.Nat.{ℕ, zero, suc, _%_, _<_}
-use native.Mathlib.Nat.{not-suc-le-zero}
-use native.Mathlib.Omega.{arith}
-use mathlib.Core.Path.{_≡_, refl, sym, subst}
+use Prim.Native.Nat.{ℕ, _%_, _<_}
+use mathlib.Core.Path.{_≡_, refl, sym}
 use mathlib.Core.Bool.{Bool, true, false, true≢false, not, _&&_}
 use lib.Bits.{bitAnd}
 use lib.Dec.{eqb}
-use borrow.Author.Tests.{eqb-true, eqb-false}
-use Rattle.lists.proofs.Split.{split, both}
+use borrow.Author.Tests.{eqb-true}
+use Rattle.lists.proofs.Split.{both}
+use Rattle.lists.proofs.Below.{right-below, right-at}
 use Rattle.marks.specs.Marks.{number}
 use Rattle.latches.specs.Latches.{anyLatch, chgOn, dsgOn, latchesOf, latchesByte}
 
@@ -52,24 +51,9 @@ right-so byte t =
     let l = both (dsg-right byte) (low-right byte) (k .1) in
     (same-so _ _ (h .0), same-so _ _ (k .0), same-so _ _ (l .0), eqb-true (byte % 32) (latchesByte (latchesOf byte)) (l .1))
 
--- the masks are right of every byte below n
-unfoldable right-below : ℕ → Bool
-right-below zero = true
-right-below (suc n) = right n && right-below n
-
-below : (x n : ℕ) → x < suc n → (x ≡ n → ⊥) → x < n
-below x n p other = omega (arith, other)
-
-right-at : (n : ℕ) → right-below n ≡ true → (x : ℕ) → x < n → Right x
-unfolding right-below
-right-at zero t x p = absurd (not-suc-le-zero p)
-right-at (suc n) t x p =
-    let h = both (right n) (right-below n) t in
-    split (eqb x n) (λ e. subst Right (sym (eqb-true x n e)) (right-so n (h .0))) (λ e. right-at n (h .1) x (below x n p (eqb-false x n e)))
-
-all-right : right-below 256 ≡ true
+all-right : right-below right 256 ≡ true
 unfolding right-below latchesByte number
 all-right = refl
 
 pub masks-right : (byte : ℕ) → byte < 256 → Right byte
-masks-right = right-at 256 all-right
+masks-right byte p = right-so byte (right-at right 256 all-right byte p)

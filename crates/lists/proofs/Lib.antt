@@ -1,3 +1,4 @@
 pub mod Split
 pub mod Every
 pub mod Fill
+pub mod Below
