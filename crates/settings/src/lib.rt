@@ -186,10 +186,12 @@ impl Settings {
     pub fn allows(register: u8, value: u8) -> bool
         ensures { λ r. ⌜ r ≡ allowed register value ⌝ }
     {
-        (register == 6)
-            | ((register == 7) & (value < 64))
-            | ((register == 8) & (value < 32))
-            | (register == 9)
-            | (register == 10)
+        if register == 7 {
+            return value < 64;
+        }
+        if register == 8 {
+            return value < 32;
+        }
+        (6 <= register) & (register <= 10)
     }
 }
