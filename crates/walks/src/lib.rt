@@ -37,8 +37,8 @@
 //                 f: r ≡ F row                  h: r ≡ G a               g: r ≡ A row
 // GuardedShared   fn g(row: &[T]) -> O { if good(row) { return f(row); } no() }
 //                 good as g of Every            f: r ≡ F row             no: r ≡ none        g: r ≡ A row
-// Framed          fn g(row: &mut [T], bytes: &[E], reply: &mut [G]) -> O { let d = f1(bytes, reply.len()); let y = f2(row, d); f3(reply, y) }
-//                 f1: r ≡ P bytes room          f2 as g of LendAtPlain   f3: (r ≡ A3 reply y) × (reply' ≡ C3 reply y)
+// Framed          fn g(row: &mut [T], bytes: &[E], reply: &mut [G]) -> O { let d = f1(bytes, reply.len()); if done(d) { return told(d); } let y = f2(row, d); f3(reply, d, y) }
+//                 f1: r ≡ P bytes room          done: r ≡ is-done d      told: r ≡ tells d   f2 as g of LendAtPlain   f3: (r ≡ A3 reply d y) × (reply' ≡ C3 reply d y)
 //                 g: (r ≡ A row bytes reply) × ((row' ≡ R row bytes reply) × (reply' ≡ C row bytes reply))
 // LendsBeside     fn g(boards: [T; N], n: usize, k: K, x: X, cells: &[E]) -> Q { let mut row = boards; let answer = f(&mut row[..n], k, x, cells); Q { boards: row, answer: answer } }
 //                 requires n ≤ N                f as g of LendAt         g: r ≡ A boards n k x cells
