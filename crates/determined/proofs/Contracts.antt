@@ -10,8 +10,10 @@ use Rattle.board.specs.declared.Board.{Board}
 use Rattle.board.specs.declared.Readings.{Readings}
 use Rattle.board.specs.declared.Answer.{Answer}
 use Rattle.board.specs.Sample.{sampleOf}
+use Rattle.frame.specs.declared.Taken.{Taken}
+use Rattle.frame.specs.declared.Outcome.{Outcome}
 use Rattle.frame.specs.declared.Reply.{Reply}
-use Rattle.frame.specs.Reply.{putOf}
+use Rattle.frame.specs.Reply.{replyOf, putOf}
 use Rattle.stack.specs.Sample.{sampleAnswer, sampleRow}
 use Rattle.stack.specs.Frame.{frameAnswer, frameRow, frameBuffer}
 use Rattle.stack.specs.declared.View.{View}
@@ -59,14 +61,17 @@ use Rattle.board.proofs.accept.Reads as board-accept
 use Rattle.frame.proofs.check_all.Reads as frame-check-all
 use Rattle.frame.proofs.check_byte.Reads as frame-check-byte
 use Rattle.frame.proofs.take_apart.Reads as frame-take-apart
+use Rattle.frame.proofs.refused.Reads as frame-refused
 use Rattle.frame.proofs.why.Reads as frame-why
+use Rattle.frame.proofs.refusal.Reads as frame-refusal
 use Rattle.registers.proofs.asks_write.Reads as registers-asks-write
 use Rattle.registers.proofs.asks_programming.Reads as registers-asks-programming
+use Rattle.registers.proofs.asks_staging.Reads as registers-asks-staging
 use Rattle.registers.proofs.spends_cycle.Reads as registers-spends-cycle
-use Rattle.registers.proofs.read_reply.Reads as registers-read-reply
-use Rattle.registers.proofs.kept_reply.Reads as registers-kept-reply
+use Rattle.registers.proofs.tell.Reads as registers-tell
 use Rattle.registers.proofs.stage.Reads as registers-stage
 use Rattle.registers.proofs.spend.Reads as registers-spend
+use Rattle.registers.proofs.keep.Reads as registers-keep
 use Rattle.reading.proofs.summary_of.Reads as reading-summary-of
 use Rattle.reading.proofs.none_seen.Reads as reading-none-seen
 use Rattle.reading.proofs.see.Reads as reading-see
@@ -224,8 +229,14 @@ frame-check-byte-one κs a r t s u = agree
 pub frame-take-apart-one : (κs : _) (a : _) (r t : _) (s u : _) → frame-take-apart.Learnt κs a r s → frame-take-apart.Learnt κs a t u → r ≡ t
 frame-take-apart-one κs a r t s u = agree
 
+pub frame-refused-one : (κs : _) (a : _) (r t : _) (s u : _) → frame-refused.Learnt κs a r s → frame-refused.Learnt κs a t u → r ≡ t
+frame-refused-one κs a r t s u = agree
+
 pub frame-why-one : (κs : _) (a : _) (r t : _) (s u : _) → frame-why.Learnt κs a r s → frame-why.Learnt κs a t u → r ≡ t
 frame-why-one κs a r t s u = agree
+
+pub frame-refusal-one : (κs : _) (a : _) (r t : _) (s u : _) → frame-refusal.Learnt κs a r s → frame-refusal.Learnt κs a t u → r ≡ t
+frame-refusal-one κs a r t s u = agree
 
 -- ---- registers
 pub registers-asks-write-one : (κs : _) (a : _) (r t : _) (s u : _) → registers-asks-write.Learnt κs a r s → registers-asks-write.Learnt κs a t u → r ≡ t
@@ -234,20 +245,23 @@ registers-asks-write-one κs a r t s u = agree
 pub registers-asks-programming-one : (κs : _) (a : _) (r t : _) (s u : _) → registers-asks-programming.Learnt κs a r s → registers-asks-programming.Learnt κs a t u → r ≡ t
 registers-asks-programming-one κs a r t s u = agree
 
+pub registers-asks-staging-one : (κs : _) (a : _) (r t : _) (s u : _) → registers-asks-staging.Learnt κs a r s → registers-asks-staging.Learnt κs a t u → r ≡ t
+registers-asks-staging-one κs a r t s u = agree
+
 pub registers-spends-cycle-one : (κs : _) (a : _) (r t : _) (s u : _) → registers-spends-cycle.Learnt κs a r s → registers-spends-cycle.Learnt κs a t u → r ≡ t
 registers-spends-cycle-one κs a r t s u = agree
 
-pub registers-read-reply-one : (κs : _) (a : _) (r t : _) (s u : _) → registers-read-reply.Learnt κs a r s → registers-read-reply.Learnt κs a t u → r ≡ t
-registers-read-reply-one κs a r t s u = agree
-
-pub registers-kept-reply-one : (κs : _) (a : _) (r t : _) (s u : _) → registers-kept-reply.Learnt κs a r s → registers-kept-reply.Learnt κs a t u → r ≡ t
-registers-kept-reply-one κs a r t s u = agree
+pub registers-tell-one : (κs : _) (a : _) (r t : _) (s u : _) → registers-tell.Learnt κs a r s → registers-tell.Learnt κs a t u → r ≡ t
+registers-tell-one κs a r t s u = agree
 
 pub registers-stage-one : (κs : _) (a : _) (r t : _) (s u : _) → registers-stage.Learnt κs a r s → registers-stage.Learnt κs a t u → r ≡ t
 registers-stage-one κs a r t s u = agree
 
 pub registers-spend-one : (κs : _) (a : _) (r t : _) (s u : _) → registers-spend.Learnt κs a r s → registers-spend.Learnt κs a t u → r ≡ t
 registers-spend-one κs a r t s u = agree
+
+pub registers-keep-one : (κs : _) (a : _) (r t : _) (s u : _) → registers-keep.Learnt κs a r s → registers-keep.Learnt κs a t u → r ≡ t
+registers-keep-one κs a r t s u = agree
 
 -- ---- reading
 pub reading-summary-of-one : (κs : _) (a : _) (r t : _) (s u : _) → reading-summary-of.Learnt κs a r s → reading-summary-of.Learnt κs a t u → r ≡ t
@@ -310,8 +324,8 @@ held-frame-held-one κs a r t s u p q = agree (p .0) (q .0)
 
 -- ---- what writes into what it was lent
 -- the result, and the buffer
-pub frame-put-two : (buffer : List ℕ) (reply : Reply) → Determined (λ (o : Reply × List ℕ). (o .0 ≡ reply) × (o .1 ≡ putOf buffer reply))
-frame-put-two buffer reply = two reply (putOf buffer reply)
+pub frame-put-two : (buffer : List ℕ) (t : Taken) (made : Outcome) → Determined (λ (o : Reply × List ℕ). (o .0 ≡ replyOf t made) × (o .1 ≡ putOf buffer (replyOf t made)))
+frame-put-two buffer t made = two (replyOf t made) (putOf buffer (replyOf t made))
 
 -- the answer, and the record
 pub stack-sample-board-two : (b : Board) (x : Readings) (mv : List ℕ) → Determined (λ (o : Answer × Board). (o .0 ≡ sampleOf b x mv .answer) × (o .1 ≡ sampleOf b x mv .board))

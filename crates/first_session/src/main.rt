@@ -51,6 +51,7 @@ fn framed(s: Stack, bytes: &[u8]) -> Stack {
             address: _,
             register: _,
             value: _,
+            check: _,
         } => {
             show(b"re ", reply[0]);
             show(b" ", reply[1]);

@@ -23,8 +23,8 @@ parts-said (taken.Parts address register v) = refl
 parts-said (taken.Refused why) = said-refused why (taken.Parts 0 0 0) taken.Refused
 
 pub reply-said : (r : Reply) → replySaying (replySaid r) ≡ r
-reply-said (reply.Replied address register v) = refl
-reply-said (reply.Refused why) = said-refused why (reply.Replied 0 0 0) reply.Refused
+reply-said (reply.Replied address register v check) = refl
+reply-said (reply.Refused why) = said-refused why (reply.Replied 0 0 0 0) reply.Refused
 
 -- whatever the conditions of 6, 7 and 8 come to, the case says the number or the values
 said : (x y z : Bool) (p q r : ℕ) → let s = judged (bar 6 x ∷ bar 7 y ∷ bar 8 z ∷ []) (p ∷ q ∷ r ∷ []) in partsSaid (partsSaying s) ≡ s

@@ -1,7 +1,7 @@
 -- A frame taken apart into address, register and value, or else refused (01, Frames and registers; Refusal numbers 6, 7, 8).
 -- Assumes nothing.
 use Prim.Native.Nat.{ℕ, _/_, _%_}
-use mathlib.Core.Bool.{Bool, cond, not}
+use mathlib.Core.Bool.{Bool, false, true, cond, not}
 use mathlib.Core.List.{List, [], _∷_}
 use lib.Dec.{ltb, eqb}
 use lib.ListN.{length, getD}
@@ -43,6 +43,11 @@ partsSaying s = cond (eqb (s .number) 0) (Parts (value 0 s) (value 1 s) (value 2
 
 unfoldable pub takenApart : List ℕ → ℕ → Taken
 takenApart frame room = partsSaying (judged (frameBars frame room) (byte frame 0 ∷ byte frame 1 ∷ byte frame 2 ∷ []))
+
+-- a frame that was refused as it stands
+abbrev pub isRefused : Taken → Bool
+isRefused (Parts address register v) = false
+isRefused (Refused why) = true
 
 -- why a frame was refused; one that was taken apart has no refusal, and Malformed, which no frame is given, stands for that
 abbrev pub whyOf : Taken → Refusal

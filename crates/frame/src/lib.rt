@@ -4,8 +4,8 @@ ghost use mathlib.Core.Path.{_≡_};
 ghost use mathlib.Core.List.{[], _∷_};
 ghost use lib.Bits.{bitXor};
 ghost use Rattle.frame.specs.Check.{checked, checkOf};
-ghost use Rattle.frame.specs.Frame.{takenApart, whyOf};
-ghost use Rattle.frame.specs.Reply.{putOf};
+ghost use Rattle.frame.specs.Frame.{takenApart, isRefused, whyOf};
+ghost use Rattle.frame.specs.Reply.{replyOf, putOf};
 use refusal::Refusal;
 
 // A product by x^2 + x + 1, that is by 7, without carries.
@@ -98,7 +98,17 @@ pub fn take_apart(frame: &[u8], room: usize) -> Taken
     parts(address, register, value)
 }
 
-// Why a frame was refused; for one that was taken apart, the refusal that no frame is given.
+// Whether a frame was refused as it stands, before any board was asked.
+pub fn refused(taken: Taken) -> bool
+    ensures { λ o. ⌜ o ≡ isRefused taken ⌝ }
+{
+    match taken {
+        Taken::Parts { .. } => false,
+        Taken::Refused(_) => true,
+    }
+}
+
+// Why; for a frame that was taken apart, the refusal that no frame is given.
 pub fn why(taken: Taken) -> Refusal
     ensures { λ o. ⌜ o ≡ whyOf taken ⌝ }
 {
@@ -108,19 +118,68 @@ pub fn why(taken: Taken) -> Refusal
     }
 }
 
+pub enum Verdict {
+    Accepted,
+    Refused(Refusal),
+}
+
+// What a board makes of a frame: the verdict, and the value that its reply carries, 0 at a refusal.
+pub struct Outcome {
+    pub verdict: Verdict,
+    pub value: u8,
+}
+
+// The four bytes of a reply, or why there is none.
 pub enum Reply {
     Replied {
         address: u8,
         register: u8,
         value: u8,
+        check: u8,
     },
     Refused(Refusal),
 }
 
-// The reply in the first four bytes of the buffer; a refusal, or a buffer without room, leaves all of it.
-pub fn put(buffer: &mut [u8], reply: Reply) -> Reply
-    ensures { λ o. ⌜ (o ≡ reply) × (now (buffer .exit) ≡ putOf (now (buffer .entry)) reply) ⌝ }
+// The reply to a frame that was refused as it stands.
+pub fn refusal(taken: Taken) -> Reply
+    ensures { λ o. ⌜ o ≡ Reply.Refused (whyOf taken) ⌝ }
 {
+    Reply::Refused(why(taken))
+}
+
+// The reply to a frame, by what its board makes of it.
+fn reply_of(taken: Taken, outcome: Outcome) -> Reply
+    ensures { λ o. ⌜ o ≡ replyOf taken outcome ⌝ }
+{
+    let Taken::Parts {
+        address,
+        register,
+        value: _,
+    } = taken
+    else {
+        return refusal(taken);
+    };
+    let verdict = outcome.verdict;
+    let value = outcome.value;
+    match verdict {
+        Verdict::Accepted => {
+            let check = check_byte(address, register, value);
+            Reply::Replied {
+                address: address,
+                register: register,
+                value: value,
+                check: check,
+            }
+        }
+        Verdict::Refused(why) => Reply::Refused(why),
+    }
+}
+
+// The reply in the first four bytes of the buffer; a refusal, or a buffer without room, leaves all of it.
+pub fn put(buffer: &mut [u8], taken: Taken, outcome: Outcome) -> Reply
+    ensures { λ o. ⌜ (o ≡ replyOf taken outcome) × (now (buffer .exit) ≡ putOf (now (buffer .entry)) (replyOf taken outcome)) ⌝ }
+{
+    let reply = reply_of(taken, outcome);
     if buffer.len() < 4 {
         return reply;
     }
@@ -129,11 +188,12 @@ pub fn put(buffer: &mut [u8], reply: Reply) -> Reply
             address,
             register,
             value,
+            check,
         } => {
             buffer[0] = address;
             buffer[1] = register;
             buffer[2] = value;
-            buffer[3] = check_byte(address, register, value);
+            buffer[3] = check;
             reply
         }
         Reply::Refused(_) => reply,

@@ -3,29 +3,30 @@
 use Prim.Native.Nat.{ℕ, _+_}
 use native.Mathlib.Omega.{arith}
 use mathlib.Core.Path.{_≡_, refl}
-use mathlib.Core.Bool.{Bool, true, false, cond, not, _&&_, _||_}
+use mathlib.Core.Bool.{Bool, true, false, cond, not, _&&_}
 use mathlib.Core.List.{List, [], _∷_}
 use lib.Dec.{leb, eqb}
 use Rattle.refusal.specs.declared.Refusal.{Refusal}
-use Rattle.refusal.specs.Said.{Bar, bar, accepts, refuses, first, judged, kept}
+use Rattle.refusal.specs.Said as saying
+use Rattle.refusal.specs.Said.{Bar, bar, accepts, first, judged, kept}
 use Rattle.settings.specs.Bytes.{same}
 use Rattle.board.specs.declared.Board.{Board}
 use Rattle.frame.specs.declared.Taken.{Taken}
 use Rattle.frame.specs.declared.Taken.the-variants as taken
-use Rattle.frame.specs.declared.Reply.the-variants as reply
+use Rattle.frame.specs.declared.Verdict.the-variants as verdict
 use Rattle.frame.specs.Frame.{writes}
-use Rattle.frame.specs.Reply.{replyBytes, replySaid, replySaying}
-use Rattle.registers.specs.Registers.{known, readValue, fits, programs, staging, spent, lacksCycle, accessBars, boardAfter, replyValue, obeyedOf}
+use Rattle.frame.specs.Reply.{outcomeSaid, outcomeSaying}
+use Rattle.registers.specs.Registers.{noRegister, readValue, fits, programs, staging, spent, lacksCycle, accessBars, boardAfter, replyValue, gives, obeyedOf}
 
 -- a write to register 11 of the value that programs
 module _ (b : Board) (address : ℕ) (write : writes address ≡ true) where
   -- with equal settings it gives the very board back and is accepted, whatever the cycles
-  pub equal-programming : same (b .staged) (b .working) ≡ true → obeyedOf b (taken.Parts address 11 0x41) ≡ record { board = b; answer = reply.Replied address 11 (b .cycles) }
+  pub equal-programming : same (b .staged) (b .working) ≡ true → obeyedOf b (taken.Parts address 11 0x41) ≡ record { board = b; outcome = gives (b .cycles) }
   unfolding obeyedOf boardAfter
   equal-programming equal = rw (write, equal)
 
   -- with unlike settings and a free cycle it spends one
-  pub spending : same (b .staged) (b .working) ≡ false → leb 3 (b .cycles) ≡ false → obeyedOf b (taken.Parts address 11 0x41) ≡ record { board = spent b; answer = reply.Replied address 11 (b .cycles + 1) }
+  pub spending : same (b .staged) (b .working) ≡ false → leb 3 (b .cycles) ≡ false → obeyedOf b (taken.Parts address 11 0x41) ≡ record { board = spent b; outcome = gives (b .cycles + 1) }
   unfolding obeyedOf boardAfter spent
   spending unlike free = rw (write, unlike, free)
 
@@ -42,27 +43,27 @@ spent-works b = refl
 pub staging-unread : (b : Board) (register v k : ℕ) → readValue (staging b register v) k ≡ readValue b k
 staging-unread b register v k = refl
 
--- where the answer is a refusal, what was there is kept
-refused-kept : {A : Type 0} (bars : List Bar) (vs : List ℕ) (old new : A) (why : Refusal) → replySaying (judged bars vs) ≡ reply.Refused why → kept bars old new ≡ old
+-- where the verdict is a refusal, what was there is kept
+refused-kept : {A : Type 0} (bars : List Bar) (vs : List ℕ) (old new : A) (why : Refusal) → outcomeSaying (judged bars vs) .verdict ≡ verdict.Refused why → kept bars old new ≡ old
 refused-kept bars vs old new why = by (eqb (first bars) 0)
   where
-    by : (t : Bool) → replySaying (cond t (accepts vs) (refuses (first bars))) ≡ reply.Refused why → cond t new old ≡ old
+    by : (t : Bool) → outcomeSaying (cond t (accepts vs) (saying.refuses (first bars))) .verdict ≡ verdict.Refused why → cond t new old ≡ old
     by true e = let n : _≡_ {A = ℕ} 0 1 = cc in absurd (omega arith)
     by false e = refl
 
-pub refused-leaves : (b : Board) (t : Taken) (why : Refusal) → obeyedOf b t .answer ≡ reply.Refused why → obeyedOf b t .board ≡ b
+pub refused-leaves : (b : Board) (t : Taken) (why : Refusal) → obeyedOf b t .outcome .verdict ≡ verdict.Refused why → obeyedOf b t .board ≡ b
 unfolding obeyedOf
 refused-leaves b (taken.Parts address register v) why e = refused-kept (accessBars b (writes address) register v) _ b _ why e
 refused-leaves b (taken.Refused other) why e = refl
 
--- whatever the conditions of 9, 10 and 11 come to, the case says the number or the values
-said : (x y z : Bool) (p q r : ℕ) → let s = judged (bar 9 x ∷ bar 10 y ∷ bar 11 z ∷ []) (replyBytes p q r) in replySaid (replySaying s) ≡ s
-said true y z p q r = refl
-said false true z p q r = refl
-said false false true p q r = refl
-said false false false p q r = refl
+-- whatever the conditions of 9, 10 and 11 come to, the outcome says the number or the value
+said : (x y z : Bool) (v : ℕ) → let s = judged (bar 9 x ∷ bar 10 y ∷ bar 11 z ∷ []) (v ∷ []) in outcomeSaid (outcomeSaying s) ≡ s
+said true y z v = refl
+said false true z v = refl
+said false false true v = refl
+said false false false v = refl
 
-pub obeyed-said : (b : Board) (address register v : ℕ) → let after = boardAfter b (writes address) register v in replySaid (obeyedOf b (taken.Parts address register v) .answer) ≡ judged (accessBars b (writes address) register v) (replyBytes address register (replyValue after (writes address) register v))
+pub obeyed-said : (b : Board) (address register v : ℕ) → let after = boardAfter b (writes address) register v in outcomeSaid (obeyedOf b (taken.Parts address register v) .outcome) ≡ judged (accessBars b (writes address) register v) (replyValue after (writes address) register v ∷ [])
 unfolding obeyedOf
 obeyed-said b address register v =
-    said (not (known register) || writes address && eqb register 0) (not (fits (writes address) register v)) (programs (writes address) register && lacksCycle b) _ _ _
+    said (noRegister (writes address) register) (not (fits (writes address) register v)) (programs (writes address) register && lacksCycle b) _

@@ -13,15 +13,19 @@ use Rattle.board.specs.declared.Board.{Board}
 use Rattle.latches.specs.Latches.{latchesOf, register0}
 use Rattle.frame.specs.declared.Taken.{Taken}
 use Rattle.frame.specs.declared.Taken.the-variants as taken
-use Rattle.frame.specs.declared.Reply.{Reply}
-use Rattle.frame.specs.declared.Reply.the-variants as reply
+use Rattle.frame.specs.declared.Verdict.the-variants as verdict
+use Rattle.frame.specs.declared.Outcome.{Outcome}
 use Rattle.frame.specs.Frame.{writes}
-use Rattle.frame.specs.Reply.{replyBytes, replySaying}
+use Rattle.frame.specs.Reply.{outcomeSaying}
 use Rattle.registers.specs.declared.Obeyed.{Obeyed}
 
 -- the map: register 0, and registers 6 to 11
 abbrev pub known : ℕ → Bool
 known register = eqb register 0 || leb 6 register && leb register 11
+
+-- a register that is not there to be read, or to be written
+abbrev pub noRegister : Bool → ℕ → Bool
+noRegister writes register = not (known register) || writes && eqb register 0
 
 -- what a read gives: the status, the cycles spent, or a working byte
 abbrev pub readValue : Board → ℕ → ℕ
@@ -51,19 +55,22 @@ staging b register v =
       cells = b .cells;
     }
 
--- a cycle is spent: staged becomes working and every run starts over; latches and flags stay
-unfoldable pub spent : Board → Board
-spent b =
+-- a cycle is spent, the count is then so many: staged becomes working and every run starts over; latches and flags stay
+abbrev pub spentTo : ℕ → Board → Board
+spentTo cycles b =
     record {
       count = b .count;
       latches = b .latches;
-      cycles = b .cycles + 1;
+      cycles = cycles;
       flags = b .flags;
       working = b .staged;
       staged = b .staged;
       currents = record { ocd = 0; scd = 0 };
       cells = noCells;
     }
+
+unfoldable pub spent : Board → Board
+spent b = spentTo (b .cycles + 1) b
 
 -- programming: nothing changes where staged is equal to working
 abbrev pub programmed : Board → Board
@@ -76,7 +83,7 @@ lacksCycle b = not (same (b .staged) (b .working)) && leb 3 (b .cycles)
 -- refusals 9, 10, 11 in order
 abbrev pub accessBars : Board → Bool → ℕ → ℕ → List Bar
 accessBars b writes register v =
-    bar 9 (not (known register) || writes && eqb register 0)
+    bar 9 (noRegister writes register)
     ∷ bar 10 (not (fits writes register v))
     ∷ bar 11 (programs writes register && lacksCycle b)
     ∷ []
@@ -90,17 +97,23 @@ abbrev pub replyValue : Board → Bool → ℕ → ℕ → ℕ
 replyValue after writes register v =
     cond (programs writes register) (after .cycles) (cond writes v (readValue after register))
 
--- an access: the board and the reply, or the first refusal and the board as it was
+-- an access: the board and the reply's value, or the first refusal and the board as it was
 abbrev pub accessOf : Board → ℕ → ℕ → ℕ → Obeyed
 accessOf b address register v =
     let bars = accessBars b (writes address) register v in
     let after = boardAfter b (writes address) register v in
     let value = replyValue after (writes address) register v in
-    record { board = kept bars b after; answer = replySaying (judged bars (replyBytes address register value)) }
+    record { board = kept bars b after; outcome = outcomeSaying (judged bars (value ∷ [])) }
 
--- a refusal changes nothing
+-- the two kinds of outcome; a refusal changes nothing
+abbrev pub gives : ℕ → Outcome
+gives v = record { verdict = verdict.Accepted; value = v }
+
+abbrev pub refuses : Refusal → Outcome
+refuses why = record { verdict = verdict.Refused why; value = 0 }
+
 abbrev pub refusedOf : Board → Refusal → Obeyed
-refusedOf b why = record { board = b; answer = reply.Refused why }
+refusedOf b why = record { board = b; outcome = refuses why }
 
 -- a frame that was taken apart is an access; any other is refused as it stands
 unfoldable pub obeyedOf : Board → Taken → Obeyed
@@ -109,7 +122,7 @@ obeyedOf b (taken.Refused why) = refusedOf b why
 
 -- ---- the same on the way: which way a frame goes, by the board as it is, and what each way gives
 
--- a write, and a write that programs; a frame that was refused is neither
+-- a write, one that programs, and one that stages; a frame that was refused is none
 abbrev pub asksWrite : Taken → Bool
 asksWrite (taken.Parts address register v) = writes address
 asksWrite (taken.Refused why) = false
@@ -118,69 +131,56 @@ abbrev pub asksProgramming : Taken → Bool
 asksProgramming (taken.Parts address register v) = programs (writes address) register && eqb v 0x41
 asksProgramming (taken.Refused why) = false
 
+abbrev pub asksStaging : Taken → Bool
+asksStaging (taken.Parts address register v) = writes address && allowed register v
+asksStaging (taken.Refused why) = false
+
 -- programming would spend a cycle, and has one to spend
 unfoldable pub spendsCycle : Board → Bool
 spendsCycle b = not (same (b .staged) (b .working)) && ltb (b .cycles) 3
 
--- refusal 9
-abbrev pub noRegister : Bool → ℕ → Bool
-noRegister writes register = not (known register) || writes && eqb register 0
+-- a frame that leaves the board: refusals 9 and 10 in order, of a write or of a read with a value, else what is read
+abbrev pub barOf : Bool → ℕ → Refusal
+barOf writes register = cond (noRegister writes register) NoRegister BadValue
 
--- a frame that is no write leaves the board: refusals 9 and 10 in order, else the value read
-unfoldable pub readReply : Board → Taken → Reply
-readReply b (taken.Parts address register v) =
-    cond (noRegister false register) (reply.Refused NoRegister)
-    (cond (eqb v 0) (reply.Replied address register (readValue b register)) (reply.Refused BadValue))
-readReply b (taken.Refused why) = reply.Refused why
+abbrev pub readOf : Board → ℕ → Outcome
+readOf b register = cond (known register) (gives (readValue b register)) (refuses NoRegister)
 
-abbrev pub readBy : Board → Taken → Obeyed
-readBy b t = record { board = b; answer = readReply b t }
+unfoldable pub toldOf : Board → Taken → Outcome
+toldOf b (taken.Parts address register v) =
+    cond (writes address || not (eqb v 0)) (refuses (barOf (writes address) register)) (readOf b register)
+toldOf b (taken.Refused why) = refuses why
 
--- a write that does not program: refusals 9 and 10 in order, else the byte; register 11 takes no other value
-abbrev pub stagedReply : Bool → ℕ → ℕ → ℕ → Reply
-stagedReply fits address register v =
-    cond (noRegister true register) (reply.Refused NoRegister)
-    (cond fits (reply.Replied address register v) (reply.Refused BadValue))
+abbrev pub toldBy : Board → Taken → Obeyed
+toldBy b t = record { board = b; outcome = toldOf b t }
 
+-- a write that stages gives the byte back
 unfoldable pub stagedBy : Board → Taken → Obeyed
-stagedBy b (taken.Parts address register v) =
-    record { board = cond (allowed register v) (staging b register v) b; answer = stagedReply (allowed register v) address register v }
+stagedBy b (taken.Parts address register v) = record { board = staging b register v; outcome = gives v }
 stagedBy b (taken.Refused why) = refusedOf b why
 
--- one cycle more; a count with none left, which is never asked, stays, so that it fits its byte
+-- programming that spends gives the cycles then spent; a count with none left, which is never asked, stays, so that it fits its byte
 abbrev pub cyclesAfter : ℕ → ℕ
 cyclesAfter cycles = cond (ltb cycles 3) (cycles + 1) cycles
 
--- programming that spends: `spent` by that count, and the count
-abbrev pub spentWithin : Board → Board
-spentWithin b =
-    record {
-      count = b .count;
-      latches = b .latches;
-      cycles = cyclesAfter (b .cycles);
-      flags = b .flags;
-      working = b .staged;
-      staged = b .staged;
-      currents = record { ocd = 0; scd = 0 };
-      cells = noCells;
-    }
-
 unfoldable pub spentBy : Board → Taken → Obeyed
 spentBy b (taken.Parts address register v) =
-    record { board = spentWithin b; answer = reply.Replied address register (cyclesAfter (b .cycles)) }
+    record { board = spentTo (cyclesAfter (b .cycles)) b; outcome = gives (cyclesAfter (b .cycles)) }
 spentBy b (taken.Refused why) = refusedOf b why
 
 -- programming that does not spend leaves the board: the cycles for equal settings, else refusal 11
-unfoldable pub keptReply : Board → Taken → Reply
-keptReply b (taken.Parts address register v) =
-    cond (same (b .staged) (b .working)) (reply.Replied address register (b .cycles)) (reply.Refused NoCycle)
-keptReply b (taken.Refused why) = reply.Refused why
+unfoldable pub keptOf : Board → Taken → Outcome
+keptOf b (taken.Parts address register v) = cond (same (b .staged) (b .working)) (gives (b .cycles)) (refuses NoCycle)
+keptOf b (taken.Refused why) = refuses why
 
 abbrev pub keptBy : Board → Taken → Obeyed
-keptBy b t = record { board = b; answer = keptReply b t }
+keptBy b t = record { board = b; outcome = keptOf b t }
 
 abbrev pub programmedBy : Board → Taken → Obeyed
 programmedBy b t = cond (spendsCycle b) (spentBy b t) (keptBy b t)
 
-abbrev pub changedBy : Board → Taken → Obeyed
-changedBy b t = cond (asksProgramming t) (programmedBy b t) (stagedBy b t)
+abbrev pub setBy : Board → Taken → Obeyed
+setBy b t = cond (asksStaging t) (stagedBy b t) (toldBy b t)
+
+abbrev pub writtenBy : Board → Taken → Obeyed
+writtenBy b t = cond (asksProgramming t) (programmedBy b t) (setBy b t)

@@ -1,48 +1,38 @@
 // The register map of one board, and programming, by value (01, Frames and registers).
 ghost use mathlib.Core.Path.{_≡_};
-ghost use mathlib.Core.Bool.{cond};
-ghost use Rattle.settings.specs.Bytes.{withByte};
-ghost use Rattle.frame.specs.declared.Reply.the-variants as reply;
 ghost use Rattle.frame.specs.Frame.{writes};
-ghost use Rattle.registers.specs.Registers.{readValue, asksWrite, asksProgramming, spendsCycle, noRegister, readReply, stagedReply, stagedBy, cyclesAfter, spentBy, keptReply};
+ghost use Rattle.registers.specs.Registers.{gives, refuses, noRegister, asksWrite, asksProgramming, asksStaging, spendsCycle, barOf, readOf, toldOf, stagedBy, cyclesAfter, spentBy, keptOf};
 use board::Board;
 use board::Currents;
-use frame::Reply;
+use frame::Outcome;
 use frame::Taken;
+use frame::Verdict;
 use refusal::Refusal;
 use settings::Settings;
 
-// The board after a frame, and the reply to it.
+// The board after a frame, and what it makes of the frame.
 pub struct Obeyed {
     pub board: Board,
-    pub answer: Reply,
+    pub outcome: Outcome,
 }
 
-// A reply is made here and in `refuses` alone: a function that makes one at each way out copies it at each.
-fn replies(address: u8, register: u8, value: u8) -> Reply
-    ensures { λ r. ⌜ r ≡ reply.Replied address register value ⌝ }
+fn given(value: u8) -> Outcome
+    ensures { λ r. ⌜ r ≡ gives value ⌝ }
 {
-    Reply::Replied {
-        address: address,
-        register: register,
+    let verdict = Verdict::Accepted;
+    Outcome {
+        verdict: verdict,
         value: value,
     }
 }
 
-fn refuses(why: Refusal) -> Reply
-    ensures { λ r. ⌜ r ≡ reply.Refused why ⌝ }
+fn refused(why: Refusal) -> Outcome
+    ensures { λ r. ⌜ r ≡ refuses why ⌝ }
 {
-    Reply::Refused(why)
-}
-
-// A read of the settings gives the working bytes, so that a worn memory shows.
-fn read_value(b: Board, register: u8) -> u8
-    ensures { λ r. ⌜ r ≡ readValue b register ⌝ }
-{
-    match register {
-        0 => latches::status_of(b.latches),
-        11 => b.cycles,
-        _ => b.working.byte(register),
+    let verdict = Verdict::Refused(why);
+    Outcome {
+        verdict: verdict,
+        value: 0,
     }
 }
 
@@ -94,6 +84,21 @@ pub fn asks_programming(taken: Taken) -> bool
     is_write(address) & (register == 11) & (value == KEY)
 }
 
+// Of a write that does not program: whether it stages.
+pub fn asks_staging(taken: Taken) -> bool
+    ensures { λ r. ⌜ r ≡ asksStaging taken ⌝ }
+{
+    let Taken::Parts {
+        address,
+        register,
+        value,
+    } = taken
+    else {
+        return false;
+    };
+    is_write(address) & Settings::allows(register, value)
+}
+
 // Programming equal settings spends nothing.
 pub fn spends_cycle(b: Board) -> bool
     ensures { λ r. ⌜ r ≡ spendsCycle b ⌝ }
@@ -104,9 +109,32 @@ pub fn spends_cycle(b: Board) -> bool
 
 // ---- what each way gives
 
-// No write: the board stays.
-pub fn read_reply(b: Board, taken: Taken) -> Reply
-    ensures { λ r. ⌜ r ≡ readReply b taken ⌝ }
+// Why a write that does neither is refused, or a read that carries a value.
+fn bar_of(writes: bool, register: u8) -> Refusal
+    ensures { λ r. ⌜ r ≡ barOf writes register ⌝ }
+{
+    if no_register(writes, register) {
+        Refusal::NoRegister
+    } else {
+        Refusal::BadValue
+    }
+}
+
+// A read of the settings gives the working bytes, so that a worn memory shows.
+fn read(b: Board, register: u8) -> Outcome
+    ensures { λ r. ⌜ r ≡ readOf b register ⌝ }
+{
+    match register {
+        0 => given(latches::status_of(b.latches)),
+        6..=10 => given(b.working.byte(register)),
+        11 => given(b.cycles),
+        _ => refused(Refusal::NoRegister),
+    }
+}
+
+// A read, or a write that is refused: the board stays.
+pub fn tell(b: Board, taken: Taken) -> Outcome
+    ensures { λ r. ⌜ r ≡ toldOf b taken ⌝ }
 {
     let Taken::Parts {
         address,
@@ -114,60 +142,36 @@ pub fn read_reply(b: Board, taken: Taken) -> Reply
         value,
     } = taken
     else {
-        return refuses(frame::why(taken));
+        return refused(frame::why(taken));
     };
-    if no_register(false, register) {
-        return refuses(Refusal::NoRegister);
+    let writes = is_write(address);
+    if writes | (value != 0) {
+        return refused(bar_of(writes, register));
     }
-    if value != 0 {
-        return refuses(Refusal::BadValue);
-    }
-    replies(address, register, read_value(b, register))
+    read(b, register)
 }
 
-fn staged_after(old: Settings, fits: bool, register: u8, value: u8) -> Settings
-    ensures { λ r. ⌜ r ≡ cond fits (withByte old register value) old ⌝ }
-{
-    if fits {
-        old.with_byte(register, value)
-    } else {
-        old
-    }
-}
-
-fn staged_reply(fits: bool, address: u8, register: u8, value: u8) -> Reply
-    ensures { λ r. ⌜ r ≡ stagedReply fits address register value ⌝ }
-{
-    if no_register(true, register) {
-        return refuses(Refusal::NoRegister);
-    }
-    if fits {
-        return replies(address, register, value);
-    }
-    refuses(Refusal::BadValue)
-}
-
-// A write that does not program. A refused value stages what is staged, so that the record is made in one place.
+// A write that stages.
 pub fn stage(b: Board, taken: Taken) -> Obeyed
     ensures { λ r. ⌜ r ≡ stagedBy b taken ⌝ }
 {
     let Taken::Parts {
-        address,
+        address: _,
         register,
         value,
     } = taken
     else {
         return Obeyed {
             board: b,
-            answer: refuses(frame::why(taken)),
+            outcome: refused(frame::why(taken)),
         };
     };
-    let fits = Settings::allows(register, value);
+    let staged = b.staged.with_byte(register, value);
     let mut next = b;
-    next.staged = staged_after(b.staged, fits, register, value);
+    next.staged = staged;
     Obeyed {
         board: next,
-        answer: staged_reply(fits, address, register, value),
+        outcome: given(value),
     }
 }
 
@@ -181,15 +185,10 @@ fn cycles_after(cycles: u8) -> u8
 pub fn spend(b: Board, taken: Taken) -> Obeyed
     ensures { λ r. ⌜ r ≡ spentBy b taken ⌝ }
 {
-    let Taken::Parts {
-        address,
-        register,
-        value: _,
-    } = taken
-    else {
+    let Taken::Parts { .. } = taken else {
         return Obeyed {
             board: b,
-            answer: refuses(frame::why(taken)),
+            outcome: refused(frame::why(taken)),
         };
     };
     let cycles = cycles_after(b.cycles);
@@ -203,26 +202,21 @@ pub fn spend(b: Board, taken: Taken) -> Obeyed
     next.cells = cells;
     Obeyed {
         board: next,
-        answer: replies(address, register, cycles),
+        outcome: given(cycles),
     }
 }
 
 // Programming that spends none: the board stays. Equal settings are never refused.
-pub fn kept_reply(b: Board, taken: Taken) -> Reply
-    ensures { λ r. ⌜ r ≡ keptReply b taken ⌝ }
+pub fn keep(b: Board, taken: Taken) -> Outcome
+    ensures { λ r. ⌜ r ≡ keptOf b taken ⌝ }
 {
-    let Taken::Parts {
-        address,
-        register,
-        value: _,
-    } = taken
-    else {
-        return refuses(frame::why(taken));
+    let Taken::Parts { .. } = taken else {
+        return refused(frame::why(taken));
     };
     let cycles = b.cycles;
     let equal = b.staged.same(b.working);
     if equal {
-        return replies(address, register, cycles);
+        return given(cycles);
     }
-    refuses(Refusal::NoCycle)
+    refused(Refusal::NoCycle)
 }

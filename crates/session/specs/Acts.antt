@@ -9,7 +9,6 @@ use Rattle.refusal.specs.Refusals.{numberOf}
 use Rattle.board.specs.declared.Readings.{Readings}
 use Rattle.board.specs.declared.Answer.{Answer}
 use Rattle.board.specs.declared.Answer.the-variants as answer
-use Rattle.frame.specs.Check.{checkOf}
 use Rattle.frame.specs.declared.Reply.{Reply}
 use Rattle.frame.specs.declared.Reply.the-variants as reply
 use Rattle.stack.specs.declared.Stack.{Stack}
@@ -83,7 +82,7 @@ sampleTold (answer.Sampled status bled) = told.Status status bled
 sampleTold (answer.Refused why) = told.Refused (numberOf why)
 
 abbrev pub replyTold : Reply → Told
-replyTold (reply.Replied address register v) = told.Reply address register v (checkOf (address ∷ register ∷ v ∷ []))
+replyTold (reply.Replied address register v check) = told.Reply address register v check
 replyTold (reply.Refused why) = told.Refused (numberOf why)
 
 abbrev pub viewTold : View → Told

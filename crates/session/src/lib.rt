@@ -162,11 +162,12 @@ fn reply_told(a: Reply) -> Told
             address,
             register,
             value,
+            check,
         } => Told::Reply {
             address: address,
             register: register,
             value: value,
-            check: frame::check_byte(address, register, value),
+            check: check,
         },
         Reply::Refused(why) => Told::Refused(refusal::number(why)),
     }

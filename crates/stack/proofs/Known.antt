@@ -21,6 +21,8 @@ use Rattle.board.proofs.Stepped as Stepped
 use Rattle.board.proofs.Stepped.Laws as Stepped′
 use Rattle.frame.proofs.Taken as Taken
 use Rattle.frame.proofs.Taken.Laws as Taken′
+use Rattle.frame.proofs.Outcome as Outcome
+use Rattle.frame.proofs.Outcome.Laws as Outcome′
 use Rattle.frame.proofs.Reply as Reply
 use Rattle.frame.proofs.Reply.Laws as Reply′
 use Rattle.registers.proofs.Obeyed as Obeyed
@@ -49,6 +51,9 @@ module _ {M : Type 1} (𝓤 : URA M) (H : Heap 𝓤) (A : Atoms 𝓤) (W : Given
   abbrev pub taken : PlainType 𝓤 H A Taken.the-row
   taken = enumeration 𝓤 H A W Taken.the-type Taken′.the-laws Taken′.the-plain Taken′.the-copy tt
 
+  abbrev pub outcome : PlainType 𝓤 H A Outcome.the-row
+  outcome = struct 𝓤 H A W Outcome.the-type Outcome′.the-laws Outcome′.the-plain Outcome′.the-copy
+
   abbrev pub reply : PlainType 𝓤 H A Reply.the-row
   reply = enumeration 𝓤 H A W Reply.the-type Reply′.the-laws Reply′.the-plain Reply′.the-copy tt
 
@@ -70,12 +75,12 @@ module _ {M : Type 1} (𝓤 : URA M) (H : Heap 𝓤) (A : Atoms 𝓤) (W : Given
         owed = λ z is. (LL.owed Stepped.the-type Stepped′.the-laws z _ is .0, LL.owed Stepped.the-type Stepped′.the-laws z _ is .1 .0);
       }
 
-  abbrev pub obeyed : PlainPair 𝓤 H A Obeyed.the-type Board.the-row Reply.the-row (λ z. z .board) (λ z. z .answer)
+  abbrev pub obeyed : PlainPair 𝓤 H A Obeyed.the-type Board.the-row Outcome.the-row (λ z. z .board) (λ z. z .outcome)
   obeyed =
       record {
         both = struct 𝓤 H A W Obeyed.the-type Obeyed′.the-laws Obeyed′.the-plain Obeyed′.the-copy;
         first = board;
-        second = reply;
+        second = outcome;
         laid-out = refl;
         spelled = λ z. refl;
         owed = λ z is. (LL.owed Obeyed.the-type Obeyed′.the-laws z _ is .0, LL.owed Obeyed.the-type Obeyed′.the-laws z _ is .1 .0);

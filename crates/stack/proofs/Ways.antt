@@ -2,7 +2,7 @@
 -- Assumes nothing.
 use Prim.Native.Nat.{ℕ, zero, suc, _+_, _-_, _<_, _≤_}
 use native.Mathlib.Omega.{arith}
-use mathlib.Core.Path.{_≡_, refl}
+use mathlib.Core.Path.{_≡_, refl, ap, _∙_}
 use mathlib.Core.Bool.{Bool, true, false, cond, not}
 use mathlib.Core.List.{List, [], _∷_, _++_}
 use lib.Dec.{ltb, eqb}
@@ -18,15 +18,15 @@ use Rattle.refusal.specs.Said.{first, accepts, refuses}
 use Rattle.board.specs.declared.Board.{Board}
 use Rattle.board.specs.declared.Readings.{Readings}
 use Rattle.board.specs.Sample.{fresh, badBoard, readingBars, boardNext, sampleOf}
-use Rattle.frame.specs.declared.Taken.the-variants as taken
+use Rattle.frame.specs.declared.Reply.{Reply}
 use Rattle.frame.specs.declared.Reply.the-variants.{Refused}
 use Rattle.frame.specs.Frame.{byte, boardOf, writes, takenApart}
 use Rattle.frame.specs.Check.{checkOf}
-use Rattle.frame.specs.Reply.{replyBytes, replySaying, putOf}
+use Rattle.frame.specs.Reply.{replyBytes, outcomeSaying, replySaying, replyBy, replyOf, putOf}
 use Rattle.registers.specs.Registers.{accessBars, replyValue, obeyedOf}
 use Rattle.stack.specs.Row.{badCount, goodRow, noBoard, placeOf, boardAt}
 use Rattle.stack.specs.Sample.{noRowSample, sampleAnswerAt, sampleRowAt, sampleAnswer, sampleRow}
-use Rattle.stack.specs.Frame.{framePlace, frameBoard, boardFramed, obeyAnswerAt, obeyRowAt, obeyAnswer, obeyRow, frameAnswer, frameRow, frameBuffer}
+use Rattle.stack.specs.Frame.{framePlace, frameBoard, boardFramed, obeyOutcomeAt, obeyRowAt, noRowReply, frameAnswerIn, frameRowIn, frameBufferIn, frameAnswer, frameRow, frameBuffer}
 use Rattle.stack.proofs.Counts.{within}
 
 -- a record that is new only where the act is accepted
@@ -82,16 +82,14 @@ sample-bad row n x mv bad = (rw bad, rw bad)
 
 -- ---- a frame
 
--- a frame that was not taken apart changes no board
-refused-way : (row : List Board) (why : Refusal) → goodRow row ≡ true → (obeyAnswer row (taken.Refused why) ≡ Refused why) × (obeyRow row (taken.Refused why) ≡ row)
-unfolding obeyAnswer obeyRow obeyAnswerAt obeyRowAt obeyedOf
-refused-way row why good =
-    let some : 0 < length row = row-size row good .0 in
-    (rw (good, lt-ltb 0 (length row) some), rw (good, lt-ltb 0 (length row) some, set-getD row 0 (fresh 0)))
+-- the reply to an access that is judged by its bars, and the buffer with room that it is put into
+abbrev judgedReply : ℕ → ℕ → ℕ → ℕ → Reply
+judgedReply n address register v = replySaying (cond (eqb n 0) (accepts (replyBytes address register v)) (refuses n))
 
--- the reply to an access that is judged by its bars, put into a buffer with room
-put-judged : (n address register v : ℕ) (buffer : List ℕ) → ltb (length buffer) 4 ≡ false
-    → putOf buffer (replySaying (cond (eqb n 0) (accepts (replyBytes address register v)) (refuses n))) ≡ cond (eqb n 0) (replyBytes address register v ++ drop 4 buffer) buffer
+reply-judged : (n address register v : ℕ) → let o = outcomeSaying (cond (eqb n 0) (accepts (v ∷ [])) (refuses n)) in replyBy address register (o .value) (o .verdict) ≡ judgedReply n address register v
+reply-judged n address register v = split (eqb n 0) (λ e. rw e) (λ e. rw (e, e))
+
+put-judged : (n address register v : ℕ) (buffer : List ℕ) → ltb (length buffer) 4 ≡ false → putOf buffer (judgedReply n address register v) ≡ cond (eqb n 0) (replyBytes address register v ++ drop 4 buffer) buffer
 unfolding putOf
 put-judged n address register v buffer room = split (eqb n 0) (λ e. rw (e, room)) (λ e. rw (e, room, e))
 
@@ -100,53 +98,43 @@ put-refused : (buffer : List ℕ) (why : Refusal) → putOf buffer (Refused why)
 unfolding putOf
 put-refused buffer why = split (ltb (length buffer) 4) (λ e. rw e) (λ e. rw e)
 
-pub record Way (row : List Board) (bytes buffer : List ℕ) : Type 0 where
-  pub says : obeyAnswer row (takenApart bytes (length buffer)) ≡ frameAnswer row bytes buffer
-  pub leaves : obeyRow row (takenApart bytes (length buffer)) ≡ frameRow row bytes buffer
-  pub puts : putOf buffer (obeyAnswer row (takenApart bytes (length buffer))) ≡ frameBuffer row bytes buffer
+-- what the routine does on a row is what the paper says of it
+abbrev Framed : List Board → List ℕ → List ℕ → Reply → List Board → List ℕ → Type 0
+Framed row bytes buffer answer after put = (answer ≡ frameAnswer row bytes buffer) × ((after ≡ frameRow row bytes buffer) × (put ≡ frameBuffer row bytes buffer))
 
-bad-way : (row : List Board) (bytes buffer : List ℕ) → goodRow row ≡ false → Way row bytes buffer
-unfolding obeyAnswer obeyRow frameAnswer frameRow frameBuffer
-bad-way row bytes buffer bad = record { says = rw bad; leaves = rw bad; puts = rw bad (put-refused buffer (numbered 1)) }
-
-refused-frame : (row : List Board) (bytes buffer : List ℕ) (k : ℕ) → goodRow row ≡ true → takenApart bytes (length buffer) ≡ taken.Refused (numbered k)
-    → frameAnswer row bytes buffer ≡ Refused (numbered k) → frameRow row bytes buffer ≡ row → frameBuffer row bytes buffer ≡ buffer → Way row bytes buffer
-refused-frame row bytes buffer k good t a r b =
-    let way = refused-way row (numbered k) good in
-    record { says = rw (t, a) (way .0); leaves = rw (t, r) (way .1); puts = rw (t, b, way .0) (put-refused buffer (numbered k)) }
-
-good-way : (row : List Board) (bytes buffer : List ℕ) → goodRow row ≡ true → Way row bytes buffer
-unfolding takenApart obeyAnswer obeyRow obeyAnswerAt obeyRowAt obeyedOf frameAnswer frameRow frameBuffer
-good-way row bytes buffer good =
+-- a frame to a good row
+pub frame-good : (row : List Board) (bytes buffer : List ℕ) → goodRow row ≡ true → Framed row bytes buffer (frameAnswerIn row bytes buffer) (frameRowIn row bytes buffer) (frameBufferIn row bytes buffer)
+unfolding frameAnswerIn frameRowIn frameBufferIn takenApart obeyOutcomeAt obeyRowAt obeyedOf replyOf frameAnswer frameRow frameBuffer
+frame-good row bytes buffer good =
     let room = length buffer in
     let check = checkOf (byte bytes 0 ∷ byte bytes 1 ∷ byte bytes 2 ∷ []) in
     let place = framePlace bytes in
     let n = first (accessBars (frameBoard row bytes) (writes (byte bytes 0)) (byte bytes 1) (byte bytes 2)) in
     let v = replyValue (boardFramed row bytes) (writes (byte bytes 0)) (byte bytes 1) (byte bytes 2) in
+    let replied = reply-judged n (byte bytes 0) (byte bytes 1) v in
     split (eqb (length bytes) 4)
     (λ e6.
     split (ltb room 4)
-    (λ e7. refused-frame row bytes buffer 7 good (rw (e6, e7)) (rw (good, e6, e7)) (rw (good, e6, e7)) (rw (good, e6, e7)))
+    (λ e7. (rw (e6, e7, good), (rw (e6, e7, good), rw (e6, e7, good))))
     (λ e7.
     split (eqb (byte bytes 3) check)
     (λ e8.
     split (ltb place (length row))
     (λ e.
-    let there = has-board row good (boardOf (byte bytes 0)) (ltb-true place (length row) e) in
-    record {
-      says = rw (e6, e7, e8, good, e, there);
-      leaves = rw (e6, e7, e8, good, e, there) (set-kept (eqb n 0) row place (boardFramed row bytes));
-      puts = rw (e6, e7, e8, good, e, there) (put-judged n (byte bytes 0) (byte bytes 1) v buffer e7);
-    })
+    let there = has-board row good (boardOf (byte bytes 0)) (ltb-true place (length row) e) in (
+      rw (e6, e7, e8, good, e, there) replied,
+      (
+        rw (e6, e7, e8, good, e, there) (set-kept (eqb n 0) row place (boardFramed row bytes)),
+        rw (e6, e7, e8, good, e, there) (ap (putOf buffer) replied ∙ put-judged n (byte bytes 0) (byte bytes 1) v buffer e7),
+      ),
+    ))
     (λ e.
     let none = has-none row good (boardOf (byte bytes 0)) (ltb-false place (length row) e) in
-    record {
-      says = rw (e6, e7, e8, good, e, none);
-      leaves = rw (e6, e7, e8, good, e, none);
-      puts = rw (e6, e7, e8, good, e, none) (put-refused buffer (numbered 2));
-    }))
-    (λ e8. refused-frame row bytes buffer 8 good (rw (e6, e7, e8)) (rw (good, e6, e7, e8)) (rw (good, e6, e7, e8)) (rw (good, e6, e7, e8)))))
-    (λ e6. refused-frame row bytes buffer 6 good (rw e6) (rw (good, e6)) (rw (good, e6)) (rw (good, e6)))
+    (rw (e6, e7, e8, good, e, none), (rw (e6, e7, e8, good, e, none), rw (e6, e7, e8, good, e, none) (put-refused buffer (numbered 2))))))
+    (λ e8. (rw (e6, e7, e8, good), (rw (e6, e7, e8, good), rw (e6, e7, e8, good))))))
+    (λ e6. (rw (e6, good), (rw (e6, good), rw (e6, good))))
 
-pub frame-way : (row : List Board) (bytes buffer : List ℕ) → Way row bytes buffer
-frame-way row bytes buffer = split (goodRow row) (good-way row bytes buffer) (bad-way row bytes buffer)
+-- a frame to a bad row
+pub frame-bad : (row : List Board) (bytes buffer : List ℕ) → goodRow row ≡ false → Framed row bytes buffer noRowReply row buffer
+unfolding frameAnswer frameRow frameBuffer
+frame-bad row bytes buffer bad = (rw bad, (rw bad, rw bad))

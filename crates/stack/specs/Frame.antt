@@ -12,9 +12,10 @@ use Rattle.frame.specs.declared.Taken.{Taken}
 use Rattle.frame.specs.declared.Taken.the-variants as taken
 use Rattle.frame.specs.declared.Reply.{Reply}
 use Rattle.frame.specs.declared.Reply.the-variants.{Refused}
-use Rattle.frame.specs.Frame.{byte, boardOf, writes, frameBars}
-use Rattle.frame.specs.Reply.{replyBytes, replySaying}
-use Rattle.registers.specs.Registers.{accessBars, boardAfter, replyValue, obeyedOf}
+use Rattle.frame.specs.declared.Outcome.{Outcome}
+use Rattle.frame.specs.Frame.{byte, boardOf, writes, frameBars, takenApart, isRefused, whyOf}
+use Rattle.frame.specs.Reply.{replyBytes, replySaying, replyOf, putOf}
+use Rattle.registers.specs.Registers.{accessBars, boardAfter, replyValue, refuses, obeyedOf}
 use Rattle.stack.specs.Row.{goodRow, noBoard, placeOf, boardAt}
 
 -- whom a frame names: the board's number, its place in the row, and its record
@@ -52,8 +53,8 @@ unfoldable pub frameBuffer : List Board → List ℕ → List ℕ → List ℕ
 frameBuffer row bytes buffer = kept (frameRowBars row bytes buffer) buffer (frameReply row bytes ++ drop 4 buffer)
 
 -- ---- the same on the way: by the frame taken apart, in a row that was found good
-abbrev pub noReply : Reply
-noReply = Refused (numbered 2)
+abbrev pub noOutcome : Outcome
+noOutcome = refuses (numbered 2)
 
 abbrev pub noRowReply : Reply
 noRowReply = Refused (numbered 1)
@@ -62,14 +63,27 @@ abbrev pub takenPlace : Taken → ℕ
 takenPlace (taken.Parts address register v) = placeOf (boardOf address)
 takenPlace (taken.Refused why) = 0
 
-unfoldable pub obeyAnswerAt : List Board → Taken → Reply
-obeyAnswerAt row t = cond (ltb (takenPlace t) (length row)) (obeyedOf (boardAt row (takenPlace t)) t .answer) noReply
+unfoldable pub obeyOutcomeAt : List Board → Taken → Outcome
+obeyOutcomeAt row t = cond (ltb (takenPlace t) (length row)) (obeyedOf (boardAt row (takenPlace t)) t .outcome) noOutcome
 
 unfoldable pub obeyRowAt : List Board → Taken → List Board
 obeyRowAt row t = cond (ltb (takenPlace t) (length row)) (set row (takenPlace t) (obeyedOf (boardAt row (takenPlace t)) t .board)) row
 
-unfoldable pub obeyAnswer : List Board → Taken → Reply
-obeyAnswer row t = cond (goodRow row) (obeyAnswerAt row t) noRowReply
+-- a frame that was refused as it stands is answered so; any other goes to its board
+abbrev pub takenAnswer : List Board → Taken → Reply
+takenAnswer row t = cond (isRefused t) (Refused (whyOf t)) (replyOf t (obeyOutcomeAt row t))
 
-unfoldable pub obeyRow : List Board → Taken → List Board
-obeyRow row t = cond (goodRow row) (obeyRowAt row t) row
+abbrev pub takenRow : List Board → Taken → List Board
+takenRow row t = cond (isRefused t) row (obeyRowAt row t)
+
+abbrev pub takenBuffer : List Board → List ℕ → Taken → List ℕ
+takenBuffer row buffer t = cond (isRefused t) buffer (putOf buffer (replyOf t (obeyOutcomeAt row t)))
+
+unfoldable pub frameAnswerIn : List Board → List ℕ → List ℕ → Reply
+frameAnswerIn row bytes buffer = takenAnswer row (takenApart bytes (length buffer))
+
+unfoldable pub frameRowIn : List Board → List ℕ → List ℕ → List Board
+frameRowIn row bytes buffer = takenRow row (takenApart bytes (length buffer))
+
+unfoldable pub frameBufferIn : List Board → List ℕ → List ℕ → List ℕ
+frameBufferIn row bytes buffer = takenBuffer row buffer (takenApart bytes (length buffer))

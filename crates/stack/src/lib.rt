@@ -5,17 +5,19 @@ ghost use mathlib.Core.Bool.{true};
 ghost use Prim.Native.Nat.{_≤_};
 ghost use lib.ListN.{length};
 ghost use Rattle.board.specs.Sample.{sampleOf, acceptedOf, badBoard};
-ghost use Rattle.registers.specs.Registers.{obeyedOf, readReply, keptReply, spentBy, stagedBy, programmedBy, changedBy};
+ghost use Rattle.registers.specs.Registers.{obeyedOf, toldOf, keptOf, spentBy, stagedBy, programmedBy, setBy, writtenBy};
 ghost use Rattle.stack.specs.Row.{badCount, goodRow, placeOf};
 ghost use Rattle.stack.specs.Open.{goodCounts, freshRow, noStack, openOf};
 ghost use Rattle.stack.specs.Sample.{sampleAnswerAt, sampleRowAt, sampleAnswer, sampleRow, noSample, noRowSample};
-ghost use Rattle.stack.specs.Frame.{takenPlace, obeyAnswerAt, obeyRowAt, obeyAnswer, obeyRow, frameAnswer, frameRow, frameBuffer, noReply, noRowReply};
+ghost use Rattle.stack.specs.Frame.{takenPlace, obeyOutcomeAt, obeyRowAt, frameAnswerIn, frameRowIn, frameBufferIn, frameAnswer, frameRow, frameBuffer, noOutcome, noRowReply};
 ghost use Rattle.stack.specs.Read.{seenRow, lookOf, viewOf, readingOf, noRowView};
 use board::Answer;
 use board::Board;
 use board::Readings;
+use frame::Outcome;
 use frame::Reply;
 use frame::Taken;
+use frame::Verdict;
 use reading::Seen;
 use reading::Whole;
 use refusal::Refusal;
@@ -71,11 +73,17 @@ fn good_row(row: &[Board]) -> bool
     true
 }
 
-// A row has 16 boards at most, so board 0 is sent past its end.
+// Past the end of every good row; the largest number, so that the compiled code takes 1 from 0 too.
+const NOWHERE: usize = 4294967295;
+
 fn place_of(board: u32) -> usize
     ensures { λ r. ⌜ r ≡ placeOf board ⌝ }
 {
-    if board == 0 { 16 } else { (board - 1) as usize }
+    if board == 0 {
+        NOWHERE
+    } else {
+        (board - 1) as usize
+    }
 }
 
 // ---- the opening
@@ -205,37 +213,37 @@ pub fn sample_stack(row: &mut [Board], board: u32, x: Readings, mv: &[u32]) -> A
 // ---- a frame
 
 // The ways of a frame on one board: two that leave the record, and two that store.
-fn read_board(b: &mut Board, taken: Taken) -> Reply
-    ensures { λ r. ⌜ (r ≡ readReply (now (b .entry)) taken) × (now (b .exit) ≡ now (b .entry)) ⌝ }
+fn tell_board(b: &mut Board, taken: Taken) -> Outcome
+    ensures { λ r. ⌜ (r ≡ toldOf (now (b .entry)) taken) × (now (b .exit) ≡ now (b .entry)) ⌝ }
 {
-    registers::read_reply(*b, taken)
+    registers::tell(*b, taken)
 }
 
-fn keep_board(b: &mut Board, taken: Taken) -> Reply
-    ensures { λ r. ⌜ (r ≡ keptReply (now (b .entry)) taken) × (now (b .exit) ≡ now (b .entry)) ⌝ }
+fn keep_board(b: &mut Board, taken: Taken) -> Outcome
+    ensures { λ r. ⌜ (r ≡ keptOf (now (b .entry)) taken) × (now (b .exit) ≡ now (b .entry)) ⌝ }
 {
-    registers::kept_reply(*b, taken)
+    registers::keep(*b, taken)
 }
 
-fn spend_board(b: &mut Board, taken: Taken) -> Reply
-    ensures { λ r. ⌜ (r ≡ spentBy (now (b .entry)) taken .answer) × (now (b .exit) ≡ spentBy (now (b .entry)) taken .board) ⌝ }
+fn spend_board(b: &mut Board, taken: Taken) -> Outcome
+    ensures { λ r. ⌜ (r ≡ spentBy (now (b .entry)) taken .outcome) × (now (b .exit) ≡ spentBy (now (b .entry)) taken .board) ⌝ }
 {
     let s = registers::spend(*b, taken);
     *b = s.board;
-    s.answer
+    s.outcome
 }
 
-fn stage_board(b: &mut Board, taken: Taken) -> Reply
-    ensures { λ r. ⌜ (r ≡ stagedBy (now (b .entry)) taken .answer) × (now (b .exit) ≡ stagedBy (now (b .entry)) taken .board) ⌝ }
+fn stage_board(b: &mut Board, taken: Taken) -> Outcome
+    ensures { λ r. ⌜ (r ≡ stagedBy (now (b .entry)) taken .outcome) × (now (b .exit) ≡ stagedBy (now (b .entry)) taken .board) ⌝ }
 {
     let s = registers::stage(*b, taken);
     *b = s.board;
-    s.answer
+    s.outcome
 }
 
 // Which of them it goes: the board is asked only whether programming would spend a cycle.
-fn program_board(b: &mut Board, taken: Taken) -> Reply
-    ensures { λ r. ⌜ (r ≡ programmedBy (now (b .entry)) taken .answer) × (now (b .exit) ≡ programmedBy (now (b .entry)) taken .board) ⌝ }
+fn program_board(b: &mut Board, taken: Taken) -> Outcome
+    ensures { λ r. ⌜ (r ≡ programmedBy (now (b .entry)) taken .outcome) × (now (b .exit) ≡ programmedBy (now (b .entry)) taken .board) ⌝ }
 {
     if registers::spends_cycle(*b) {
         return spend_board(b, taken);
@@ -243,26 +251,35 @@ fn program_board(b: &mut Board, taken: Taken) -> Reply
     keep_board(b, taken)
 }
 
-fn change_board(b: &mut Board, taken: Taken) -> Reply
-    ensures { λ r. ⌜ (r ≡ changedBy (now (b .entry)) taken .answer) × (now (b .exit) ≡ changedBy (now (b .entry)) taken .board) ⌝ }
+fn set_board(b: &mut Board, taken: Taken) -> Outcome
+    ensures { λ r. ⌜ (r ≡ setBy (now (b .entry)) taken .outcome) × (now (b .exit) ≡ setBy (now (b .entry)) taken .board) ⌝ }
+{
+    if registers::asks_staging(taken) {
+        return stage_board(b, taken);
+    }
+    tell_board(b, taken)
+}
+
+fn write_board(b: &mut Board, taken: Taken) -> Outcome
+    ensures { λ r. ⌜ (r ≡ writtenBy (now (b .entry)) taken .outcome) × (now (b .exit) ≡ writtenBy (now (b .entry)) taken .board) ⌝ }
 {
     if registers::asks_programming(taken) {
         return program_board(b, taken);
     }
-    stage_board(b, taken)
+    set_board(b, taken)
 }
 
-// A frame that was sent to one board: it stores only where it writes.
-fn obey_board(b: &mut Board, taken: Taken) -> Reply
-    ensures { λ r. ⌜ (r ≡ obeyedOf (now (b .entry)) taken .answer) × (now (b .exit) ≡ obeyedOf (now (b .entry)) taken .board) ⌝ }
+// A frame that was sent to one board: it stores only where it changes something.
+fn obey_board(b: &mut Board, taken: Taken) -> Outcome
+    ensures { λ r. ⌜ (r ≡ obeyedOf (now (b .entry)) taken .outcome) × (now (b .exit) ≡ obeyedOf (now (b .entry)) taken .board) ⌝ }
 {
     if registers::asks_write(taken) {
-        return change_board(b, taken);
+        return write_board(b, taken);
     }
-    read_board(b, taken)
+    tell_board(b, taken)
 }
 
-// Where a frame's board is. A frame that was not taken apart changes no board, and is sent to the first.
+// Where a frame's board is. A frame that was refused as it stands is never sent to one.
 fn taken_place(taken: Taken) -> usize
     ensures { λ r. ⌜ r ≡ takenPlace taken ⌝ }
 {
@@ -277,10 +294,14 @@ fn taken_place(taken: Taken) -> usize
     place_of((address / 2) as u32)
 }
 
-fn no_reply() -> Reply
-    ensures { λ r. ⌜ r ≡ noReply ⌝ }
+fn no_outcome() -> Outcome
+    ensures { λ r. ⌜ r ≡ noOutcome ⌝ }
 {
-    Reply::Refused(Refusal::NoBoard)
+    let verdict = Verdict::Refused(Refusal::NoBoard);
+    Outcome {
+        verdict: verdict,
+        value: 0,
+    }
 }
 
 fn no_row_reply() -> Reply
@@ -289,32 +310,36 @@ fn no_row_reply() -> Reply
     Reply::Refused(Refusal::BadRow)
 }
 
-fn obey_at(row: &mut [Board], taken: Taken) -> Reply
-    ensures { λ r. ⌜ (r ≡ obeyAnswerAt (now (row .entry)) taken) × (now (row .exit) ≡ obeyRowAt (now (row .entry)) taken) ⌝ }
+fn obey_at(row: &mut [Board], taken: Taken) -> Outcome
+    ensures { λ r. ⌜ (r ≡ obeyOutcomeAt (now (row .entry)) taken) × (now (row .exit) ≡ obeyRowAt (now (row .entry)) taken) ⌝ }
 {
     let at = taken_place(taken);
     if at < row.len() {
         return obey_board(&mut row[at], taken);
     }
-    no_reply()
+    no_outcome()
 }
 
-fn obey_row(row: &mut [Board], taken: Taken) -> Reply
-    ensures { λ r. ⌜ (r ≡ obeyAnswer (now (row .entry)) taken) × (now (row .exit) ≡ obeyRow (now (row .entry)) taken) ⌝ }
+// A frame to a row that was found good. What the frame itself decides is answered before a board is looked for.
+fn frame_in(row: &mut [Board], bytes: &[u8], reply: &mut [u8]) -> Reply
+    ensures { λ r. ⌜ (r ≡ frameAnswerIn (now (row .entry)) (now (bytes .entry)) (now (reply .entry))) × ((now (row .exit) ≡ frameRowIn (now (row .entry)) (now (bytes .entry)) (now (reply .entry))) × (now (reply .exit) ≡ frameBufferIn (now (row .entry)) (now (bytes .entry)) (now (reply .entry)))) ⌝ }
 {
-    if good_row(row) {
-        return obey_at(row, taken);
+    let taken = frame::take_apart(bytes, reply.len());
+    if frame::refused(taken) {
+        return frame::refusal(taken);
     }
-    no_row_reply()
+    let outcome = obey_at(row, taken);
+    frame::put(reply, taken, outcome)
 }
 
 // A frame from the host, with its lent reply buffer.
 pub fn frame_stack(row: &mut [Board], bytes: &[u8], reply: &mut [u8]) -> Reply
     ensures { λ r. ⌜ (r ≡ frameAnswer (now (row .entry)) (now (bytes .entry)) (now (reply .entry))) × ((now (row .exit) ≡ frameRow (now (row .entry)) (now (bytes .entry)) (now (reply .entry))) × (now (reply .exit) ≡ frameBuffer (now (row .entry)) (now (bytes .entry)) (now (reply .entry)))) ⌝ }
 {
-    let taken = frame::take_apart(bytes, reply.len());
-    let answer = obey_row(row, taken);
-    frame::put(reply, answer)
+    if good_row(row) {
+        return frame_in(row, bytes, reply);
+    }
+    no_row_reply()
 }
 
 // ---- the whole-stack reading

@@ -91,6 +91,7 @@ fn framed(s: Stack, address: u8, register: u8, value: u8, check: u8) -> Stack {
             address: _,
             register: _,
             value: _,
+            check: _,
         } => {
             show(b"re ", buffer[0]);
             show(b" ", buffer[1]);

@@ -15,13 +15,13 @@ pub mod Chosen
 pub mod Looked
 pub mod LendAtPlain
 pub mod LendAt
-pub mod GuardedPlain
 pub mod Guarded
 pub mod Every
 pub mod Fold
 pub mod After
 pub mod GuardedShared
 pub mod Framed
+pub mod GuardedFramed
 pub mod LendsBeside
 pub mod LendsFrame
 pub mod LendsShared

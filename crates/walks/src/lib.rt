@@ -25,8 +25,6 @@
 //                 place: r ≡ P x                f as g of EitherOne      no: r ≡ none        g: (r ≡ A row x) × (row' ≡ R row x)
 // LendAt          fn g(row: &mut [T], n: N, x: X, cells: &[E]) -> O { let at = place(n); if at < row.len() { return f(&mut row[at], x, cells); } no() }
 //                 place: r ≡ P n                f as g of Looked         no: r ≡ none        g: (r ≡ A row n x cells) × (row' ≡ R row n x cells)
-// GuardedPlain    fn g(row: &mut [T], x: X) -> O { if good(row) { return f(row, x); } no() }
-//                 good as g of Every            f as g of LendAtPlain    no: r ≡ none        g as f
 // Guarded         fn g(row: &mut [T], n: N, x: X, cells: &[E]) -> O { if good(row) { return f(row, n, x, cells); } no() }
 //                 good as g of Every            f as g of LendAt         no: r ≡ none        g as f
 // Every           fn g(row: &[T]) -> bool { if f0(row.len()) { return false; } let mut i = 0; while i < row.len() { if f(row[i]) { return false; } i += 1; } true }
@@ -37,9 +35,11 @@
 //                 f: r ≡ F row                  h: r ≡ G a               g: r ≡ A row
 // GuardedShared   fn g(row: &[T]) -> O { if good(row) { return f(row); } no() }
 //                 good as g of Every            f: r ≡ F row             no: r ≡ none        g: r ≡ A row
-// Framed          fn g(row: &mut [T], bytes: &[E], reply: &mut [G]) -> O { let d = f1(bytes, reply.len()); let y = f2(row, d); f3(reply, y) }
-//                 f1: r ≡ P bytes room          f2 as g of LendAtPlain   f3: (r ≡ A3 reply y) × (reply' ≡ C3 reply y)
+// Framed          fn g(row: &mut [T], bytes: &[E], reply: &mut [G]) -> O { let d = f1(bytes, reply.len()); if done(d) { return told(d); } let y = f2(row, d); f3(reply, d, y) }
+//                 f1: r ≡ P bytes room          done: r ≡ is-done d      told: r ≡ tells d   f2 as g of LendAtPlain   f3: (r ≡ A3 reply d y) × (reply' ≡ C3 reply d y)
 //                 g: (r ≡ A row bytes reply) × ((row' ≡ R row bytes reply) × (reply' ≡ C row bytes reply))
+// GuardedFramed   fn g(row: &mut [T], bytes: &[E], reply: &mut [G]) -> O { if good(row) { return f(row, bytes, reply); } no() }
+//                 good as g of Every            f as g of Framed         no: r ≡ none        g as f
 // LendsBeside     fn g(boards: [T; N], n: usize, k: K, x: X, cells: &[E]) -> Q { let mut row = boards; let answer = f(&mut row[..n], k, x, cells); Q { boards: row, answer: answer } }
 //                 requires n ≤ N                f as g of LendAt         g: r ≡ A boards n k x cells
 // LendsFrame      fn g(boards: [T; N], n: usize, bytes: &[E], reply: &mut [G]) -> Q { let mut row = boards; let answer = f(&mut row[..n], bytes, reply); Q { boards: row, answer: answer } }

@@ -1,18 +1,22 @@
 -- `frame::put` meets its contract: four stores at the front of the buffer, or none.
 -- Assumes nothing.
-use mathlib.Core.Path.{refl, sym}
+use mathlib.Core.Path.{sym, _∙_}
 use native.Mathlib.Omega.{arith}
 use borrow.Author.Tests.{lt-ltb, le-ltb}
 use lib.ListN.{length-set}
+use mathlib.Core.List.{[], _∷_}
 use lib.Seq.{sets-eq}
-use Rattle.frame.specs.Reply.{replyBytes, putOf}
+use Rattle.frame.specs.Reply.{putOf}
 use borrow.Author.Needs.{needs}
 use Rattle.frame.proofs.put.Statement.{statement}
 use Rattle.frame.proofs.put.Tie as tie
 
+reply-of-requires : tie.Need-reply-of-requires
+reply-of-requires c κs = search needs
+
 returns : tie.Need-returns
 unfolding putOf
-returns c = (refl, rw (lt-ltb _ _ (c .if1 .taken)))
+returns c = (c .before .reply-of .ensures, rw (lt-ltb _ _ (c .if1 .taken)))
 
 enum-known-reply : tie.Need-enum-known-reply
 enum-known-reply c = search needs
@@ -26,9 +30,6 @@ slice-write-buffer-2 c = simp length-set (omega arith)
 slice-write-buffer-3 : tie.Need-slice-write-buffer-3
 slice-write-buffer-3 c = simp length-set (omega arith)
 
-check-byte-requires : tie.Need-check-byte-requires
-check-byte-requires c κs = search needs
-
 slice-write-buffer-4 : tie.Need-slice-write-buffer-4
 slice-write-buffer-4 c = search needs
 
@@ -41,24 +42,27 @@ same-length c = search needs
 returns-2 : tie.Need-returns-2
 unfolding putOf
 returns-2 c =
-    let known = c .before .before .reply .given .1 in
-    let start = c .before .before .before .before in
-    (sym known, rw (known, c .check-byte .ensures, le-ltb _ _ (start .if1 .left)) (sets-eq (replyBytes _ _ _) (start .before .before .args .buffer .now) 0 (start .if1 .left)))
+    let c2 = c .before .before .before in
+    let made = c2 .before .reply-of .ensures in
+    let known = sym (c .before .reply .given .1) ∙ made in
+    (known, rw (← known, le-ltb _ _ (c2 .if1 .left)) (sets-eq (_ ∷ _ ∷ _ ∷ _ ∷ []) (c2 .before .before .before .args .buffer .now) 0 (c2 .if1 .left)))
 
 returns-3 : tie.Need-returns-3
 unfolding putOf
-returns-3 c = (refl, rw (c .enum-told .given .1, le-ltb _ _ (c .before .before .if1 .left)))
+returns-3 c =
+    let made = c .before .before .before .reply-of .ensures in
+    (made, rw (← made, c .enum-told .given .1, le-ltb _ _ (c .before .before .if1 .left)))
 
 pub put-spec : {M : Type 1} → statement M
 put-spec =
     tie.close
     (tie.spec
+    reply-of-requires
     returns
     enum-known-reply
     slice-write-buffer
     slice-write-buffer-2
     slice-write-buffer-3
-    check-byte-requires
     slice-write-buffer-4
     enum-told
     same-length

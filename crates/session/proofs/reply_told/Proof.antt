@@ -5,9 +5,6 @@ use Rattle.session.proofs.reply_told.Tie as tie
 enum-known-a : tie.Need-enum-known-a
 enum-known-a c = search needs
 
-check-byte-requires : tie.Need-check-byte-requires
-check-byte-requires c κs = search needs
-
 enum-known-a-2 : tie.Need-enum-known-a-2
 enum-known-a-2 c = search needs
 
@@ -15,7 +12,7 @@ number-requires : tie.Need-number-requires
 number-requires c κs = search needs
 
 returns : tie.Need-returns
-returns c = rw (c .check-byte .ensures, c .before .before .a .given .1)
+returns c = rw (c .before .a .given .1)
 
 returns-2 : tie.Need-returns-2
 returns-2 c = rw (c .number .ensures, c .before .before .a2 .given .1)
@@ -23,4 +20,4 @@ returns-2 c = rw (c .number .ensures, c .before .before .a2 .given .1)
 pub reply-told-spec : {M : Type 1} → statement M
 reply-told-spec =
     tie.close
-    (tie.spec enum-known-a check-byte-requires enum-known-a-2 number-requires returns returns-2)
+    (tie.spec enum-known-a enum-known-a-2 number-requires returns returns-2)

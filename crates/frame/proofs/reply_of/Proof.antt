@@ -1,0 +1,50 @@
+-- `frame::reply_of` meets its contract, case by case of the frame and of the verdict.
+-- Assumes nothing.
+use Rattle.frame.specs.Reply.{replyOf}
+use borrow.Author.Needs.{needs}
+use Rattle.frame.proofs.reply_of.Statement.{statement}
+use Rattle.frame.proofs.reply_of.Tie as tie
+
+enum-known-taken : tie.Need-enum-known-taken
+enum-known-taken c = search needs
+
+enum-told : tie.Need-enum-told
+enum-told c = search needs
+
+refusal-requires : tie.Need-refusal-requires
+refusal-requires c κs = search needs
+
+returns : tie.Need-returns
+unfolding replyOf
+returns c = rw (c .refusal .ensures, c .before .enum-told .given .1)
+
+enum-told-2 : tie.Need-enum-told-2
+enum-told-2 c = search needs
+
+check-byte-requires : tie.Need-check-byte-requires
+check-byte-requires c κs = search needs
+
+enum-known-verdict : tie.Need-enum-known-verdict
+enum-known-verdict c = search needs
+
+returns-2 : tie.Need-returns-2
+unfolding replyOf
+returns-2 c = rw (c .check-byte .ensures, c .before .before .before .before .taken .given .1, c .before .enum-told2 .given .1)
+
+returns-3 : tie.Need-returns-3
+unfolding replyOf
+returns-3 c = rw (c .before .before .before .before .taken .given .1, c .before .verdict .given .1)
+
+pub reply-of-spec : {M : Type 1} → statement M
+reply-of-spec =
+    tie.close
+    (tie.spec
+    enum-known-taken
+    enum-told
+    refusal-requires
+    returns
+    enum-told-2
+    check-byte-requires
+    enum-known-verdict
+    returns-2
+    returns-3)
