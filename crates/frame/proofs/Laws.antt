@@ -19,25 +19,25 @@ use Rattle.frame.specs.Frame.{byte, frameBars, partsSaid, partsSaying, t
 use Rattle.frame.specs.Reply.{replySaid, replySaying}
 
 pub parts-said : (t : Taken) → partsSaying (partsSaid t) ≡ t
-parts-said (taken.Parts address register v) = refl
-parts-said (taken.Refused why) = said-refused why (taken.Parts 0 0 0) taken.Refused
+parts-said (taken.Parts address register v check) = refl
+parts-said (taken.Refused why) = said-refused why (taken.Parts 0 0 0 0) taken.Refused
 
 pub reply-said : (r : Reply) → replySaying (replySaid r) ≡ r
 reply-said (reply.Replied address register v check) = refl
 reply-said (reply.Refused why) = said-refused why (reply.Replied 0 0 0 0) reply.Refused
 
 -- whatever the conditions of 6, 7 and 8 come to, the case says the number or the values
-said : (x y z : Bool) (p q r : ℕ) → let s = judged (bar 6 x ∷ bar 7 y ∷ bar 8 z ∷ []) (p ∷ q ∷ r ∷ []) in partsSaid (partsSaying s) ≡ s
-said true y z p q r = refl
-said false true z p q r = refl
-said false false true p q r = refl
-said false false false p q r = refl
+said : (x y z : Bool) (p q r s : ℕ) → let t = judged (bar 6 x ∷ bar 7 y ∷ bar 8 z ∷ []) (p ∷ q ∷ r ∷ s ∷ []) in partsSaid (partsSaying t) ≡ t
+said true y z p q r s = refl
+said false true z p q r s = refl
+said false false true p q r s = refl
+said false false false p q r s = refl
 
 -- and where the case is the parts, the condition of 7 has failed
-spare : (x y z : Bool) (p q r a b c : ℕ) → partsSaying (judged (bar 6 x ∷ bar 7 y ∷ bar 8 z ∷ []) (p ∷ q ∷ r ∷ [])) ≡ taken.Parts a b c → y ≡ false
-spare x false z p q r a b c e = refl
-spare true true z p q r a b c e = let n : _≡_ {A = ℕ} 0 1 = cc in absurd (omega arith)
-spare false true z p q r a b c e = let n : _≡_ {A = ℕ} 0 1 = cc in absurd (omega arith)
+spare : (x y z : Bool) (p q r s a b c d : ℕ) → partsSaying (judged (bar 6 x ∷ bar 7 y ∷ bar 8 z ∷ []) (p ∷ q ∷ r ∷ s ∷ [])) ≡ taken.Parts a b c d → y ≡ false
+spare x false z p q r s a b c d e = refl
+spare true true z p q r s a b c d e = let n : _≡_ {A = ℕ} 0 1 = cc in absurd (omega arith)
+spare false true z p q r s a b c d e = let n : _≡_ {A = ℕ} 0 1 = cc in absurd (omega arith)
 
 abbrev badLength : List ℕ → Bool
 badLength frame = not (eqb (length frame) 4)
@@ -45,10 +45,10 @@ badLength frame = not (eqb (length frame) 4)
 abbrev badCheck : List ℕ → Bool
 badCheck frame = not (eqb (byte frame 3) (checkOf (byte frame 0 ∷ byte frame 1 ∷ byte frame 2 ∷ [])))
 
-pub taken-said : (frame : List ℕ) (room : ℕ) → partsSaid (takenApart frame room) ≡ judged (frameBars frame room) (byte frame 0 ∷ byte frame 1 ∷ byte frame 2 ∷ [])
+pub taken-said : (frame : List ℕ) (room : ℕ) → partsSaid (takenApart frame room) ≡ judged (frameBars frame room) (byte frame 0 ∷ byte frame 1 ∷ byte frame 2 ∷ byte frame 3 ∷ [])
 unfolding takenApart
-taken-said frame room = said (badLength frame) (ltb room 4) (badCheck frame) _ _ _
+taken-said frame room = said (badLength frame) (ltb room 4) (badCheck frame) _ _ _ _
 
-pub room-for : (frame : List ℕ) (room address register v : ℕ) → takenApart frame room ≡ taken.Parts address register v → 4 ≤ room
+pub room-for : (frame : List ℕ) (room address register v check : ℕ) → takenApart frame room ≡ taken.Parts address register v check → 4 ≤ room
 unfolding takenApart
-room-for frame room address register v e = ltb-false room 4 (spare (badLength frame) (ltb room 4) (badCheck frame) _ _ _ _ _ _ e)
+room-for frame room address register v check e = ltb-false room 4 (spare (badLength frame) (ltb room 4) (badCheck frame) _ _ _ _ _ _ _ _ e)

@@ -3,13 +3,14 @@
 use Prim.Native.Nat.{ℕ, zero, suc, _+_, _*_, _/_, _%_, _^_, _<_}
 use native.Mathlib.Omega.{arith}
 use mathlib.Core.Path.{_≡_, refl, sym, ap, _∙_}
-use mathlib.Core.Bool.{Bool, true}
+use mathlib.Core.Bool.{Bool, true, false, cond}
+use mathlib.Core.List.{[], _∷_}
 use lib.Arith.{bin-ind}
-use lib.Bits.{bitXor, xor-block, xor-comm, xor-mod, xor-shifted, xor-shr, xor-lt, xor-zero-r}
+use lib.Bits.{bitXor, xor-block, xor-comm, xor-mod, xor-shifted, xor-shr, xor-lt, xor-self, xor-zero-l, xor-zero-r}
 use lib.Dec.{eqb}
 use borrow.Author.Tests.{eqb-true}
 use Rattle.lists.proofs.Below.{right-below, right-at}
-use Rattle.frame.specs.Check.{shifted, times, checked}
+use Rattle.frame.specs.Check.{shifted, times, checked, checkOf, checkMoved, checkAfter}
 
 abbrev pub bySeven : ℕ → ℕ
 bySeven x = bitXor (bitXor x (2 * x)) (4 * x)
@@ -139,3 +140,30 @@ three-bytes a r v p q w =
     let z = next y v in
     let small : y < 4096 = omega (arith, second-lt a r p q) in
     rw (reduced-seven z (third-lt a r v p q w), reduced-byte (bySeven y) v w, reduced-seven y small, reduced-byte (bySeven a) r q, one-byte a p)
+
+-- ---- a byte that becomes another moves the check by what the change comes to
+reduced-lt : (x : ℕ) → x < 16384 → reduced x < 256
+reduced-lt x p =
+    let high : x / 256 < 64 = omega (arith, p) in
+    xor-lt 8 _ _ (seven-lt 8 (x / 256) (omega (arith, high))) (omega arith)
+
+checked-lt : (r byte : ℕ) → r < 256 → byte < 256 → checked r byte < 256
+unfolding checked
+checked-lt r byte p q =
+    let less : bitXor r byte < 256 = xor-lt 8 r byte p q in
+    rw (sym (one-byte (bitXor r byte) less)) (reduced-lt (bySeven (bitXor r byte)) (seven-lt 14 (bitXor r byte) (omega (arith, less))))
+
+moved : (r v w : ℕ) → r < 256 → v < 256 → w < 256 → checkMoved (checked r v) v w ≡ checked r w
+unfolding checked
+moved r v w p q s =
+    let one : bitXor r v < 256 = xor-lt 8 r v p q in
+    let two : bitXor v w < 256 = xor-lt 8 v w q s in
+    let sum : bitXor (bitXor r v) (bitXor v w) ≡ bitXor r w = xor-assoc r v (bitXor v w) ∙ ap (bitXor r) (sym (xor-assoc v v w) ∙ ap (λ (x : ℕ). bitXor x w) (xor-self v) ∙ xor-zero-l w) in
+    rw (sym (one-byte (bitXor r v) one), sym (one-byte (bitXor v w) two)) (sym (reduced-sum (bySeven (bitXor r v)) (bySeven (bitXor v w))) ∙ ap reduced (sym (seven-sum (bitXor r v) (bitXor v w))) ∙ ap (λ (x : ℕ). reduced (bySeven x)) sum ∙ one-byte (bitXor r w) (xor-lt 8 r w p s))
+
+pub moved-check : (a r v w check : ℕ) → a < 256 → r < 256 → v < 256 → w < 256 → checkMoved check v w ≡ checkAfter a r v check w
+moved-check a r v w check p q s t = by (eqb check (checkOf (a ∷ r ∷ v ∷ []))) refl
+  where
+    by : (x : Bool) → eqb check (checkOf (a ∷ r ∷ v ∷ [])) ≡ x → checkMoved check v w ≡ cond x (checkOf (a ∷ r ∷ w ∷ [])) (checkMoved check v w)
+    by true e = rw (eqb-true check (checkOf (a ∷ r ∷ v ∷ [])) e) (moved (checked (checked 0 a) r) v w (checked-lt (checked 0 a) r (checked-lt 0 a (omega arith) p) q) s t)
+    by false e = refl

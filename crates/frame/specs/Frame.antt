@@ -1,4 +1,4 @@
--- A frame taken apart into address, register and value, or else refused (01, Frames and registers; Refusal numbers 6, 7, 8).
+-- A frame taken apart into address, register, value and check, or else refused (01, Frames and registers; Refusal numbers 6, 7, 8).
 -- Assumes nothing.
 use Prim.Native.Nat.{ℕ, _/_, _%_}
 use mathlib.Core.Bool.{Bool, false, true, cond, not}
@@ -34,22 +34,22 @@ frameBars frame room =
 
 -- the paper's number and values of each case
 abbrev pub partsSaid : Taken → Said
-partsSaid (Parts address register v) = accepts (address ∷ register ∷ v ∷ [])
+partsSaid (Parts address register v check) = accepts (address ∷ register ∷ v ∷ check ∷ [])
 partsSaid (Refused why) = refuses (numberOf why)
 
 -- the case that says them
 abbrev pub partsSaying : Said → Taken
-partsSaying s = cond (eqb (s .number) 0) (Parts (value 0 s) (value 1 s) (value 2 s)) (Refused (numbered (s .number)))
+partsSaying s = cond (eqb (s .number) 0) (Parts (value 0 s) (value 1 s) (value 2 s) (value 3 s)) (Refused (numbered (s .number)))
 
 unfoldable pub takenApart : List ℕ → ℕ → Taken
-takenApart frame room = partsSaying (judged (frameBars frame room) (byte frame 0 ∷ byte frame 1 ∷ byte frame 2 ∷ []))
+takenApart frame room = partsSaying (judged (frameBars frame room) (byte frame 0 ∷ byte frame 1 ∷ byte frame 2 ∷ byte frame 3 ∷ []))
 
 -- a frame that was refused as it stands
 abbrev pub isRefused : Taken → Bool
-isRefused (Parts address register v) = false
+isRefused (Parts address register v check) = false
 isRefused (Refused why) = true
 
 -- why a frame was refused; one that was taken apart has no refusal, and Malformed, which no frame is given, stands for that
 abbrev pub whyOf : Taken → Refusal
-whyOf (Parts address register v) = Malformed
+whyOf (Parts address register v check) = Malformed
 whyOf (Refused why) = why

@@ -14,7 +14,7 @@ use Rattle.frame.specs.declared.Verdict.the-variants as verdict
 use Rattle.frame.specs.declared.Outcome.{Outcome}
 use Rattle.frame.specs.declared.Reply.{Reply}
 use Rattle.frame.specs.declared.Reply.the-variants.{Replied, Refused}
-use Rattle.frame.specs.Check.{checkOf}
+use Rattle.frame.specs.Check.{checkOf, checkAfter}
 
 -- the frame's first two bytes, then a value and a fresh check
 abbrev pub replyBytes : ℕ → ℕ → ℕ → List ℕ
@@ -41,13 +41,13 @@ abbrev pub replySaying : Said → Reply
 replySaying s =
     cond (eqb (s .number) 0) (Replied (value 0 s) (value 1 s) (value 2 s) (value 3 s)) (Refused (numbered (s .number)))
 
--- the reply to a frame: it repeats the first two bytes, then the outcome's value and a fresh check
-abbrev pub replyBy : ℕ → ℕ → ℕ → Verdict → Reply
-replyBy address register v verdict.Accepted = Replied address register v (checkOf (address ∷ register ∷ v ∷ []))
-replyBy address register v (verdict.Refused why) = Refused why
+-- the reply to a frame: it repeats the first two bytes, then the outcome's value and the check that follows
+abbrev pub replyBy : ℕ → ℕ → ℕ → ℕ → Verdict → Reply
+replyBy address register v check verdict.Accepted = Replied address register v check
+replyBy address register v check (verdict.Refused why) = Refused why
 
 unfoldable pub replyOf : Taken → Outcome → Reply
-replyOf (taken.Parts address register v) o = replyBy address register (o .value) (o .verdict)
+replyOf (taken.Parts address register v check) o = replyBy address register (o .value) (checkAfter address register v check (o .value)) (o .verdict)
 replyOf (taken.Refused why) o = Refused why
 
 -- it takes the first four bytes of the buffer; later bytes stay, and at a refusal all of them

@@ -3,7 +3,7 @@ ghost use Prim.Native.Nat.{_*_, _/_, _%_, _<_};
 ghost use mathlib.Core.Path.{_≡_};
 ghost use mathlib.Core.List.{[], _∷_};
 ghost use lib.Bits.{bitXor};
-ghost use Rattle.frame.specs.Check.{checked, checkOf};
+ghost use Rattle.frame.specs.Check.{checked, checkOf, checkMoved};
 ghost use Rattle.frame.specs.Frame.{takenApart, isRefused, whyOf};
 ghost use Rattle.frame.specs.Reply.{replyOf, putOf};
 use refusal::Refusal;
@@ -53,11 +53,13 @@ pub fn check_byte(address: u8, register: u8, value: u8) -> u8
     reduced(by_seven(second ^ value as u32))
 }
 
+// The four bytes of a frame, or why it was refused.
 pub enum Taken {
     Parts {
         address: u8,
         register: u8,
         value: u8,
+        check: u8,
     },
     Refused(Refusal),
 }
@@ -69,13 +71,14 @@ fn refuse(why: Refusal) -> Taken
     Taken::Refused(why)
 }
 
-fn parts(address: u8, register: u8, value: u8) -> Taken
-    ensures { λ o. ⌜ o ≡ Taken.Parts address register value ⌝ }
+fn parts(address: u8, register: u8, value: u8, check: u8) -> Taken
+    ensures { λ o. ⌜ o ≡ Taken.Parts address register value check ⌝ }
 {
     Taken::Parts {
         address: address,
         register: register,
         value: value,
+        check: check,
     }
 }
 
@@ -92,10 +95,11 @@ pub fn take_apart(frame: &[u8], room: usize) -> Taken
     let address = frame[0];
     let register = frame[1];
     let value = frame[2];
-    if frame[3] != check_byte(address, register, value) {
+    let check = frame[3];
+    if check != check_byte(address, register, value) {
         return refuse(Refusal::CheckByte);
     }
-    parts(address, register, value)
+    parts(address, register, value, check)
 }
 
 // Whether a frame was refused as it stands, before any board was asked.
@@ -147,28 +151,36 @@ pub fn refusal(taken: Taken) -> Reply
     Reply::Refused(why(taken))
 }
 
-// The reply to a frame, by what its board makes of it.
+// The check of a frame whose value becomes another: the two bytes before it need not be gone through again.
+fn check_moved(check: u8, old: u8, new: u8) -> u8
+    ensures { λ o. ⌜ o ≡ checkMoved check old new ⌝ }
+{
+    check ^ check_next(old, new)
+}
+
+// The reply to a frame, by what its board makes of it: it repeats the first two bytes.
 fn reply_of(taken: Taken, outcome: Outcome) -> Reply
     ensures { λ o. ⌜ o ≡ replyOf taken outcome ⌝ }
 {
     let Taken::Parts {
         address,
         register,
-        value: _,
+        value,
+        check,
     } = taken
     else {
         return refusal(taken);
     };
     let verdict = outcome.verdict;
-    let value = outcome.value;
+    let given = outcome.value;
     match verdict {
         Verdict::Accepted => {
-            let check = check_byte(address, register, value);
+            let moved = check_moved(check, value, given);
             Reply::Replied {
                 address: address,
                 register: register,
-                value: value,
-                check: check,
+                value: given,
+                check: moved,
             }
         }
         Verdict::Refused(why) => Reply::Refused(why),

@@ -19,14 +19,14 @@ use Rattle.frame.specs.Reply.{outcomeSaid, outcomeSaying}
 use Rattle.registers.specs.Registers.{noRegister, readValue, fits, programs, staging, spent, lacksCycle, accessBars, boardAfter, replyValue, gives, obeyedOf}
 
 -- a write to register 11 of the value that programs
-module _ (b : Board) (address : ℕ) (write : writes address ≡ true) where
+module _ (b : Board) (address check : ℕ) (write : writes address ≡ true) where
   -- with equal settings it gives the very board back and is accepted, whatever the cycles
-  pub equal-programming : same (b .staged) (b .working) ≡ true → obeyedOf b (taken.Parts address 11 0x41) ≡ record { board = b; outcome = gives (b .cycles) }
+  pub equal-programming : same (b .staged) (b .working) ≡ true → obeyedOf b (taken.Parts address 11 0x41 check) ≡ record { board = b; outcome = gives (b .cycles) }
   unfolding obeyedOf boardAfter
   equal-programming equal = rw (write, equal)
 
   -- with unlike settings and a free cycle it spends one
-  pub spending : same (b .staged) (b .working) ≡ false → leb 3 (b .cycles) ≡ false → obeyedOf b (taken.Parts address 11 0x41) ≡ record { board = spent b; outcome = gives (b .cycles + 1) }
+  pub spending : same (b .staged) (b .working) ≡ false → leb 3 (b .cycles) ≡ false → obeyedOf b (taken.Parts address 11 0x41 check) ≡ record { board = spent b; outcome = gives (b .cycles + 1) }
   unfolding obeyedOf boardAfter spent
   spending unlike free = rw (write, unlike, free)
 
@@ -53,7 +53,7 @@ refused-kept bars vs old new why = by (eqb (first bars) 0)
 
 pub refused-leaves : (b : Board) (t : Taken) (why : Refusal) → obeyedOf b t .outcome .verdict ≡ verdict.Refused why → obeyedOf b t .board ≡ b
 unfolding obeyedOf
-refused-leaves b (taken.Parts address register v) why e = refused-kept (accessBars b (writes address) register v) _ b _ why e
+refused-leaves b (taken.Parts address register v check) why e = refused-kept (accessBars b (writes address) register v) _ b _ why e
 refused-leaves b (taken.Refused other) why e = refl
 
 -- whatever the conditions of 9, 10 and 11 come to, the outcome says the number or the value
@@ -63,7 +63,7 @@ said false true z v = refl
 said false false true v = refl
 said false false false v = refl
 
-pub obeyed-said : (b : Board) (address register v : ℕ) → let after = boardAfter b (writes address) register v in outcomeSaid (obeyedOf b (taken.Parts address register v) .outcome) ≡ judged (accessBars b (writes address) register v) (replyValue after (writes address) register v ∷ [])
+pub obeyed-said : (b : Board) (address register v check : ℕ) → let after = boardAfter b (writes address) register v in outcomeSaid (obeyedOf b (taken.Parts address register v check) .outcome) ≡ judged (accessBars b (writes address) register v) (replyValue after (writes address) register v ∷ [])
 unfolding obeyedOf
-obeyed-said b address register v =
+obeyed-said b address register v check =
     said (noRegister (writes address) register) (not (fits (writes address) register v)) (programs (writes address) register && lacksCycle b) _

@@ -24,34 +24,34 @@ allowed-known register v = by (eqb register 6) (eqb register 7) (eqb register 8)
     by false false false false true e6 e7 e8 e9 e10 a = rw (eqb-true register 10 e10)
     by false false false false false e6 e7 e8 e9 e10 a = absurd (false≢true a)
 
-module _ (b : Board) (address : ℕ) where
+module _ (b : Board) (address check : ℕ) where
   -- a read
-  read-way : (register v : ℕ) → writes address ≡ false → obeyedOf b (taken.Parts address register v) ≡ toldBy b (taken.Parts address register v)
+  read-way : (register v : ℕ) → writes address ≡ false → obeyedOf b (taken.Parts address register v check) ≡ toldBy b (taken.Parts address register v check)
   unfolding obeyedOf boardAfter toldOf
   read-way register v w = by (known register) (eqb v 0) refl refl
     where
-      by : (x y : Bool) → known register ≡ x → eqb v 0 ≡ y → obeyedOf b (taken.Parts address register v) ≡ toldBy b (taken.Parts address register v)
+      by : (x y : Bool) → known register ≡ x → eqb v 0 ≡ y → obeyedOf b (taken.Parts address register v check) ≡ toldBy b (taken.Parts address register v check)
       by true true ex ey = rw (w, ex, ey)
       by true false ex ey = rw (w, ex, ey)
       by false true ex ey = rw (w, ex, ey)
       by false false ex ey = rw (w, ex, ey)
 
   -- a write to register 11 of the value that programs
-  programmed-way : writes address ≡ true → obeyedOf b (taken.Parts address 11 0x41) ≡ programmedBy b (taken.Parts address 11 0x41)
+  programmed-way : writes address ≡ true → obeyedOf b (taken.Parts address 11 0x41 check) ≡ programmedBy b (taken.Parts address 11 0x41 check)
   unfolding obeyedOf boardAfter spent spendsCycle spentBy keptOf
   programmed-way w = by (same (b .staged) (b .working)) (leb 3 (b .cycles)) refl refl
     where
-      by : (s f : Bool) → same (b .staged) (b .working) ≡ s → leb 3 (b .cycles) ≡ f → obeyedOf b (taken.Parts address 11 0x41) ≡ programmedBy b (taken.Parts address 11 0x41)
+      by : (s f : Bool) → same (b .staged) (b .working) ≡ s → leb 3 (b .cycles) ≡ f → obeyedOf b (taken.Parts address 11 0x41 check) ≡ programmedBy b (taken.Parts address 11 0x41 check)
       by true f es ef = rw (w, es)
       by false true es ef = rw (w, es, ef, le-ltb (b .cycles) 3 (leb-true 3 (b .cycles) ef))
       by false false es ef = rw (w, es, ef, lt-ltb (b .cycles) 3 (leb-false 3 (b .cycles) ef))
 
   -- any other value to register 11 is refused, and so is a write that the settings do not allow
-  set-way : (register v : ℕ) → writes address ≡ true → (eqb register 11 && eqb v 0x41) ≡ false → obeyedOf b (taken.Parts address register v) ≡ setBy b (taken.Parts address register v)
+  set-way : (register v : ℕ) → writes address ≡ true → (eqb register 11 && eqb v 0x41) ≡ false → obeyedOf b (taken.Parts address register v check) ≡ setBy b (taken.Parts address register v check)
   unfolding obeyedOf boardAfter stagedBy toldOf
   set-way register v w = by (eqb register 11) (noRegister true register) (allowed register v) refl refl refl
     where
-      by : (p x y : Bool) → eqb register 11 ≡ p → noRegister true register ≡ x → allowed register v ≡ y → (p && eqb v 0x41) ≡ false → obeyedOf b (taken.Parts address register v) ≡ setBy b (taken.Parts address register v)
+      by : (p x y : Bool) → eqb register 11 ≡ p → noRegister true register ≡ x → allowed register v ≡ y → (p && eqb v 0x41) ≡ false → obeyedOf b (taken.Parts address register v check) ≡ setBy b (taken.Parts address register v check)
       by true x y ep ex ey other = rw (w, eqb-true register 11 ep, other)
       by false true true ep ex ey other = absurd (false≢true (sym (allowed-known register v ey) ∙ ex))
       by false true false ep ex ey other = rw (w, ep, ex, ey)
@@ -59,10 +59,10 @@ module _ (b : Board) (address : ℕ) where
       by false false false ep ex ey other = rw (w, ep, ex, ey)
 
   -- which way it is
-  parts-ways : (register v : ℕ) → obeyedOf b (taken.Parts address register v) ≡ cond (writes address) (writtenBy b (taken.Parts address register v)) (toldBy b (taken.Parts address register v))
+  parts-ways : (register v : ℕ) → obeyedOf b (taken.Parts address register v check) ≡ cond (writes address) (writtenBy b (taken.Parts address register v check)) (toldBy b (taken.Parts address register v check))
   parts-ways register v = by (writes address) (eqb register 11) (eqb v 0x41) refl refl refl
     where
-      by : (w p k : Bool) → writes address ≡ w → eqb register 11 ≡ p → eqb v 0x41 ≡ k → obeyedOf b (taken.Parts address register v) ≡ cond w (cond (w && p && k) (programmedBy b (taken.Parts address register v)) (setBy b (taken.Parts address register v))) (toldBy b (taken.Parts address register v))
+      by : (w p k : Bool) → writes address ≡ w → eqb register 11 ≡ p → eqb v 0x41 ≡ k → obeyedOf b (taken.Parts address register v check) ≡ cond w (cond (w && p && k) (programmedBy b (taken.Parts address register v check)) (setBy b (taken.Parts address register v check))) (toldBy b (taken.Parts address register v check))
       by false p k ew ep ek = read-way register v ew
       by true true true ew ep ek = rw (eqb-true register 11 ep, eqb-true v 0x41 ek) (programmed-way ew)
       by true true false ew ep ek = set-way register v ew (rw (ep, ek))
@@ -71,5 +71,5 @@ module _ (b : Board) (address : ℕ) where
 -- a frame that was refused goes as a read does
 pub obeyed-ways : (b : Board) (t : Taken) → obeyedOf b t ≡ cond (asksWrite t) (writtenBy b t) (toldBy b t)
 unfolding obeyedOf toldOf
-obeyed-ways b (taken.Parts address register v) = parts-ways b address register v
+obeyed-ways b (taken.Parts address register v check) = parts-ways b address check register v
 obeyed-ways b (taken.Refused why) = refl

@@ -117,22 +117,22 @@ refusedOf b why = record { board = b; outcome = refuses why }
 
 -- a frame that was taken apart is an access; any other is refused as it stands
 unfoldable pub obeyedOf : Board → Taken → Obeyed
-obeyedOf b (taken.Parts address register v) = accessOf b address register v
+obeyedOf b (taken.Parts address register v check) = accessOf b address register v
 obeyedOf b (taken.Refused why) = refusedOf b why
 
 -- ---- the same on the way: which way a frame goes, by the board as it is, and what each way gives
 
 -- a write, one that programs, and one that stages; a frame that was refused is none
 abbrev pub asksWrite : Taken → Bool
-asksWrite (taken.Parts address register v) = writes address
+asksWrite (taken.Parts address register v check) = writes address
 asksWrite (taken.Refused why) = false
 
 abbrev pub asksProgramming : Taken → Bool
-asksProgramming (taken.Parts address register v) = programs (writes address) register && eqb v 0x41
+asksProgramming (taken.Parts address register v check) = programs (writes address) register && eqb v 0x41
 asksProgramming (taken.Refused why) = false
 
 abbrev pub asksStaging : Taken → Bool
-asksStaging (taken.Parts address register v) = writes address && allowed register v
+asksStaging (taken.Parts address register v check) = writes address && allowed register v
 asksStaging (taken.Refused why) = false
 
 -- programming would spend a cycle, and has one to spend
@@ -147,7 +147,7 @@ abbrev pub readOf : Board → ℕ → Outcome
 readOf b register = cond (known register) (gives (readValue b register)) (refuses NoRegister)
 
 unfoldable pub toldOf : Board → Taken → Outcome
-toldOf b (taken.Parts address register v) =
+toldOf b (taken.Parts address register v check) =
     cond (writes address || not (eqb v 0)) (refuses (barOf (writes address) register)) (readOf b register)
 toldOf b (taken.Refused why) = refuses why
 
@@ -156,7 +156,7 @@ toldBy b t = record { board = b; outcome = toldOf b t }
 
 -- a write that stages gives the byte back
 unfoldable pub stagedBy : Board → Taken → Obeyed
-stagedBy b (taken.Parts address register v) = record { board = staging b register v; outcome = gives v }
+stagedBy b (taken.Parts address register v check) = record { board = staging b register v; outcome = gives v }
 stagedBy b (taken.Refused why) = refusedOf b why
 
 -- programming that spends gives the cycles then spent; a count with none left, which is never asked, stays, so that it fits its byte
@@ -164,13 +164,13 @@ abbrev pub cyclesAfter : ℕ → ℕ
 cyclesAfter cycles = cond (ltb cycles 3) (cycles + 1) cycles
 
 unfoldable pub spentBy : Board → Taken → Obeyed
-spentBy b (taken.Parts address register v) =
+spentBy b (taken.Parts address register v check) =
     record { board = spentTo (cyclesAfter (b .cycles)) b; outcome = gives (cyclesAfter (b .cycles)) }
 spentBy b (taken.Refused why) = refusedOf b why
 
 -- programming that does not spend leaves the board: the cycles for equal settings, else refusal 11
 unfoldable pub keptOf : Board → Taken → Outcome
-keptOf b (taken.Parts address register v) = cond (same (b .staged) (b .working)) (gives (b .cycles)) (refuses NoCycle)
+keptOf b (taken.Parts address register v check) = cond (same (b .staged) (b .working)) (gives (b .cycles)) (refuses NoCycle)
 keptOf b (taken.Refused why) = refuses why
 
 abbrev pub keptBy : Board → Taken → Obeyed

@@ -63,6 +63,7 @@ pub fn asks_write(taken: Taken) -> bool
         address,
         register: _,
         value: _,
+        check: _,
     } = taken
     else {
         return false;
@@ -77,6 +78,7 @@ pub fn asks_programming(taken: Taken) -> bool
         address,
         register,
         value,
+        check: _,
     } = taken
     else {
         return false;
@@ -92,6 +94,7 @@ pub fn asks_staging(taken: Taken) -> bool
         address,
         register,
         value,
+        check: _,
     } = taken
     else {
         return false;
@@ -140,6 +143,7 @@ pub fn tell(b: Board, taken: Taken) -> Outcome
         address,
         register,
         value,
+        check: _,
     } = taken
     else {
         return refused(frame::why(taken));
@@ -159,6 +163,7 @@ pub fn stage(b: Board, taken: Taken) -> Obeyed
         address: _,
         register,
         value,
+        check: _,
     } = taken
     else {
         return Obeyed {

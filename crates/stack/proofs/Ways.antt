@@ -21,7 +21,7 @@ use Rattle.board.specs.Sample.{fresh, badBoard, readingBars, boardNext, sampleO
 use Rattle.frame.specs.declared.Reply.{Reply}
 use Rattle.frame.specs.declared.Reply.the-variants.{Refused}
 use Rattle.frame.specs.Frame.{byte, boardOf, writes, takenApart}
-use Rattle.frame.specs.Check.{checkOf}
+use Rattle.frame.specs.Check.{checkOf, checkAfter}
 use Rattle.frame.specs.Reply.{replyBytes, outcomeSaying, replySaying, replyBy, replyOf, putOf}
 use Rattle.registers.specs.Registers.{accessBars, replyValue, obeyedOf}
 use Rattle.stack.specs.Row.{badCount, goodRow, noBoard, placeOf, boardAt}
@@ -86,8 +86,9 @@ sample-bad row n x mv bad = (rw bad, rw bad)
 abbrev judgedReply : ℕ → ℕ → ℕ → ℕ → Reply
 judgedReply n address register v = replySaying (cond (eqb n 0) (accepts (replyBytes address register v)) (refuses n))
 
-reply-judged : (n address register v : ℕ) → let o = outcomeSaying (cond (eqb n 0) (accepts (v ∷ [])) (refuses n)) in replyBy address register (o .value) (o .verdict) ≡ judgedReply n address register v
-reply-judged n address register v = split (eqb n 0) (λ e. rw e) (λ e. rw (e, e))
+reply-judged : (n address register v old check : ℕ) → eqb check (checkOf (address ∷ register ∷ old ∷ [])) ≡ true
+    → let o = outcomeSaying (cond (eqb n 0) (accepts (v ∷ [])) (refuses n)) in replyBy address register (o .value) (checkAfter address register old check (o .value)) (o .verdict) ≡ judgedReply n address register v
+reply-judged n address register v old check right = split (eqb n 0) (λ e. rw (e, right)) (λ e. rw (e, e))
 
 put-judged : (n address register v : ℕ) (buffer : List ℕ) → ltb (length buffer) 4 ≡ false → putOf buffer (judgedReply n address register v) ≡ cond (eqb n 0) (replyBytes address register v ++ drop 4 buffer) buffer
 unfolding putOf
@@ -111,7 +112,6 @@ frame-good row bytes buffer good =
     let place = framePlace bytes in
     let n = first (accessBars (frameBoard row bytes) (writes (byte bytes 0)) (byte bytes 1) (byte bytes 2)) in
     let v = replyValue (boardFramed row bytes) (writes (byte bytes 0)) (byte bytes 1) (byte bytes 2) in
-    let replied = reply-judged n (byte bytes 0) (byte bytes 1) v in
     split (eqb (length bytes) 4)
     (λ e6.
     split (ltb room 4)
@@ -121,6 +121,7 @@ frame-good row bytes buffer good =
     (λ e8.
     split (ltb place (length row))
     (λ e.
+    let replied = reply-judged n (byte bytes 0) (byte bytes 1) v (byte bytes 2) (byte bytes 3) e8 in
     let there = has-board row good (boardOf (byte bytes 0)) (ltb-true place (length row) e) in (
       rw (e6, e7, e8, good, e, there) replied,
       (

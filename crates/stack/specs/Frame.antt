@@ -60,7 +60,7 @@ abbrev pub noRowReply : Reply
 noRowReply = Refused (numbered 1)
 
 abbrev pub takenPlace : Taken → ℕ
-takenPlace (taken.Parts address register v) = placeOf (boardOf address)
+takenPlace (taken.Parts address register v check) = placeOf (boardOf address)
 takenPlace (taken.Refused why) = 0
 
 unfoldable pub obeyOutcomeAt : List Board → Taken → Outcome

@@ -287,6 +287,7 @@ fn taken_place(taken: Taken) -> usize
         address,
         register: _,
         value: _,
+        check: _,
     } = taken
     else {
         return 0;

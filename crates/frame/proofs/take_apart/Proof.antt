@@ -29,8 +29,8 @@ shared-slice-read-register c = search needs
 shared-slice-read-value : tie.Need-shared-slice-read-value
 shared-slice-read-value c = search needs
 
-shared-slice-read-if3 : tie.Need-shared-slice-read-if3
-shared-slice-read-if3 c = search needs
+shared-slice-read-check : tie.Need-shared-slice-read-check
+shared-slice-read-check c = search needs
 
 check-byte-requires : tie.Need-check-byte-requires
 check-byte-requires c κs = search needs
@@ -66,7 +66,7 @@ take-apart-spec =
     shared-slice-read-address
     shared-slice-read-register
     shared-slice-read-value
-    shared-slice-read-if3
+    shared-slice-read-check
     check-byte-requires
     refuse-requires-3
     returns-3
