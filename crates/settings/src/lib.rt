@@ -186,12 +186,15 @@ impl Settings {
     pub fn allows(register: u8, value: u8) -> bool
         ensures { λ r. ⌜ r ≡ allowed register value ⌝ }
     {
+        if (register < 6) | (10 < register) {
+            return false;
+        }
         if register == 7 {
             return value < 64;
         }
         if register == 8 {
             return value < 32;
         }
-        (6 <= register) & (register <= 10)
+        true
     }
 }
