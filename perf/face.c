@@ -10,7 +10,7 @@
 #include "adomvik.h"
 #include "face_peer.h"
 
-enum { BOARDS = 16, CELLS = 10, KINDS = 8, CALLS = 4000, ROUNDS = 1000, TRIALS = 400000, STACK = 1 << 16 };
+enum { BOARDS = 16, CELLS = 10, KINDS = 8, CALLS = 4000, ROUNDS = 250, TRIALS = 400000, STACK = 1 << 16 };
 
 static adomvik_board ours[BOARDS];
 static struct peer_board theirs[BOARDS];
