@@ -18,7 +18,7 @@ use Rattle.marks.proofs.Laws.{marks-number, number-below, lowest-zero, number-m
 use Rattle.board.specs.declared.Board.{Board}
 use Rattle.reading.specs.declared.Summary.{Summary}
 use Rattle.reading.specs.declared.First.{First}
-use Rattle.reading.specs.Reading.{summaryOf, lineUp, chgOn, dsgOn, place, firstFlagged, readOf, latchedOf, up, isFlagged, alone, further, firstOf, seenOf, withBoard, firstWith, seenWith, found, foundIn, wholeOf}
+use Rattle.reading.specs.Reading.{summaryOf, lineUp, chgOn, dsgOn, place, firstFlagged, readOf, latchedOf, up, isFlagged, soughtAt, movedNorth, firstOf, seenOf, withBoard, firstWith, seenWith, found, foundIn, wholeOf}
 
 -- ---- one board more, north of the others
 number-on : (bs : List Bool) → number (bs ++ (true ∷ [])) ≡ number bs + 2 ^ length bs
@@ -52,13 +52,13 @@ double-zero : (n : ℕ) → eqb (2 * n) 0 ≡ eqb n 0
 double-zero n =
     split (eqb n 0) (λ e. let none = eqb-true n 0 e in rw none) (λ e. let some = eqb-false n 0 e in ne-eqb (2 * n) 0 (λ z. some (omega arith)) ∙ sym e)
 
-alone-further : (at : ℕ) (x : Summary) → alone (suc at) x ≡ further (alone at x)
-alone-further at x = let double : 2 ^ suc at ≡ 2 * 2 ^ at = two-pow-succ at ∙ omega arith in rw double
+sought-moved : (at : ℕ) (x : Summary) → soughtAt (suc at) x ≡ movedNorth (soughtAt at x)
+sought-moved at x = let double : 2 ^ suc at ≡ 2 * 2 ^ at = two-pow-succ at ∙ omega arith in rw double
 
-further-more : (f : First) (at : ℕ) (x : Summary) → firstWith (further f) (suc at) x ≡ further (firstWith f at x)
-further-more f at x = rw (double-zero (f .boards), alone-further at x) (by (eqb (f .boards) 0) (isFlagged x))
+moved-more : (f : First) (at : ℕ) (x : Summary) → firstWith (movedNorth f) (suc at) x ≡ movedNorth (firstWith f at x)
+moved-more f at x = rw (double-zero (f .boards), sought-moved at x) (by (eqb (f .boards) 0) (isFlagged x))
   where
-    by : (none flagged : Bool) → cond none (cond flagged (further (alone at x)) (further f)) (further f) ≡ further (cond none (cond flagged (alone at x) f) f)
+    by : (none flagged : Bool) → cond none (cond flagged (movedNorth (soughtAt at x)) (movedNorth f)) (movedNorth f) ≡ movedNorth (cond none (cond flagged (soughtAt at x) f) f)
     by true true = refl
     by true false = refl
     by false flagged = refl
@@ -67,7 +67,7 @@ first-more : (south : List Summary) (x : Summary) → firstWith (firstOf south) 
 unfolding firstOf
 first-more [] x = refl
 first-more (b ∷ south) x =
-    split (isFlagged b) (λ e. rw e) (λ e. rw e (further-more (firstOf south) (length south) x ∙ ap further (first-more south x)))
+    split (isFlagged b) (λ e. rw e) (λ e. rw e (moved-more (firstOf south) (length south) x ∙ ap movedNorth (first-more south x)))
 
 pub seen-more : (south : List Summary) (b : Board) → length south < 16 → seenWith (seenOf south) (length south) b ≡ seenOf (south ++ (summaryOf b ∷ []))
 unfolding seenWith seenOf

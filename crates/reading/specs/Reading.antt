@@ -76,17 +76,17 @@ isFlagged board = not (eqb (number (marks (board .count) (board .flags))) 0)
 abbrev pub nowhere : First
 nowhere = record { boards = 0; count = 0; flags = 0 }
 
-abbrev pub alone : ℕ → Summary → First
-alone at board = record { boards = 2 ^ at; count = board .count; flags = board .flags }
+abbrev pub soughtAt : ℕ → Summary → First
+soughtAt at board = record { boards = 2 ^ at; count = board .count; flags = board .flags }
 
--- the same with one more board south of all
-abbrev pub further : First → First
-further first = record { boards = 2 * first .boards; count = first .count; flags = first .flags }
+-- the same where one more board stands south of all, so that each is one place further north
+abbrev pub movedNorth : First → First
+movedNorth first = record { boards = 2 * first .boards; count = first .count; flags = first .flags }
 
 -- the southernmost board with a flagged cell
 unfoldable pub firstOf : List Summary → First
 firstOf [] = nowhere
-firstOf (board ∷ north) = cond (isFlagged board) (alone 0 board) (further (firstOf north))
+firstOf (board ∷ north) = cond (isFlagged board) (soughtAt 0 board) (movedNorth (firstOf north))
 
 unfoldable pub seenOf : List Summary → Seen
 seenOf boards =
@@ -97,7 +97,7 @@ abbrev pub withBoard : ℕ → ℕ → Bool → ℕ
 withBoard set at is = cond is (bitOr set (2 ^ at)) set
 
 abbrev pub firstWith : First → ℕ → Summary → First
-firstWith first at board = cond (eqb (first .boards) 0) (cond (isFlagged board) (alone at board) first) first
+firstWith first at board = cond (eqb (first .boards) 0) (cond (isFlagged board) (soughtAt at board) first) first
 
 unfoldable pub seenWith : Seen → ℕ → Board → Seen
 seenWith seen at b =
