@@ -64,42 +64,29 @@ pub enum Taken {
     Refused(Refusal),
 }
 
-// What a frame comes to is made here and in `parts` alone, so that the compiled code keeps it in one word.
-fn refuse(why: Refusal) -> Taken
-    ensures { λ o. ⌜ o ≡ Taken.Refused why ⌝ }
-{
-    Taken::Refused(why)
-}
-
-fn parts(address: u8, register: u8, value: u8, check: u8) -> Taken
-    ensures { λ o. ⌜ o ≡ Taken.Parts address register value check ⌝ }
-{
-    Taken::Parts {
-        address: address,
-        register: register,
-        value: value,
-        check: check,
-    }
-}
-
 // A frame taken apart, where the lent buffer has room for so many bytes.
 pub fn take_apart(frame: &[u8], room: usize) -> Taken
     ensures { λ o. ⌜ o ≡ takenApart (now (frame .entry)) room ⌝ }
 {
     if frame.len() != 4 {
-        return refuse(Refusal::FrameLength);
+        return Taken::Refused(Refusal::FrameLength);
     }
     if room < 4 {
-        return refuse(Refusal::ReplyRoom);
+        return Taken::Refused(Refusal::ReplyRoom);
     }
     let address = frame[0];
     let register = frame[1];
     let value = frame[2];
     let check = frame[3];
     if check != check_byte(address, register, value) {
-        return refuse(Refusal::CheckByte);
+        return Taken::Refused(Refusal::CheckByte);
     }
-    parts(address, register, value, check)
+    Taken::Parts {
+        address: address,
+        register: register,
+        value: value,
+        check: check,
+    }
 }
 
 // Whether a frame was refused as it stands, before any board was asked.

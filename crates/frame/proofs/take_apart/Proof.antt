@@ -6,19 +6,13 @@ use borrow.Author.Needs.{needs}
 use Rattle.frame.proofs.take_apart.Statement.{statement}
 use Rattle.frame.proofs.take_apart.Tie as tie
 
-refuse-requires : tie.Need-refuse-requires
-refuse-requires c κs = search needs
-
 returns : tie.Need-returns
 unfolding takenApart
-returns c = rw (c .refuse .ensures, ne-eqb _ _ (c .before .if1 .taken))
-
-refuse-requires-2 : tie.Need-refuse-requires-2
-refuse-requires-2 c κs = search needs
+returns c = rw (ne-eqb _ _ (c .if1 .taken))
 
 returns-2 : tie.Need-returns-2
 unfolding takenApart
-returns-2 c = rw (c .refuse2 .ensures, eq-eqb _ _ (c .before .before .if1 .left), lt-ltb _ _ (c .before .if2 .taken))
+returns-2 c = rw (eq-eqb _ _ (c .before .if1 .left), lt-ltb _ _ (c .if2 .taken))
 
 shared-slice-read-address : tie.Need-shared-slice-read-address
 shared-slice-read-address c = search needs
@@ -35,40 +29,28 @@ shared-slice-read-check c = search needs
 check-byte-requires : tie.Need-check-byte-requires
 check-byte-requires c κs = search needs
 
-refuse-requires-3 : tie.Need-refuse-requires-3
-refuse-requires-3 c κs = search needs
-
 returns-3 : tie.Need-returns-3
 unfolding takenApart
 returns-3 c =
-    let d = c .before in
-    let h = d .before .before .before .before .before .before in
-    rw (c .refuse3 .ensures, eq-eqb _ _ (h .before .if1 .left), le-ltb _ _ (h .if2 .left), ← (d .before .check-byte .ensures), ne-eqb _ _ (d .if3 .taken))
-
-parts-requires : tie.Need-parts-requires
-parts-requires c κs = search needs
+    let h = c .before .before .before .before .before .before in
+    rw (eq-eqb _ _ (h .before .if1 .left), le-ltb _ _ (h .if2 .left), ← (c .before .check-byte .ensures), ne-eqb _ _ (c .if3 .taken))
 
 returns-4 : tie.Need-returns-4
 unfolding takenApart
 returns-4 c =
-    let d = c .before in
-    let h = d .before .before .before .before .before .before in
-    rw (c .parts .ensures, eq-eqb _ _ (h .before .if1 .left), le-ltb _ _ (h .if2 .left), ← (d .before .check-byte .ensures), eq-eqb _ _ (d .if3 .left))
+    let h = c .before .before .before .before .before .before in
+    rw (eq-eqb _ _ (h .before .if1 .left), le-ltb _ _ (h .if2 .left), ← (c .before .check-byte .ensures), eq-eqb _ _ (c .if3 .left))
 
 pub take-apart-spec : {M : Type 1} → statement M
 take-apart-spec =
     tie.close
     (tie.spec
-    refuse-requires
     returns
-    refuse-requires-2
     returns-2
     shared-slice-read-address
     shared-slice-read-register
     shared-slice-read-value
     shared-slice-read-check
     check-byte-requires
-    refuse-requires-3
     returns-3
-    parts-requires
     returns-4)
