@@ -7,8 +7,7 @@ use mathlib.Core.Bool.{Bool, true, false, cond, not, _&&_}
 use mathlib.Core.List.{List, [], _∷_}
 use lib.Dec.{leb, eqb}
 use Rattle.refusal.specs.declared.Refusal.{Refusal}
-use Rattle.refusal.specs.Said as saying
-use Rattle.refusal.specs.Said.{Bar, bar, accepts, first, judged, kept}
+use Rattle.refusal.specs.Said.{Bar, bar, accepts, refuses, first, judged, kept}
 use Rattle.settings.specs.Bytes.{same}
 use Rattle.board.specs.declared.Board.{Board}
 use Rattle.frame.specs.declared.Taken.{Taken}
@@ -47,7 +46,7 @@ staging-unread b register v k = refl
 refused-kept : {A : Type 0} (bars : List Bar) (vs : List ℕ) (old new : A) (why : Refusal) → outcomeSaying (judged bars vs) .verdict ≡ verdict.Refused why → kept bars old new ≡ old
 refused-kept bars vs old new why = by (eqb (first bars) 0)
   where
-    by : (t : Bool) → outcomeSaying (cond t (accepts vs) (saying.refuses (first bars))) .verdict ≡ verdict.Refused why → cond t new old ≡ old
+    by : (t : Bool) → outcomeSaying (cond t (accepts vs) (refuses (first bars))) .verdict ≡ verdict.Refused why → cond t new old ≡ old
     by true e = let n : _≡_ {A = ℕ} 0 1 = cc in absurd (omega arith)
     by false e = refl
 

@@ -109,11 +109,11 @@ accessOf b address register v =
 abbrev pub gives : ℕ → Outcome
 gives v = record { verdict = verdict.Accepted; value = v }
 
-abbrev pub refuses : Refusal → Outcome
-refuses why = record { verdict = verdict.Refused why; value = 0 }
+abbrev pub denies : Refusal → Outcome
+denies why = record { verdict = verdict.Refused why; value = 0 }
 
 abbrev pub refusedOf : Board → Refusal → Obeyed
-refusedOf b why = record { board = b; outcome = refuses why }
+refusedOf b why = record { board = b; outcome = denies why }
 
 -- a frame that was taken apart is an access; any other is refused as it stands
 unfoldable pub obeyedOf : Board → Taken → Obeyed
@@ -144,12 +144,12 @@ abbrev pub barOf : Bool → ℕ → Refusal
 barOf writes register = cond (noRegister writes register) NoRegister BadValue
 
 abbrev pub readOf : Board → ℕ → Outcome
-readOf b register = cond (known register) (gives (readValue b register)) (refuses NoRegister)
+readOf b register = cond (known register) (gives (readValue b register)) (denies NoRegister)
 
 unfoldable pub toldOf : Board → Taken → Outcome
 toldOf b (taken.Parts address register v check) =
-    cond (writes address || not (eqb v 0)) (refuses (barOf (writes address) register)) (readOf b register)
-toldOf b (taken.Refused why) = refuses why
+    cond (writes address || not (eqb v 0)) (denies (barOf (writes address) register)) (readOf b register)
+toldOf b (taken.Refused why) = denies why
 
 abbrev pub toldBy : Board → Taken → Obeyed
 toldBy b t = record { board = b; outcome = toldOf b t }
@@ -170,8 +170,8 @@ spentBy b (taken.Refused why) = refusedOf b why
 
 -- programming that does not spend leaves the board: the cycles for equal settings, else refusal 11
 unfoldable pub keptOf : Board → Taken → Outcome
-keptOf b (taken.Parts address register v check) = cond (same (b .staged) (b .working)) (gives (b .cycles)) (refuses NoCycle)
-keptOf b (taken.Refused why) = refuses why
+keptOf b (taken.Parts address register v check) = cond (same (b .staged) (b .working)) (gives (b .cycles)) (denies NoCycle)
+keptOf b (taken.Refused why) = denies why
 
 abbrev pub keptBy : Board → Taken → Obeyed
 keptBy b t = record { board = b; outcome = keptOf b t }

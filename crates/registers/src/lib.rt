@@ -1,7 +1,7 @@
 // The register map of one board, and programming, by value (01, Frames and registers).
 ghost use mathlib.Core.Path.{_≡_};
 ghost use Rattle.frame.specs.Frame.{writes};
-ghost use Rattle.registers.specs.Registers.{gives, refuses, noRegister, asksWrite, asksProgramming, asksStaging, spendsCycle, barOf, readOf, toldOf, stagedBy, cyclesAfter, spentBy, keptOf};
+ghost use Rattle.registers.specs.Registers.{gives, denies, noRegister, asksWrite, asksProgramming, asksStaging, spendsCycle, barOf, readOf, toldOf, stagedBy, cyclesAfter, spentBy, keptOf};
 use board::Board;
 use board::Currents;
 use frame::Outcome;
@@ -27,7 +27,7 @@ fn given(value: u8) -> Outcome
 }
 
 fn refused(why: Refusal) -> Outcome
-    ensures { λ r. ⌜ r ≡ refuses why ⌝ }
+    ensures { λ r. ⌜ r ≡ denies why ⌝ }
 {
     let verdict = Verdict::Refused(why);
     Outcome {

@@ -15,7 +15,7 @@ use Rattle.frame.specs.declared.Reply.the-variants.{Refused}
 use Rattle.frame.specs.declared.Outcome.{Outcome}
 use Rattle.frame.specs.Frame.{byte, boardOf, writes, frameBars, takenApart, isRefused, whyOf}
 use Rattle.frame.specs.Reply.{replyBytes, replySaying, replyOf, putOf}
-use Rattle.registers.specs.Registers.{accessBars, boardAfter, replyValue, refuses, obeyedOf}
+use Rattle.registers.specs.Registers.{accessBars, boardAfter, replyValue, denies, obeyedOf}
 use Rattle.stack.specs.Row.{goodRow, noBoard, placeOf, boardAt}
 
 -- whom a frame names: the board's number, its place in the row, and its record
@@ -54,7 +54,7 @@ frameBuffer row bytes buffer = kept (frameRowBars row bytes buffer) buffer (fram
 
 -- ---- the same on the way: by the frame taken apart, in a row that was found good
 abbrev pub noOutcome : Outcome
-noOutcome = refuses (numbered 2)
+noOutcome = denies (numbered 2)
 
 abbrev pub noRowReply : Reply
 noRowReply = Refused (numbered 1)
