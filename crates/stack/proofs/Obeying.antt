@@ -1,23 +1,45 @@
--- Which way a frame goes on a board, said of its outcome and of the board after it, way by way.
+-- A frame goes one of two ways on a board: the ways as the walks ask for them, and that the access is the way taken.
 -- Assumes nothing.
 use mathlib.Core.Path.{_≡_, refl, sym, ap, _∙_}
 use mathlib.Core.Bool.{Bool, true, false, cond, not}
 use lib.Dec.{T as Holds}
+use mir.Syntax.{Name}
+use Rattle.walks.proofs.TwoWays.{Ways}
 use Rattle.board.specs.declared.Board.{Board}
+use Rattle.board.proofs.Board as Board′
 use Rattle.frame.specs.declared.Taken.{Taken}
-use Rattle.frame.specs.declared.Outcome.{Outcome}
+use Rattle.frame.proofs.Taken as Taken′
+use Rattle.frame.proofs.Outcome as Outcome′
 use Rattle.registers.specs.declared.Obeyed.{Obeyed}
-use Rattle.registers.specs.Registers.{asksWrite, asksProgramming, asksStaging, spendsCycle, toldOf, toldBy, stagedBy, spentBy, keptOf, keptBy, programmedBy, setBy, writtenBy, obeyedOf}
-use Rattle.registers.proofs.Ways.{obeyed-ways}
 
--- what is said of an access: its outcome, and the board after it
-abbrev Says : Obeyed → Outcome → Board → Type 0
-Says o outcome board = (outcome ≡ o .outcome) × (board ≡ o .board)
+-- what each of two functions makes of the board and the frame, and what the whole makes of them
+abbrev pub Access : Type 0
+Access = Board → Taken → Obeyed
 
-said : (o p : Obeyed) → o ≡ p → Says p (o .outcome) (o .board)
+abbrev pub ways : Name → Name → Access → Access → Access → Ways
+ways f h by-f by-h whole =
+    record {
+      T = Board′.the-type;
+      X = Taken′.the-row;
+      O = Outcome′.the-row;
+      f = f;
+      h = h;
+      answer-f = λ b t. by-f b t .outcome;
+      record-f = λ b t. by-f b t .board;
+      answer-h = λ b t. by-h b t .outcome;
+      record-h = λ b t. by-h b t .board;
+      answer-in = λ b t. whole b t .outcome;
+      record-in = λ b t. whole b t .board;
+    }
+
+-- that one access says of outcome and board what the other does
+abbrev Says : Obeyed → Obeyed → Type 0
+Says o p = (o .outcome ≡ p .outcome) × (o .board ≡ p .board)
+
+said : (o p : Obeyed) → o ≡ p → Says o p
 said o p e = (ap (λ (z : Obeyed). z .outcome) e, ap (λ (z : Obeyed). z .board) e)
 
--- where the test holds it is the one, and where not the other
+-- where the test holds the access is the one, and where not the other
 so : (c : Bool) (o p : Obeyed) → Holds c → o ≡ cond c o p
 so true o p h = refl
 so false o p h = absurd h
@@ -26,27 +48,9 @@ not-so : (c : Bool) (o p : Obeyed) → Holds (not c) → p ≡ cond c o p
 not-so true o p h = absurd h
 not-so false o p h = refl
 
-module _ (b : Board) (t : Taken) where
-  pub spends : Holds (spendsCycle b) → Says (programmedBy b t) (spentBy b t .outcome) (spentBy b t .board)
-  spends h = said (spentBy b t) (programmedBy b t) (so (spendsCycle b) (spentBy b t) (keptBy b t) h)
+module _ (c : Bool) (o p whole : Obeyed) (e : whole ≡ cond c o p) where
+  pub one-way : Holds c → Says o whole
+  one-way h = said o whole (so c o p h ∙ sym e)
 
-  pub keeps : Holds (not (spendsCycle b)) → Says (programmedBy b t) (keptOf b t) b
-  keeps h = said (keptBy b t) (programmedBy b t) (not-so (spendsCycle b) (spentBy b t) (keptBy b t) h)
-
-  pub stages : Holds (asksStaging t) → Says (setBy b t) (stagedBy b t .outcome) (stagedBy b t .board)
-  stages h = said (stagedBy b t) (setBy b t) (so (asksStaging t) (stagedBy b t) (toldBy b t) h)
-
-  pub tells : Holds (not (asksStaging t)) → Says (setBy b t) (toldOf b t) b
-  tells h = said (toldBy b t) (setBy b t) (not-so (asksStaging t) (stagedBy b t) (toldBy b t) h)
-
-  pub programs : Holds (asksProgramming t) → Says (writtenBy b t) (programmedBy b t .outcome) (programmedBy b t .board)
-  programs h = said (programmedBy b t) (writtenBy b t) (so (asksProgramming t) (programmedBy b t) (setBy b t) h)
-
-  pub sets : Holds (not (asksProgramming t)) → Says (writtenBy b t) (setBy b t .outcome) (setBy b t .board)
-  sets h = said (setBy b t) (writtenBy b t) (not-so (asksProgramming t) (programmedBy b t) (setBy b t) h)
-
-  pub writes : Holds (asksWrite t) → Says (obeyedOf b t) (writtenBy b t .outcome) (writtenBy b t .board)
-  writes h = said (writtenBy b t) (obeyedOf b t) (so (asksWrite t) (writtenBy b t) (toldBy b t) h ∙ sym (obeyed-ways b t))
-
-  pub reads : Holds (not (asksWrite t)) → Says (obeyedOf b t) (toldOf b t) b
-  reads h = said (toldBy b t) (obeyedOf b t) (not-so (asksWrite t) (writtenBy b t) (toldBy b t) h ∙ sym (obeyed-ways b t))
+  pub other-way : Holds (not c) → Says p whole
+  other-way h = said p whole (not-so c o p h ∙ sym e)
