@@ -129,8 +129,8 @@ module _ {M : Type 1} (𝓤 : URA M) (H : Heap 𝓤) (A : Atoms 𝓤) (W : Given
           ∷ Has 𝓤 H En 3 fullShare (vbool (s .bad-count (length (now ys)))) ∷ Dies 𝓤 H En 3 ∷ Dies 𝓤 H En 2 ∷ Dies 𝓤 H En 1 ∷ Free 𝓤 H En 0 ∷ Dies 𝓤 H En 0 ∷ []
 
       -- [the elements; _1; _2; _5; _6; _8; _9; the open borrow: 7; _7: 10; _4: 14; _3: 16; _0: 20]. A bad record: the row is shut, and the locals put into their order
-      turns : Turns W (s .T) (k .plain-T) (locals s) En at κ q ys q′ space (s .empty) 𝓣 Inv Γ Ends (turn s)
-      turns i a l so-far g Q back on =
+      turns : Turns W (s .T) (k .plain-T) (locals s) En at κ q ys q′ space (s .empty) 𝓣 Inv Γ Ends (turn s) (accepted s)
+      turns i a l so-far g Q back _ on =
           calls-one ! 𝓣 (k .plain-T) (boolean 𝓤 H A W) (s .bad) known (getD (now ys) i (s .empty)) g (and-then ! (var ! 7 refl) (no-more !)) (λ _. lands-in ! 10 refl (tt, tt) $ first ! $ branches ! (var ! 10 refl)
           (λ bad. move ! (0 ∷ 7 ∷ []) $ shuts-slice ! tt (R s) q′ (now ys) (ys .ptr .0) (ys .ptr .1) $ fills ! (of-opd ! (false-lit !)) 19 refl (tt, tt) $ move ! (0 ∷ 6 ∷ 7 ∷ 5 ∷ 8 ∷ 9 ∷ 10 ∷ 4 ∷ 11 ∷ 3 ∷ 12 ∷ 13 ∷ 14 ∷ 15 ∷ 16 ∷ 2 ∷ 17 ∷ 1 ∷ []) $
           ends-within ! 19 Ends back refl (cell, (cell, (cell, (cell, (cell, (cell, (cell, (cell, (cell, (cell, tt)))))))))) $ by ! (done false (every-stops (s .bad) (s .empty) (now ys) i l (is-true (s .bad (getD (now ys) i (s .empty))) bad) ∙ so-far)))

@@ -132,8 +132,8 @@ module _ {M : Type 1} (𝓤 : URA M) (H : Heap 𝓤) (A : Atoms 𝓤) (W : Given
           ∷ Dies 𝓤 H En 0 ∷ []
 
       -- [the elements; _1; _3; _4; _5; _6; _7; the open borrow: 7; _2: 13; _0: 16]
-      turns : Turns W (s .T) (k .plain-T) (locals s) En at κ q ys q′ space (s .empty) 𝓣 Inv Γ Ends (turn s)
-      turns i a l so-far g Q _ on =
+      turns : Turns W (s .T) (k .plain-T) (locals s) En at κ q ys q′ space (s .empty) 𝓣 Inv Γ Ends (turn s) (returned s)
+      turns i a l so-far g Q _ _ on =
           calls W (adds s) (k .plain-B, (uint 𝓤 H A W w64, (k .plain-T, tt))) tt tt (a .out, (i, (h i, tt))) (k .plain-B) 𝓣 known (a .is, ((refl, i-fits i l), (g, tt))) !
           (and-then ! (var ! 14 refl) (and-then ! (var ! 3 refl) (and-then ! (var ! 7 refl) (no-more !)))) (λ r _ e _ is. land ! (from ! (stop !)) (store ! 13 refl (has (k .plain-B) r is)) $
           on (record { out = r; is = is }) (subst (λ (z : s .B .Denot). folded (s .F) z (i + 1) (dropN (i + 1) (now ys)) ≡ s .all (now ys)) (sym e) (folded-on (s .F) (s .empty) (now ys) i (a .out) l ∙ so-far)))

@@ -18,7 +18,9 @@ pub mod LendAt
 pub mod Guarded
 pub mod Every
 pub mod Fold
+pub mod Sought
 pub mod After
+pub mod Enough
 pub mod GuardedShared
 pub mod Framed
 pub mod GuardedFramed

@@ -1,7 +1,7 @@
--- A loop over a shared row, which a turn may leave: what Every and Fold have in common.
+-- A loop over a shared row, which a turn may leave: what Every, Fold and Sought have in common.
 -- Assumes nothing.
 --     while i < row.len() { .. row[i] ..; i += 1; } rest
--- row is the local 1. A turn has the element by value in a local of its own, and the rest of the turn is free: it may return, or go on to `i += 1` with another state.
+-- row is the local 1. A turn has the element by value in a local of its own, and the rest of the turn is free: it may return, break out of the loop, or go on to `i += 1` with another state.
 --     Locals, Places   the locals of the loop, by number and by type: the index, the length and then the offset, the test, the pointer, the element
 --     turn-code, count-on, loop-code     the loop's MIR, around the rest of a turn and before the rest of the body
 --     Front, Filled, Over     the head of the context at the test, once the element is read, and where the loop is left
@@ -147,14 +147,14 @@ module _ {M : Type 1} {𝓤 : URA M} {H : Heap 𝓤} {A : Atoms 𝓤} (W : Given
       -- Inv is what holds of the index and the state at the test, and Γ the rest of the context there
       module _ {X : Type 0} (Inv : ℕ → X → Type 0) (Γ : X → List (Item 𝓤)) (Kf : Val → SProp 𝓤) where
         -- what the rest of a turn shows, and what the rest of the body
-        abbrev pub Turns : Code → Type 2
-        Turns turn = (x : ℕ) (a : X) → x < length (now y) → Inv x a → Is R (h x) (P .val (h x) ∷ []) → (Q : Post 𝓤 H) → post 𝓤 H Q returned ≡ atReturn 𝓤 H E Kf returned
+        abbrev pub Turns : Code → Code → Type 2
+        Turns turn after = (x : ℕ) (a : X) → x < length (now y) → Inv x a → Is R (h x) (P .val (h x) ∷ []) → (Q : Post 𝓤 H) → post 𝓤 H Q returned ≡ atReturn 𝓤 H E Kf returned → post 𝓤 H Q (exits 1) ≡ Wp 𝓤 H (𝓣 .C) (𝓣 .Λ) E after (atReturn 𝓤 H E Kf)
             → ((b : X) → Inv (x + 1) b → Seq (Go {0}) W (Filled x ++ Γ b) (runs (𝓣 .C) (𝓣 .Λ) E (count-on R L) Q)) → Seq (Go {0}) W (Filled x ++ Γ a) (runs (𝓣 .C) (𝓣 .Λ) E turn Q)
 
         abbrev pub Stops : Code → Type 1
         Stops after = (x : ℕ) (a : X) → length (now y) ≤ x → Inv x a → Seq (Go {0}) W (Over x ++ Γ a) (runs (𝓣 .C) (𝓣 .Λ) E after (atRet E Kf))
 
-      module _ {X : Type 0} (Inv : ℕ → X → Type 0) (Γ : X → List (Item 𝓤)) (Kf : Val → SProp 𝓤) (turn after : Code) (turns : Turns Inv Γ Kf turn) (ends : Stops Inv Γ Kf after) where
+      module _ {X : Type 0} (Inv : ℕ → X → Type 0) (Γ : X → List (Item 𝓤)) (Kf : Val → SProp 𝓤) (turn after : Code) (turns : Turns Inv Γ Kf turn after) (ends : Stops Inv Γ Kf after) where
         record At : Type 0 where
           x : ℕ
           a : X
@@ -174,7 +174,7 @@ module _ {M : Type 1} {𝓤 : URA M} {H : Heap 𝓤} {A : Atoms 𝓤} (W : Given
 
         goes-on : (t : At) → t .x < length (now y) → Seq (Go {0}) W (I t) (runs (𝓣 .C) (𝓣 .Λ) E (turn-code R L turn) (After t))
         unfolding afterTurn
-        goes-on t l = reads (t .x) l (Γ (t .a)) turn (After t) (λ g. turns (t .x) (t .a) l (t .inv) g (After t) refl (λ b inv. counts (t .x) l (Γ b) (After t) (again ! fewer I t (record { x = t .x + 1; a = b; inv = inv }) (falls (length (now y)) (t .x) l))))
+        goes-on t l = reads (t .x) l (Γ (t .a)) turn (After t) (λ g. turns (t .x) (t .a) l (t .inv) g (After t) refl refl (λ b inv. counts (t .x) l (Γ b) (After t) (again ! fewer I t (record { x = t .x + 1; a = b; inv = inv }) (falls (length (now y)) (t .x) l))))
 
         is-left : (t : At) → length (now y) ≤ t .x → Seq (Go {0}) W (I t) (runs (𝓣 .C) (𝓣 .Λ) E (turn-code R L turn) (After t))
         unfolding afterTurn

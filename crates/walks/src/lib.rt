@@ -31,8 +31,13 @@
 //                 f0: r ≡ bad-count n           f: r ≡ bad b             g: r ≡ A row
 // Fold            fn g(row: &[T]) -> B { let mut acc = init(); let mut i = 0; while i < row.len() { acc = f(acc, i, row[i]); i += 1; } acc }
 //                 init: r ≡ start               f: r ≡ F acc i b         g: r ≡ A row
+// Sought          fn g(row: &[T]) -> O { let mut found = no(); let mut i = 0; 'row: while i < row.len() { let b = row[i]; let n = size(b); let mut j = 0;
+//                                        while j < n { if hit(b, j) { found = at(i, j); break 'row; } j += 1; } i += 1; } found }
+//                 no: r ≡ none                  size: r ≡ size-of b      hit: r ≡ is-hit b j      at: r ≡ found i j        g: r ≡ A row
 // After           fn g(row: &[T]) -> O { let a = f(row); h(a) }
 //                 f: r ≡ F row                  h: r ≡ G a               g: r ≡ A row
+// Enough          fn g(row: &[T]) -> O { let a = f(row); if test(a) { return h(a); } let c = f2(row); h2(a, c) }
+//                 f: r ≡ F row                  test: r ≡ is-enough a    h: r ≡ answer a     f2: r ≡ G row    h2: r ≡ answer-both a c    g: r ≡ A row
 // GuardedShared   fn g(row: &[T]) -> O { if good(row) { return f(row); } no() }
 //                 good as g of Every            f: r ≡ F row             no: r ≡ none        g: r ≡ A row
 // Framed          fn g(row: &mut [T], bytes: &[E], reply: &mut [G]) -> O { let d = f1(bytes, reply.len()); if done(d) { return told(d); } let y = f2(row, d); f3(reply, d, y) }
@@ -66,4 +71,4 @@
 //
 // Under the theorems: Plain (plain types), Form (a function by the kinds of its parameters: its signature and contract, a call of it, how a walk of it begins and ends), Callee (the forms that
 // several shapes have or call), TwoWays (what EitherOne and Chosen share), Steps (the MIR of the shapes in words, with one step for each), Walk (a row's arithmetic, the freeing of the locals), Lent (a lent row or record, lent on),
-// LendArray (a local array, lent), OverRow (a loop over a shared row, left early or not: Every and Fold).
+// LendArray (a local array, lent), OverRow (a loop over a shared row, left early or not: Every, Fold and Sought).
