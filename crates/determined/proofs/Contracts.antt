@@ -72,7 +72,6 @@ use Rattle.registers.proofs.tell.Reads as registers-tell
 use Rattle.registers.proofs.stage.Reads as registers-stage
 use Rattle.registers.proofs.spend.Reads as registers-spend
 use Rattle.registers.proofs.keep.Reads as registers-keep
-use Rattle.reading.proofs.summary_of.Reads as reading-summary-of
 use Rattle.reading.proofs.none_seen.Reads as reading-none-seen
 use Rattle.reading.proofs.see.Reads as reading-see
 use Rattle.reading.proofs.read_all.Reads as reading-read-all
@@ -264,9 +263,6 @@ pub registers-keep-one : (κs : _) (a : _) (r t : _) (s u : _) → registers-kee
 registers-keep-one κs a r t s u = agree
 
 -- ---- reading
-pub reading-summary-of-one : (κs : _) (a : _) (r t : _) (s u : _) → reading-summary-of.Learnt κs a r s → reading-summary-of.Learnt κs a t u → r ≡ t
-reading-summary-of-one κs a r t s u = agree
-
 pub reading-none-seen-one : (κs : _) (a : _) (r t : _) (s u : _) → reading-none-seen.Learnt κs a r s → reading-none-seen.Learnt κs a t u → r ≡ t
 reading-none-seen-one κs a r t s u = agree
 

@@ -1,24 +1,21 @@
 -- A board more of the walk over the row, and the reading from what the walk keeps.
 -- Assumes nothing.
-use Prim.Native.Nat.{ℕ, zero, suc, _+_, _-_, _*_, _/_, _%_, _^_, _<_, _≤_}
-use native.Mathlib.Nat.{two-pow-succ, mod-eq-of-lt, lt-of-lt-of-le, not-suc-le-zero}
+use Prim.Native.Nat.{ℕ, zero, suc, _+_, _-_, _*_, _/_, _%_, _^_, _<_}
+use native.Mathlib.Nat.{two-pow-succ}
 use native.Mathlib.Omega.{arith}
 use mathlib.Core.Path.{_≡_, refl, sym, ap, _∙_}
-use mathlib.Core.Bool.{Bool, true, false, cond, not, _&&_, _||_, and-true, and-assoc}
+use mathlib.Core.Bool.{Bool, true, false, true≢false, not, _&&_, _||_, and-true, and-assoc, or-false, or-assoc}
 use mathlib.Core.List.{List, [], _∷_, _++_, map-append}
 use lib.Bits.{bitOr, or-shifted-r}
 use lib.Dec.{eqb}
 use lib.ListN.{length, length-map, length-append}
-use lib.Pow.{pow-mono}
-use borrow.Author.Tests.{eqb-true, eqb-false, ne-eqb, lt-leb, not-true, not-false}
+use borrow.Author.Tests.{eqb-true, lt-leb, not-false}
 use Rattle.lists.specs.Every.{every}
-use Rattle.lists.proofs.Split.{split}
-use Rattle.marks.specs.Marks.{number, marks, lowest}
-use Rattle.marks.proofs.Laws.{marks-number, number-below, lowest-zero, number-marks}
+use Rattle.marks.specs.Marks.{number, marks}
+use Rattle.marks.proofs.Laws.{marks-number, number-below, lowest-zero}
 use Rattle.board.specs.declared.Board.{Board}
 use Rattle.reading.specs.declared.Summary.{Summary}
-use Rattle.reading.specs.declared.First.{First}
-use Rattle.reading.specs.Reading.{summaryOf, lineUp, chgOn, dsgOn, place, firstFlagged, readOf, latchedOf, up, isFlagged, soughtAt, movedNorth, firstOf, seenOf, withBoard, firstWith, seenWith, found, foundIn, wholeOf}
+use Rattle.reading.specs.Reading.{summaryOf, lineUp, chgOn, dsgOn, place, firstFlagged, readOf, latchedOf, up, someFlag, seenOf, withBoard, seenWith, wholeOf}
 
 -- ---- one board more, north of the others
 number-on : (bs : List Bool) → number (bs ++ (true ∷ [])) ≡ number bs + 2 ^ length bs
@@ -48,32 +45,17 @@ unfolding every
 every-more on [] x = sym (and-true (on x))
 every-more on (b ∷ south) x = and-assoc (on b) (every on south) (on x) ∙ ap (λ (t : Bool). on b && t) (every-more on south x)
 
-double-zero : (n : ℕ) → eqb (2 * n) 0 ≡ eqb n 0
-double-zero n =
-    split (eqb n 0) (λ e. let none = eqb-true n 0 e in rw none) (λ e. let some = eqb-false n 0 e in ne-eqb (2 * n) 0 (λ z. some (omega arith)) ∙ sym e)
-
-sought-moved : (at : ℕ) (x : Summary) → soughtAt (suc at) x ≡ movedNorth (soughtAt at x)
-sought-moved at x = let double : 2 ^ suc at ≡ 2 * 2 ^ at = two-pow-succ at ∙ omega arith in rw double
-
-moved-more : (f : First) (at : ℕ) (x : Summary) → firstWith (movedNorth f) (suc at) x ≡ movedNorth (firstWith f at x)
-moved-more f at x = rw (double-zero (f .boards), sought-moved at x) (by (eqb (f .boards) 0) (isFlagged x))
-  where
-    by : (none flagged : Bool) → cond none (cond flagged (movedNorth (soughtAt at x)) (movedNorth f)) (movedNorth f) ≡ movedNorth (cond none (cond flagged (soughtAt at x) f) f)
-    by true true = refl
-    by true false = refl
-    by false flagged = refl
-
-first-more : (south : List Summary) (x : Summary) → firstWith (firstOf south) (length south) x ≡ firstOf (south ++ (x ∷ []))
-unfolding firstOf
-first-more [] x = refl
-first-more (b ∷ south) x =
-    split (isFlagged b) (λ e. rw e) (λ e. rw e (moved-more (firstOf south) (length south) x ∙ ap movedNorth (first-more south x)))
+flag-more : (south : List Summary) (x : Summary) → (someFlag south || not (eqb (x .flags) 0)) ≡ someFlag (south ++ (x ∷ []))
+unfolding someFlag
+flag-more [] x = sym (or-false (not (eqb (x .flags) 0)))
+flag-more (b ∷ south) x =
+    or-assoc (not (eqb (b .flags) 0)) (someFlag south) (not (eqb (x .flags) 0)) ∙ ap (λ (t : Bool). not (eqb (b .flags) 0) || t) (flag-more south x)
 
 pub seen-more : (south : List Summary) (b : Board) → length south < 16 → seenWith (seenOf south) (length south) b ≡ seenOf (south ++ (summaryOf b ∷ []))
 unfolding seenWith seenOf
 seen-more south b room =
     let x = summaryOf b in
-    rw (lt-leb 16 (length south) room, latched-more south x, every-more chgOn south x, every-more dsgOn south x, first-more south x, length-append south (x ∷ []))
+    rw (lt-leb 16 (length south) room, latched-more south x, every-more chgOn south x, every-more dsgOn south x, flag-more south x, length-append south (x ∷ []))
 
 -- ---- the reading from what is kept of some boards is their reading
 line-latches : (xs : List Summary) → lineUp xs ≡ up (latchedOf xs)
@@ -86,31 +68,9 @@ line-seen boards =
     let many : length boards ≡ length (latchedOf boards) = sym (length-map boards (λ board. board .latched)) in
     rw (many, marks-number (latchedOf boards)) (sym (line-latches boards))
 
--- the lowest cell of the board that is kept, or 0
-abbrev pub cellOf : First → ℕ
-cellOf first = lowest 1 (marks (first .count) (first .flags))
-
-found-first : (k : ℕ) (boards : List Summary) → 0 < k → found (lowest k (marks (length boards) (firstOf boards .boards))) (cellOf (firstOf boards)) ≡ firstFlagged k boards
-unfolding firstOf firstFlagged marks lowest
-found-first k [] p = refl
-found-first k (b ∷ north) p =
-    let set = firstOf north .boards in
-    let low = lowest-zero 0 (marks (b .count) (b .flags)) in
-    split (isFlagged b)
-    (λ e. rw (e, low ∙ not-true (eqb (number (marks (b .count) (b .flags))) 0) e, ne-eqb k 0 (λ z. omega arith)))
-    (λ e.
-    let off : eqb (2 * set % 2) 1 ≡ false = ne-eqb (2 * set % 2) 1 (λ z. omega arith) in
-    let half : 2 * set / 2 ≡ set = omega arith in
-    rw (e, off, half, low ∙ not-false (eqb (number (marks (b .count) (b .flags))) 0) e) (found-first (k + 1) north (omega arith)))
-
-pub whole-seen : (boards : List Summary) → wholeOf (seenOf boards) ≡ readOf boards
-unfolding wholeOf seenOf foundIn readOf
-whole-seen boards = rw (line-seen boards, found-first 1 boards (omega arith))
-
--- ---- the numbers that the functions handle
--- a number of at least 16 cells has every mark
-pub marks-all : (n x : ℕ) → x < 65536 → 16 ≤ n → number (marks n x) ≡ x
-marks-all n x small p = number-marks n x ∙ mod-eq-of-lt (lt-of-lt-of-le small (pow-mono p))
+pub whole-seen : (boards : List Summary) → wholeOf (seenOf boards) (firstFlagged 1 boards) ≡ readOf boards
+unfolding wholeOf seenOf readOf
+whole-seen boards = rw (line-seen boards)
 
 -- no cell of none
 marks-none : (n : ℕ) → number (marks n 0) ≡ 0
@@ -118,10 +78,20 @@ unfolding number marks
 marks-none zero = refl
 marks-none (suc n) = rw (marks-none n)
 
--- a board without flags is nowhere to seek
-pub unflagged-with : (first : First) (at : ℕ) (x : Summary) → x .flags ≡ 0 → firstWith first at x ≡ first
-unflagged-with first at x none = rw (none, marks-none (x .count)) (split (eqb (first .boards) 0) (λ e. rw e) (λ e. rw e))
+neither : (x y : Bool) → (x || y) ≡ false → (x ≡ false) × (y ≡ false)
+neither true y e = absurd (true≢false e)
+neither false y e = (refl, e)
 
+-- where no board has a flag, no cell is named
+pub none-flagged : (k : ℕ) (boards : List Summary) → someFlag boards ≡ false → firstFlagged k boards ≡ place 0 0
+unfolding someFlag firstFlagged
+none-flagged k [] e = refl
+none-flagged k (b ∷ north) e =
+    let parts = neither (not (eqb (b .flags) 0)) (someFlag north) e in
+    let none = eqb-true (b .flags) 0 (not-false (eqb (b .flags) 0) (parts .0)) in
+    rw (none, lowest-zero 0 (marks (b .count) 0), marks-none (b .count)) (none-flagged (k + 1) north (parts .1))
+
+-- ---- the numbers that the functions handle
 pub up-none : (n : ℕ) → up (marks n 0) ≡ false
 unfolding up marks
 up-none zero = refl
@@ -132,50 +102,3 @@ pub up-next : (set left : ℕ) → (left ≡ 0 → ⊥) → up (marks left set) 
 unfolding up marks
 up-next set zero some = absurd (some refl)
 up-next set (suc left) some = let one : suc left - 1 ≡ left = omega arith in rw one
-
--- the search of a set: one place on, past its last place, and in none
-pub lowest-next : (k n set j : ℕ) → j < n → lowest k (marks (n - j) set) ≡ cond (eqb (set % 2) 1) k (lowest (k + 1) (marks (n - (j + 1)) (set / 2)))
-unfolding lowest marks
-lowest-next k n set j p = let left : n - j ≡ suc (n - (j + 1)) = omega arith in rw left
-
-pub lowest-past : (k n set j : ℕ) → n ≤ j → lowest k (marks (n - j) set) ≡ 0
-unfolding lowest marks
-lowest-past k n set j p = let left : n - j ≡ 0 = omega arith in rw left
-
-pub lowest-nowhere : (n : ℕ) → lowest 1 (marks n 0) ≡ 0
-lowest-nowhere n = eqb-true (lowest 1 (marks n 0)) 0 (lowest-zero 0 (marks n 0) ∙ rw (marks-none n))
-
--- a search that goes on, goes on within all
-pub within : (some : Bool) (n j : ℕ) → j < cond some n 0 → (some ≡ true) × (j < n)
-within true n j p = (refl, p)
-within false n j p = absurd (not-suc-le-zero p)
-
-found-none : (cell : ℕ) → found 0 cell ≡ place 0 0
-found-none cell = split (eqb cell 0) (λ e. rw e) (λ e. rw e)
-
--- the search of the boards, past one that is not in the set or has no flagged cell
-pub board-passed : (first : First) (count boards i flags j : ℕ) → i < count → cond (eqb (boards % 2) 1) (first .count) 0 ≤ j
-    → cellOf first ≡ lowest (j + 1) (marks (first .count - j) flags)
-    → found (lowest (i + 1) (marks (count - i) boards)) (cellOf first) ≡ found (lowest (i + 1 + 1) (marks (count - (i + 1)) (boards / 2))) (cellOf first)
-board-passed first count boards i flags j here over cell =
-    split (eqb (boards % 2) 1)
-    (λ e. let none : cellOf first ≡ 0 = cell ∙ lowest-past (j + 1) (first .count) flags j (rw e at over) in rw none)
-    (λ e. rw (lowest-next (i + 1) count boards i here, e))
-
--- past the last board
-pub search-over : (first : First) (count boards i : ℕ) → cond (not (eqb (first .boards) 0)) count 0 ≤ i
-    → foundIn first count ≡ found (lowest (i + 1) (marks (count - i) boards)) (cellOf first) → foundIn first count ≡ place 0 0
-unfolding foundIn
-search-over first count boards i over so =
-    split (eqb (first .boards) 0)
-    (λ e. let none = eqb-true (first .boards) 0 e in rw (none, lowest-nowhere count) (found-none (cellOf first)))
-    (λ e. so ∙ rw (lowest-past (i + 1) count boards i (rw e at over)) (found-none (cellOf first)))
-
--- at a flagged cell of a board in the set
-pub search-done : (first : First) (count boards i flags j : ℕ) → i < count → j < cond (eqb (boards % 2) 1) (first .count) 0 → eqb (flags % 2) 1 ≡ true
-    → foundIn first count ≡ found (lowest (i + 1) (marks (count - i) boards)) (cellOf first) → cellOf first ≡ lowest (j + 1) (marks (first .count - j) flags)
-    → foundIn first count ≡ place (i + 1) (j + 1)
-search-done first count boards i flags j here on flagged so cell =
-    let w = within (eqb (boards % 2) 1) (first .count) j on in
-    let low : cellOf first ≡ j + 1 = cell ∙ lowest-next (j + 1) (first .count) flags j (w .1) ∙ rw flagged in
-    so ∙ rw (lowest-next (i + 1) count boards i here, w .0, low, ne-eqb (j + 1) 0 (λ z. omega arith), ne-eqb (i + 1) 0 (λ z. omega arith))

@@ -1,6 +1,6 @@
 -- The whole-stack reading of a row of boards, southernmost first (01, Whole-stack reading).
 -- Assumes nothing.
-use Prim.Native.Nat.{ℕ, _+_, _*_, _^_}
+use Prim.Native.Nat.{ℕ, _+_, _^_}
 use mathlib.Core.Bool.{Bool, false, cond, not, _&&_, _||_}
 use mathlib.Core.List.{List, [], _∷_, map}
 use lib.Bits.{bitOr}
@@ -13,7 +13,6 @@ use Rattle.latches.specs.Latches.{latchesOf, anyLatch}
 use Rattle.latches.specs.Latches as boards
 use Rattle.reading.specs.declared.Summary.{Summary}
 use Rattle.reading.specs.declared.Place.{Place}
-use Rattle.reading.specs.declared.First.{First}
 use Rattle.reading.specs.declared.Seen.{Seen}
 use Rattle.reading.specs.declared.Whole.{Whole}
 
@@ -69,35 +68,17 @@ up [] = false
 up (latched ∷ north) = latched || up north
 
 -- ---- on the way: what a walk over the boards keeps of them, southernmost first
-abbrev pub isFlagged : Summary → Bool
-isFlagged board = not (eqb (number (marks (board .count) (board .flags))) 0)
-
--- where a flagged cell is sought: on no board, or on the one at a place counted from 0
-abbrev pub nowhere : First
-nowhere = record { boards = 0; count = 0; flags = 0 }
-
-abbrev pub soughtAt : ℕ → Summary → First
-soughtAt at board = record { boards = 2 ^ at; count = board .count; flags = board .flags }
-
--- the same where one more board stands south of all, so that each is one place further north
-abbrev pub movedNorth : First → First
-movedNorth first = record { boards = 2 * first .boards; count = first .count; flags = first .flags }
-
--- the southernmost board with a flagged cell
-unfoldable pub firstOf : List Summary → First
-firstOf [] = nowhere
-firstOf (board ∷ north) = cond (isFlagged board) (soughtAt 0 board) (movedNorth (firstOf north))
+unfoldable pub someFlag : List Summary → Bool
+someFlag [] = false
+someFlag (board ∷ north) = not (eqb (board .flags) 0) || someFlag north
 
 unfoldable pub seenOf : List Summary → Seen
 seenOf boards =
-    record { count = length boards; latched = number (latchedOf boards); chg = every chgOn boards; dsg = every dsgOn boards; first = firstOf boards }
+    record { count = length boards; latched = number (latchedOf boards); chg = every chgOn boards; dsg = every dsgOn boards; flagged = someFlag boards }
 
 -- the same with one more board north of all, at its place
 abbrev pub withBoard : ℕ → ℕ → Bool → ℕ
 withBoard set at is = cond is (bitOr set (2 ^ at)) set
-
-abbrev pub firstWith : First → ℕ → Summary → First
-firstWith first at board = cond (eqb (first .boards) 0) (cond (isFlagged board) (soughtAt at board) first) first
 
 unfoldable pub seenWith : Seen → ℕ → Board → Seen
 seenWith seen at b =
@@ -106,17 +87,9 @@ seenWith seen at b =
       latched = withBoard (seen .latched) at (summaryOf b .latched);
       chg = seen .chg && summaryOf b .chg;
       dsg = seen .dsg && summaryOf b .dsg;
-      first = firstWith (seen .first) at (summaryOf b);
+      flagged = seen .flagged || not (eqb (summaryOf b .flags) 0);
     })
 
--- ---- on the way: the reading from what was kept
--- a board and a cell on it, or neither where one of them is 0
-abbrev pub found : ℕ → ℕ → Place
-found board cell = cond (eqb cell 0) (place 0 0) (cond (eqb board 0) (place 0 0) (place board cell))
-
-unfoldable pub foundIn : First → ℕ → Place
-foundIn first count = found (lowest 1 (marks count (first .boards))) (lowest 1 (marks (first .count) (first .flags)))
-
-unfoldable pub wholeOf : Seen → Whole
-wholeOf seen =
-    record { line = up (marks (seen .count) (seen .latched)); chg = seen .chg; dsg = seen .dsg; flagged = foundIn (seen .first) (seen .count) }
+-- ---- on the way: the reading from what was kept and the flagged cell
+unfoldable pub wholeOf : Seen → Place → Whole
+wholeOf seen flagged = record { line = up (marks (seen .count) (seen .latched)); chg = seen .chg; dsg = seen .dsg; flagged = flagged }

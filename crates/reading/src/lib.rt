@@ -1,10 +1,9 @@
 // The whole-stack reading, over a summary of each board by value (01, Whole-stack reading).
 ghost use mathlib.Core.Path.{_≡_};
-ghost use mathlib.Core.Bool.{cond};
 ghost use mathlib.Core.List.{[]};
 ghost use Prim.Native.Nat.{_<_};
 ghost use Rattle.marks.specs.Marks.{marks};
-ghost use Rattle.reading.specs.Reading.{summaryOf, isFlagged, withBoard, firstWith, seenOf, seenWith, up, foundIn, wholeOf};
+ghost use Rattle.reading.specs.Reading.{summaryOf, withBoard, seenOf, seenWith, up, wholeOf};
 use board::Board;
 
 // What the reading takes from one board; the flagged cells as a number.
@@ -17,7 +16,7 @@ pub struct Summary {
 }
 
 // The summary of a board's record.
-pub fn summary_of(b: Board) -> Summary
+fn summary_of(b: Board) -> Summary
     ensures { λ r. ⌜ r ≡ summaryOf b ⌝ }
 {
     Summary {
@@ -44,49 +43,27 @@ pub struct Whole {
 
 // ---- the walk over the row
 
-// Where a flagged cell is sought: the southernmost board that has one, as a set, with its cells; or no board. A set of boards is a number, as a set of cells is:
-// board 1 is worth 1, board 2 is worth 2, board 3 is worth 4 and so on.
-pub struct First {
-    pub boards: u16,
-    pub count: u8,
-    pub flags: u16,
-}
-
-// What a walk over the row keeps of the boards, southernmost first: how many they are, which have a latch, and whether CHG and DSG are on at every one.
+// What a walk over the row keeps of the boards, southernmost first: how many they are, which have a latch, whether CHG and DSG are on at every one, and whether one has a flag.
+// A set of boards is a number, as a set of cells is: board 1 is worth 1, board 2 is worth 2, board 3 is worth 4 and so on.
 pub struct Seen {
     pub count: u8,
     pub latched: u16,
     pub chg: bool,
     pub dsg: bool,
-    pub first: First,
+    pub flagged: bool,
 }
 
 // Before the first board.
 pub fn none_seen() -> Seen
     ensures { λ r. ⌜ r ≡ seenOf [] ⌝ }
 {
-    let first = First {
-        boards: 0,
-        count: 0,
-        flags: 0,
-    };
     Seen {
         count: 0,
         latched: 0,
         chg: true,
         dsg: true,
-        first: first,
+        flagged: false,
     }
-}
-
-// Whether one of a board's cells is flagged; a flag beyond its cells is none.
-fn is_flagged(s: Summary) -> bool
-    ensures { λ r. ⌜ r ≡ isFlagged s ⌝ }
-{
-    if 16 <= s.count {
-        return s.flags != 0;
-    }
-    s.flags % (1 << s.count) != 0
 }
 
 // A set of boards, with the board at this place or without it.
@@ -95,27 +72,6 @@ fn with_board(set: u16, at: usize, is: bool) -> u16
     ensures { λ r. ⌜ r ≡ withBoard set at is ⌝ }
 {
     if is { set | (1 << at) } else { set }
-}
-
-// Where a flagged cell is sought, once the board at this place is known too.
-fn first_with(first: First, at: usize, s: Summary) -> First
-    requires { ⌜ at < 16 ⌝ }
-    ensures { λ r. ⌜ r ≡ firstWith first at s ⌝ }
-{
-    if s.flags == 0 {
-        return first;
-    }
-    if first.boards != 0 {
-        return first;
-    }
-    if is_flagged(s) {
-        return First {
-            boards: 1 << at,
-            count: s.count,
-            flags: s.flags,
-        };
-    }
-    first
 }
 
 // One board more, north of those seen; a row has 16 at most.
@@ -131,7 +87,7 @@ pub fn see(seen: Seen, at: usize, b: Board) -> Seen
         latched: with_board(seen.latched, at, s.latched),
         chg: seen.chg & s.chg,
         dsg: seen.dsg & s.dsg,
-        first: first_with(seen.first, at, s),
+        flagged: seen.flagged | (s.flags != 0),
     }
 }
 
@@ -153,50 +109,11 @@ fn line_up(latched: u16, left: u8) -> bool
     line_up(latched / 2, left - 1)
 }
 
-// How many are searched: all of them, or none.
-fn searched(some: bool, n: u8) -> u8
-    ensures { λ r. ⌜ r ≡ cond some n 0 ⌝ }
-{
-    if some { n } else { 0 }
-}
-
-// The southernmost board with a flagged cell, and the lowest such cell on it: the first one found ends both loops.
-fn first_flagged(first: First, count: u8) -> Place
-    ensures { λ r. ⌜ r ≡ foundIn first count ⌝ }
-{
-    let rows = searched(first.boards != 0, count);
-    let mut board = 0;
-    let mut cell = 0;
-    let mut boards = first.boards;
-    let mut i = 0;
-    'boards: while i < rows {
-        let top = searched(boards % 2 == 1, first.count);
-        let mut flags = first.flags;
-        let mut j = 0;
-        while j < top {
-            if flags % 2 == 1 {
-                board = i + 1;
-                cell = j + 1;
-                break 'boards;
-            }
-            flags = flags / 2;
-            j += 1;
-        }
-        boards = boards / 2;
-        i += 1;
-    }
-    Place {
-        board: board,
-        cell: cell,
-    }
-}
-
 // The reading of the boards seen: board 1's line, pack CHG, pack DSG and the flagged cell.
-pub fn read_all(seen: Seen) -> Whole
-    ensures { λ r. ⌜ r ≡ wholeOf seen ⌝ }
+pub fn read_all(seen: Seen, flagged: Place) -> Whole
+    ensures { λ r. ⌜ r ≡ wholeOf seen flagged ⌝ }
 {
     let line = line_up(seen.latched, seen.count);
-    let flagged = first_flagged(seen.first, seen.count);
     Whole {
         line: line,
         chg: seen.chg,

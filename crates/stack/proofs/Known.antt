@@ -27,6 +27,8 @@ use Rattle.frame.proofs.Reply as Reply
 use Rattle.frame.proofs.Reply.Laws as Reply′
 use Rattle.registers.proofs.Obeyed as Obeyed
 use Rattle.registers.proofs.Obeyed.Laws as Obeyed′
+use Rattle.reading.proofs.Place as Place
+use Rattle.reading.proofs.Place.Laws as Place′
 use Rattle.reading.proofs.Seen as Seen
 use Rattle.reading.proofs.Seen.Laws as Seen′
 use Rattle.stack.proofs.View as View
@@ -56,6 +58,9 @@ module _ {M : Type 1} (𝓤 : URA M) (H : Heap 𝓤) (A : Atoms 𝓤) (W : Given
 
   abbrev pub reply : PlainType 𝓤 H A Reply.the-row
   reply = enumeration 𝓤 H A W Reply.the-type Reply′.the-laws Reply′.the-plain Reply′.the-copy tt
+
+  abbrev pub place : PlainType 𝓤 H A Place.the-row
+  place = struct 𝓤 H A W Place.the-type Place′.the-laws Place′.the-plain Place′.the-copy
 
   abbrev pub seen : PlainType 𝓤 H A Seen.the-row
   seen = struct 𝓤 H A W Seen.the-type Seen′.the-laws Seen′.the-plain Seen′.the-copy

@@ -4,7 +4,7 @@ use Prim.Native.Nat.{suc, _<_, _≤_}
 use native.Mathlib.Numerals.{add-one}
 use native.Mathlib.Omega.{arith}
 use mathlib.Core.Path.{_≡_, refl, ap, sym, _∙_}
-use mathlib.Core.Bool.{Bool, true, false}
+use mathlib.Core.Bool.{Bool, true, false, cond}
 use mathlib.Core.List.{List, [], _∷_, _++_, map, append-nil, append-assoc}
 use lib.Dec.{leb, eqb}
 use lib.ListN.{length, take, length-map, length-append}
@@ -19,13 +19,14 @@ use Rattle.board.specs.declared.Board.{Board}
 use Rattle.reading.specs.declared.Seen.{Seen}
 use Rattle.reading.specs.declared.Summary.{Summary}
 use Rattle.reading.specs.declared.Whole.{Whole}
-use Rattle.reading.specs.Reading.{summaryOf, readOf, wholeSaid, seenOf, seenWith}
-use Rattle.reading.proofs.Turns.{seen-more, whole-seen}
+use Rattle.reading.specs.Reading.{summaryOf, readOf, wholeSaid, place, firstFlagged, someFlag, seenOf, seenWith}
+use Rattle.reading.proofs.Turns.{seen-more, whole-seen, none-flagged}
 use Rattle.stack.specs.declared.View.{View}
 use Rattle.stack.specs.declared.View.the-variants.{Read, Refused}
 use Rattle.stack.specs.Row.{goodRow}
-use Rattle.stack.specs.Read.{wholeSaying, viewSaid, viewSaying, readingOf, noRowView, seenRow, lookOf}
+use Rattle.stack.specs.Read.{wholeSaying, viewSaid, viewSaying, readingOf, noRowView, seenRow, firstFrom, lookOf}
 use Rattle.stack.proofs.Ways.{row-size}
+use Rattle.stack.proofs.Searching.{first-good}
 
 -- ---- what a reading says
 bit-back : (b : Bool) → eqb (bit b) 1 ≡ b
@@ -70,11 +71,16 @@ unfolding seenRow
 row-folds row = folds [] row
 
 -- ---- the reading
+-- where no board has a flag, the search has nothing to find
+sought-cell : (row : List Board) → goodRow row ≡ true → (some : Bool) → someFlag (map summaryOf row) ≡ some → cond some (firstFrom 0 row) (place 0 0) ≡ firstFlagged 1 (map summaryOf row)
+sought-cell row good true e = first-good row good
+sought-cell row good false e = sym (none-flagged 1 (map summaryOf row) e)
+
 pub read-good : (row : List Board) → goodRow row ≡ true → lookOf row ≡ readingOf row
-unfolding lookOf seenRow readingOf
+unfolding lookOf seenRow readingOf seenOf
 read-good row good =
     let few : length (map summaryOf row) ≤ 16 = rw (length-map row summaryOf) (row-size row good .1) in
-    rw (take-all 16 (map summaryOf row) few, whole-seen (map summaryOf row), good) (ap Read (sym (whole-said (readOf (map summaryOf row)))))
+    rw (take-all 16 (map summaryOf row) few, sought-cell row good (someFlag (map summaryOf row)) refl, whole-seen (map summaryOf row), good) (ap Read (sym (whole-said (readOf (map summaryOf row)))))
 
 pub read-bad : (row : List Board) → goodRow row ≡ false → noRowView ≡ readingOf row
 unfolding readingOf

@@ -1,12 +1,15 @@
 -- The whole-stack reading of a row (01, Whole-stack reading; Refusal number 1).
 -- Assumes nothing.
+use Prim.Native.Nat.{ℕ, zero, suc, _+_}
 use mathlib.Core.Bool.{cond, not}
 use mathlib.Core.List.{List, [], _∷_, map}
-use lib.Dec.{eqb}
+use lib.Dec.{leb, eqb}
 use lib.ListN.{take}
 use Rattle.refusal.specs.Refusals.{numberOf, numbered}
 use Rattle.refusal.specs.Said.{Said, refuses, accepts, value, Bar, bar, judged}
 use Rattle.board.specs.declared.Board.{Board}
+use Rattle.marks.specs.Marks.{marked}
+use Rattle.reading.specs.declared.Place.{Place}
 use Rattle.reading.specs.declared.Seen.{Seen}
 use Rattle.reading.specs.declared.Whole.{Whole}
 use Rattle.reading.specs.Reading.{summaryOf, readOf, wholeSaid, place, seenOf, wholeOf}
@@ -42,8 +45,21 @@ noRowView = Refused (numbered 1)
 unfoldable pub seenRow : List Board → Seen
 seenRow row = seenOf (take 16 (map summaryOf row))
 
-abbrev pub viewOf : Seen → View
-viewOf seen = Read (wholeOf seen)
+-- the search for a flagged cell, cell by cell and board by board; both are counted from 0 here
+abbrev pub placeAt : ℕ → ℕ → Place
+placeAt board cell = cond (leb 16 board) (place 0 0) (cond (leb 16 cell) (place 0 0) (place (board + 1) (cell + 1)))
+
+-- on the board at place i, from the cell at place j on, of which so many are left; or else further north
+unfoldable pub firstOn : Board → ℕ → ℕ → ℕ → Place → Place
+firstOn b i j zero north = north
+firstOn b i j (suc left) north = cond (marked (b .flags) j) (placeAt i j) (firstOn b i (j + 1) left north)
+
+unfoldable pub firstFrom : ℕ → List Board → Place
+firstFrom i [] = place 0 0
+firstFrom i (b ∷ north) = firstOn b i 0 (b .count) (firstFrom (i + 1) north)
+
+abbrev pub viewOf : Seen → Place → View
+viewOf seen flagged = Read (wholeOf seen flagged)
 
 unfoldable pub lookOf : List Board → View
-lookOf row = viewOf (seenRow row)
+lookOf row = viewOf (seenRow row) (cond (seenRow row .flagged) (firstFrom 0 row) (place 0 0))

@@ -1,7 +1,7 @@
 // The public library: a stack as one row of board records, lent to each routine (01, The stack and its readings).
 // Every routine over lent records is one of the shapes of crate walks, and calls proved work on plain values.
 ghost use mathlib.Core.Path.{_≡_};
-ghost use mathlib.Core.Bool.{true};
+ghost use mathlib.Core.Bool.{true, not};
 ghost use Prim.Native.Nat.{_≤_};
 ghost use lib.ListN.{length};
 ghost use Rattle.board.specs.Sample.{sampleOf, acceptedOf, badBoard};
@@ -10,7 +10,9 @@ ghost use Rattle.stack.specs.Row.{badCount, goodRow, placeOf};
 ghost use Rattle.stack.specs.Open.{goodCounts, freshRow, noStack, openOf};
 ghost use Rattle.stack.specs.Sample.{sampleAnswerAt, sampleRowAt, sampleAnswer, sampleRow, noSample, noRowSample};
 ghost use Rattle.stack.specs.Frame.{takenPlace, obeyOutcomeAt, obeyRowAt, frameAnswerIn, frameRowIn, frameBufferIn, frameAnswer, frameRow, frameBuffer, noOutcome, noRowReply};
-ghost use Rattle.stack.specs.Read.{seenRow, lookOf, viewOf, readingOf, noRowView};
+ghost use Rattle.marks.specs.Marks.{marked};
+ghost use Rattle.reading.specs.Reading.{place};
+ghost use Rattle.stack.specs.Read.{seenRow, placeAt, firstFrom, lookOf, viewOf, readingOf, noRowView};
 use board::Answer;
 use board::Board;
 use board::Readings;
@@ -18,6 +20,7 @@ use frame::Outcome;
 use frame::Reply;
 use frame::Taken;
 use frame::Verdict;
+use reading::Place;
 use reading::Seen;
 use reading::Whole;
 use refusal::Refusal;
@@ -358,17 +361,90 @@ fn see_row(row: &[Board]) -> Seen
     seen
 }
 
-fn view_of(seen: Seen) -> View
-    ensures { λ r. ⌜ r ≡ viewOf seen ⌝ }
+fn no_place() -> Place
+    ensures { λ r. ⌜ r ≡ place 0 0 ⌝ }
 {
-    View::Read(reading::read_all(seen))
+    Place { board: 0, cell: 0 }
 }
 
+// The place of a cell; a row has 16 boards at most, and a board 16 cells.
+fn place_at(board: usize, cell: usize) -> Place
+    ensures { λ r. ⌜ r ≡ placeAt board cell ⌝ }
+{
+    if 16 <= board {
+        return no_place();
+    }
+    if 16 <= cell {
+        return no_place();
+    }
+    Place {
+        board: board as u8 + 1,
+        cell: cell as u8 + 1,
+    }
+}
+
+fn cell_count(b: Board) -> usize
+    ensures { λ r. ⌜ r ≡ b .count ⌝ }
+{
+    b.count as usize
+}
+
+fn is_flagged(b: Board, cell: usize) -> bool
+    ensures { λ r. ⌜ r ≡ marked (b .flags) cell ⌝ }
+{
+    marks::mark_at(b.flags, cell)
+}
+
+// The southernmost board with a flagged cell, and the lowest such cell on it: the first one found ends both loops.
+fn first_flagged(row: &[Board]) -> Place
+    ensures { λ r. ⌜ r ≡ firstFrom 0 (now (row .entry)) ⌝ }
+{
+    let mut place = no_place();
+    let mut i = 0;
+    'boards: while i < row.len() {
+        let b = row[i];
+        let cells = cell_count(b);
+        let mut j = 0;
+        while j < cells {
+            if is_flagged(b, j) {
+                place = place_at(i, j);
+                break 'boards;
+            }
+            j += 1;
+        }
+        i += 1;
+    }
+    place
+}
+
+fn none_flagged(seen: Seen) -> bool
+    ensures { λ r. ⌜ r ≡ not (seen .flagged) ⌝ }
+{
+    !seen.flagged
+}
+
+fn view_of(seen: Seen, flagged: Place) -> View
+    ensures { λ r. ⌜ r ≡ viewOf seen flagged ⌝ }
+{
+    View::Read(reading::read_all(seen, flagged))
+}
+
+fn view_without(seen: Seen) -> View
+    ensures { λ r. ⌜ r ≡ viewOf seen (place 0 0) ⌝ }
+{
+    view_of(seen, no_place())
+}
+
+// A flagged cell is sought only where a board has a flag.
 fn look(row: &[Board]) -> View
     ensures { λ r. ⌜ r ≡ lookOf (now (row .entry)) ⌝ }
 {
     let seen = see_row(row);
-    view_of(seen)
+    if none_flagged(seen) {
+        return view_without(seen);
+    }
+    let flagged = first_flagged(row);
+    view_of(seen, flagged)
 }
 
 fn no_row_view() -> View

@@ -19,7 +19,6 @@ pub mod Guarded
 pub mod Every
 pub mod Fold
 pub mod Sought
-pub mod After
 pub mod Enough
 pub mod GuardedShared
 pub mod Framed

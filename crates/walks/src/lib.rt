@@ -34,8 +34,6 @@
 // Sought          fn g(row: &[T]) -> O { let mut found = no(); let mut i = 0; 'row: while i < row.len() { let b = row[i]; let n = size(b); let mut j = 0;
 //                                        while j < n { if hit(b, j) { found = at(i, j); break 'row; } j += 1; } i += 1; } found }
 //                 no: r ≡ none                  size: r ≡ size-of b      hit: r ≡ is-hit b j      at: r ≡ found i j        g: r ≡ A row
-// After           fn g(row: &[T]) -> O { let a = f(row); h(a) }
-//                 f: r ≡ F row                  h: r ≡ G a               g: r ≡ A row
 // Enough          fn g(row: &[T]) -> O { let a = f(row); if test(a) { return h(a); } let c = f2(row); h2(a, c) }
 //                 f: r ≡ F row                  test: r ≡ is-enough a    h: r ≡ answer a     f2: r ≡ G row    h2: r ≡ answer-both a c    g: r ≡ A row
 // GuardedShared   fn g(row: &[T]) -> O { if good(row) { return f(row); } no() }

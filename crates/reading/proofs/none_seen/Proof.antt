@@ -1,12 +1,12 @@
 use mathlib.Core.Path.{refl}
 use Rattle.lists.specs.Every.{every}
 use Rattle.marks.specs.Marks.{number}
-use Rattle.reading.specs.Reading.{firstOf, seenOf}
+use Rattle.reading.specs.Reading.{someFlag, seenOf}
 use Rattle.reading.proofs.none_seen.Statement.{statement}
 use Rattle.reading.proofs.none_seen.Tie as tie
 
 returns : tie.Need-returns
-unfolding seenOf number every firstOf
+unfolding seenOf number every someFlag
 returns c = refl
 
 pub none-seen-spec : {M : Type 1} → statement M

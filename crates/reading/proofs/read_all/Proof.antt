@@ -1,4 +1,4 @@
--- `read_all`: each part of the reading by its own function.
+-- `read_all`: the line by its own function.
 -- Assumes nothing.
 use borrow.Author.Needs.{needs}
 use Rattle.reading.specs.Reading.{wholeOf}
@@ -8,12 +8,9 @@ use Rattle.reading.proofs.read_all.Tie as tie
 line-up-requires : tie.Need-line-up-requires
 line-up-requires c κs = search needs
 
-first-flagged-requires : tie.Need-first-flagged-requires
-first-flagged-requires c κs = search needs
-
 returns : tie.Need-returns
 unfolding wholeOf
-returns c = rw (c .first-flagged .ensures, c .before .line-up .ensures)
+returns c = rw (c .line-up .ensures)
 
 pub read-all-spec : {M : Type 1} → statement M
-read-all-spec = tie.close (tie.spec line-up-requires first-flagged-requires returns)
+read-all-spec = tie.close (tie.spec line-up-requires returns)

@@ -20,15 +20,12 @@ add-t7 c = search needs
 with-board-requires : tie.Need-with-board-requires
 with-board-requires c κs = search needs
 
-first-with-requires : tie.Need-first-with-requires
-first-with-requires c κs = search needs
-
 returns-2 : tie.Need-returns-2
 unfolding seenWith
 returns-2 c =
-    let c1 = c .before .before .before .before .before in
+    let c1 = c .before .before .before .before .before .before in
     let c2 = c1 .before in
-    rw (lt-leb _ _ (c2 .before .if1 .left), c .first-with .ensures, c1 .with-board .ensures, c2 .summary-of .ensures)
+    rw (lt-leb _ _ (c2 .before .if1 .left), c1 .with-board .ensures, c2 .summary-of .ensures)
 
 pub see-spec : {M : Type 1} → statement M
 see-spec =
@@ -39,5 +36,4 @@ see-spec =
     cast-t6
     add-t7
     with-board-requires
-    first-with-requires
     returns-2)
