@@ -161,6 +161,11 @@ moved r v w p q s =
     let sum : bitXor (bitXor r v) (bitXor v w) ≡ bitXor r w = xor-assoc r v (bitXor v w) ∙ ap (bitXor r) (sym (xor-assoc v v w) ∙ ap (λ (x : ℕ). bitXor x w) (xor-self v) ∙ xor-zero-l w) in
     rw (sym (one-byte (bitXor r v) one), sym (one-byte (bitXor v w) two)) (sym (reduced-sum (bySeven (bitXor r v)) (bySeven (bitXor v w))) ∙ ap reduced (sym (seven-sum (bitXor r v) (bitXor v w))) ∙ ap (λ (x : ℕ). reduced (bySeven x)) sum ∙ one-byte (bitXor r w) (xor-lt 8 r w p s))
 
+-- a value that stays moves no check
+pub echo-check : (check value : ℕ) → checkMoved check value value ≡ check
+unfolding checked shifted
+echo-check check value = rw (xor-self value, xor-zero-r check)
+
 pub moved-check : (a r v w check : ℕ) → a < 256 → r < 256 → v < 256 → w < 256 → checkMoved check v w ≡ checkAfter a r v check w
 moved-check a r v w check p q s t = by (eqb check (checkOf (a ∷ r ∷ v ∷ []))) refl
   where

@@ -138,10 +138,13 @@ pub fn refusal(taken: Taken) -> Reply
     Reply::Refused(why(taken))
 }
 
-// The check of a frame whose value becomes another: the two bytes before it need not be gone through again.
+// The check of a frame whose value becomes another: the two bytes before it need not be gone through again, and an echo is as it came.
 fn check_moved(check: u8, old: u8, new: u8) -> u8
     ensures { λ o. ⌜ o ≡ checkMoved check old new ⌝ }
 {
+    if old == new {
+        return check;
+    }
     check ^ check_next(old, new)
 }
 

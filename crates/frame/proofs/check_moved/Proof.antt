@@ -1,14 +1,19 @@
--- `frame::check_moved` meets its contract: one step of the check, added.
+-- `frame::check_moved` meets its contract: an echo moves nothing, and any other value one step of the check, added.
 -- Assumes nothing.
+use mathlib.Core.Path.{sym}
 use borrow.Author.Needs.{needs}
+use Rattle.frame.proofs.Product.{echo-check}
 use Rattle.frame.proofs.check_moved.Statement.{statement}
 use Rattle.frame.proofs.check_moved.Tie as tie
+
+returns : tie.Need-returns
+returns c = rw (c .if1 .taken) (sym (echo-check (c .before .args .check) (c .before .args .new)))
 
 check-next-requires : tie.Need-check-next-requires
 check-next-requires c κs = search needs
 
-returns : tie.Need-returns
-returns c = rw (c .check-next .ensures)
+returns-2 : tie.Need-returns-2
+returns-2 c = rw (c .check-next .ensures)
 
 pub check-moved-spec : {M : Type 1} → statement M
-check-moved-spec = tie.close (tie.spec check-next-requires returns)
+check-moved-spec = tie.close (tie.spec returns check-next-requires returns-2)
