@@ -62,7 +62,7 @@ use Rattle.frame.proofs.check_all.Reads as frame-check-all
 use Rattle.frame.proofs.check_byte.Reads as frame-check-byte
 use Rattle.frame.proofs.take_apart.Reads as frame-take-apart
 use Rattle.frame.proofs.refused.Reads as frame-refused
-use Rattle.frame.proofs.why.Reads as frame-why
+use Rattle.frame.proofs.request_of.Reads as frame-request-of
 use Rattle.frame.proofs.refusal.Reads as frame-refusal
 use Rattle.registers.proofs.asks_write.Reads as registers-asks-write
 use Rattle.registers.proofs.asks_programming.Reads as registers-asks-programming
@@ -231,8 +231,8 @@ frame-take-apart-one κs a r t s u = agree
 pub frame-refused-one : (κs : _) (a : _) (r t : _) (s u : _) → frame-refused.Learnt κs a r s → frame-refused.Learnt κs a t u → r ≡ t
 frame-refused-one κs a r t s u = agree
 
-pub frame-why-one : (κs : _) (a : _) (r t : _) (s u : _) → frame-why.Learnt κs a r s → frame-why.Learnt κs a t u → r ≡ t
-frame-why-one κs a r t s u = agree
+pub frame-request-of-one : (κs : _) (a : _) (r t : _) (s u : _) → frame-request-of.Learnt κs a r s → frame-request-of.Learnt κs a t u → r ≡ t
+frame-request-of-one κs a r t s u = agree
 
 pub frame-refusal-one : (κs : _) (a : _) (r t : _) (s u : _) → frame-refusal.Learnt κs a r s → frame-refusal.Learnt κs a t u → r ≡ t
 frame-refusal-one κs a r t s u = agree

@@ -11,6 +11,7 @@ use Rattle.refusal.specs.Refusals.{numberOf, numbered}
 use Rattle.refusal.specs.Said.{Said, refuses, accepts, value, Bar, bar, judged}
 use Rattle.frame.specs.declared.Taken.{Taken}
 use Rattle.frame.specs.declared.Taken.the-variants.{Parts, Refused}
+use Rattle.frame.specs.declared.Request.{Request}
 use Rattle.frame.specs.Check.{checkOf}
 
 -- byte i of a frame, from 0: address, register, value, check
@@ -48,6 +49,11 @@ takenApart frame room = partsSaying (judged (frameBars frame room) (byte frame 0
 abbrev pub isRefused : Taken → Bool
 isRefused (Parts address register v check) = false
 isRefused (Refused why) = true
+
+-- what a frame asks of its board; one that was refused asks nothing, and zeros stand for that
+abbrev pub requestOf : Taken → Request
+requestOf (Parts address register v check) = record { address = address; register = register; value = v }
+requestOf (Refused why) = record { address = 0; register = 0; value = 0 }
 
 -- why a frame was refused; one that was taken apart has no refusal, and Malformed, which no frame is given, stands for that
 abbrev pub whyOf : Taken → Refusal

@@ -4,7 +4,7 @@ ghost use mathlib.Core.Path.{_≡_};
 ghost use mathlib.Core.List.{[], _∷_};
 ghost use lib.Bits.{bitXor};
 ghost use Rattle.frame.specs.Check.{checked, checkOf, checkMoved};
-ghost use Rattle.frame.specs.Frame.{takenApart, isRefused, whyOf};
+ghost use Rattle.frame.specs.Frame.{takenApart, isRefused, requestOf, whyOf};
 ghost use Rattle.frame.specs.Reply.{replyOf, putOf};
 use refusal::Refusal;
 
@@ -99,8 +99,39 @@ pub fn refused(taken: Taken) -> bool
     }
 }
 
+// What a frame asks of its board.
+pub struct Request {
+    pub address: u8,
+    pub register: u8,
+    pub value: u8,
+}
+
+// Of a frame that was taken apart; one that was refused asks nothing, and zeros stand for that.
+pub fn request_of(taken: Taken) -> Request
+    ensures { λ o. ⌜ o ≡ requestOf taken ⌝ }
+{
+    let Taken::Parts {
+        address,
+        register,
+        value,
+        check: _,
+    } = taken
+    else {
+        return Request {
+            address: 0,
+            register: 0,
+            value: 0,
+        };
+    };
+    Request {
+        address: address,
+        register: register,
+        value: value,
+    }
+}
+
 // Why; for a frame that was taken apart, the refusal that no frame is given.
-pub fn why(taken: Taken) -> Refusal
+fn why(taken: Taken) -> Refusal
     ensures { λ o. ⌜ o ≡ whyOf taken ⌝ }
 {
     match taken {

@@ -10,22 +10,24 @@ use Rattle.refusal.specs.declared.Refusal.{Refusal}
 use Rattle.refusal.specs.Said.{Bar, bar, accepts, refuses, first, judged, kept}
 use Rattle.settings.specs.Bytes.{same}
 use Rattle.board.specs.declared.Board.{Board}
-use Rattle.frame.specs.declared.Taken.{Taken}
-use Rattle.frame.specs.declared.Taken.the-variants as taken
+use Rattle.frame.specs.declared.Request.{Request}
 use Rattle.frame.specs.declared.Verdict.the-variants as verdict
 use Rattle.frame.specs.Frame.{writes}
 use Rattle.frame.specs.Reply.{outcomeSaid, outcomeSaying}
 use Rattle.registers.specs.Registers.{noRegister, readValue, fits, programs, staging, spent, lacksCycle, accessBars, boardAfter, replyValue, gives, obeyedOf}
 
 -- a write to register 11 of the value that programs
-module _ (b : Board) (address check : ℕ) (write : writes address ≡ true) where
+module _ (b : Board) (address : ℕ) (write : writes address ≡ true) where
+  abbrev programming : Request
+  programming = record { address = address; register = 11; value = 0x41 }
+
   -- with equal settings it gives the very board back and is accepted, whatever the cycles
-  pub equal-programming : same (b .staged) (b .working) ≡ true → obeyedOf b (taken.Parts address 11 0x41 check) ≡ record { board = b; outcome = gives (b .cycles) }
+  pub equal-programming : same (b .staged) (b .working) ≡ true → obeyedOf b programming ≡ record { board = b; outcome = gives (b .cycles) }
   unfolding obeyedOf boardAfter
   equal-programming equal = rw (write, equal)
 
   -- with unlike settings and a free cycle it spends one
-  pub spending : same (b .staged) (b .working) ≡ false → leb 3 (b .cycles) ≡ false → obeyedOf b (taken.Parts address 11 0x41 check) ≡ record { board = spent b; outcome = gives (b .cycles + 1) }
+  pub spending : same (b .staged) (b .working) ≡ false → leb 3 (b .cycles) ≡ false → obeyedOf b programming ≡ record { board = spent b; outcome = gives (b .cycles + 1) }
   unfolding obeyedOf boardAfter spent
   spending unlike free = rw (write, unlike, free)
 
@@ -50,10 +52,9 @@ refused-kept bars vs old new why = by (eqb (first bars) 0)
     by true e = let n : _≡_ {A = ℕ} 0 1 = cc in absurd (omega arith)
     by false e = refl
 
-pub refused-leaves : (b : Board) (t : Taken) (why : Refusal) → obeyedOf b t .outcome .verdict ≡ verdict.Refused why → obeyedOf b t .board ≡ b
+pub refused-leaves : (b : Board) (asked : Request) (why : Refusal) → obeyedOf b asked .outcome .verdict ≡ verdict.Refused why → obeyedOf b asked .board ≡ b
 unfolding obeyedOf
-refused-leaves b (taken.Parts address register v check) why e = refused-kept (accessBars b (writes address) register v) _ b _ why e
-refused-leaves b (taken.Refused other) why e = refl
+refused-leaves b asked why e = refused-kept (accessBars b (writes (asked .address)) (asked .register) (asked .value)) _ b _ why e
 
 -- whatever the conditions of 9, 10 and 11 come to, the outcome says the number or the value
 said : (x y z : Bool) (v : ℕ) → let s = judged (bar 9 x ∷ bar 10 y ∷ bar 11 z ∷ []) (v ∷ []) in outcomeSaid (outcomeSaying s) ≡ s
@@ -62,7 +63,9 @@ said false true z v = refl
 said false false true v = refl
 said false false false v = refl
 
-pub obeyed-said : (b : Board) (address register v check : ℕ) → let after = boardAfter b (writes address) register v in outcomeSaid (obeyedOf b (taken.Parts address register v check) .outcome) ≡ judged (accessBars b (writes address) register v) (replyValue after (writes address) register v ∷ [])
+pub obeyed-said : (b : Board) (asked : Request)
+    → let write = writes (asked .address) in outcomeSaid (obeyedOf b asked .outcome) ≡ judged (accessBars b write (asked .register) (asked .value)) (replyValue (boardAfter b write (asked .register) (asked .value)) write (asked .register) (asked .value) ∷ [])
 unfolding obeyedOf
-obeyed-said b address register v check =
-    said (noRegister (writes address) register) (not (fits (writes address) register v)) (programs (writes address) register && lacksCycle b) _
+obeyed-said b asked =
+    let write = writes (asked .address) in
+    said (noRegister write (asked .register)) (not (fits write (asked .register) (asked .value))) (programs write (asked .register) && lacksCycle b) _

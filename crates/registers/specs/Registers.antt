@@ -1,7 +1,7 @@
 -- The register map of one board, and programming (01, Frames and registers; Refusal numbers 9, 10, 11).
 -- Assumes nothing.
 use Prim.Native.Nat.{ℕ, _+_}
-use mathlib.Core.Bool.{Bool, false, true, cond, not, _&&_, _||_}
+use mathlib.Core.Bool.{Bool, cond, not, _&&_, _||_}
 use mathlib.Core.List.{List, [], _∷_}
 use lib.Dec.{leb, ltb, eqb}
 use Rattle.refusal.specs.declared.Refusal.{Refusal}
@@ -11,8 +11,7 @@ use Rattle.settings.specs.Bytes.{byteOf, withByte, same, allowed}
 use Rattle.cells.specs.Cells.{noCells}
 use Rattle.board.specs.declared.Board.{Board}
 use Rattle.latches.specs.Latches.{latchesOf, register0}
-use Rattle.frame.specs.declared.Taken.{Taken}
-use Rattle.frame.specs.declared.Taken.the-variants as taken
+use Rattle.frame.specs.declared.Request.{Request}
 use Rattle.frame.specs.declared.Verdict.the-variants as verdict
 use Rattle.frame.specs.declared.Outcome.{Outcome}
 use Rattle.frame.specs.Frame.{writes}
@@ -112,28 +111,21 @@ gives v = record { verdict = verdict.Accepted; value = v }
 abbrev pub denies : Refusal → Outcome
 denies why = record { verdict = verdict.Refused why; value = 0 }
 
-abbrev pub refusedOf : Board → Refusal → Obeyed
-refusedOf b why = record { board = b; outcome = denies why }
-
--- a frame that was taken apart is an access; any other is refused as it stands
-unfoldable pub obeyedOf : Board → Taken → Obeyed
-obeyedOf b (taken.Parts address register v check) = accessOf b address register v
-obeyedOf b (taken.Refused why) = refusedOf b why
+-- a frame that was taken apart is an access
+unfoldable pub obeyedOf : Board → Request → Obeyed
+obeyedOf b asked = accessOf b (asked .address) (asked .register) (asked .value)
 
 -- ---- the same on the way: which way a frame goes, by the board as it is, and what each way gives
 
--- a write, one that programs, and one that stages; a frame that was refused is none
-abbrev pub asksWrite : Taken → Bool
-asksWrite (taken.Parts address register v check) = writes address
-asksWrite (taken.Refused why) = false
+-- a write, one that programs, and one that stages
+abbrev pub asksWrite : Request → Bool
+asksWrite asked = writes (asked .address)
 
-abbrev pub asksProgramming : Taken → Bool
-asksProgramming (taken.Parts address register v check) = programs (writes address) register && eqb v 0x41
-asksProgramming (taken.Refused why) = false
+abbrev pub asksProgramming : Request → Bool
+asksProgramming asked = programs (writes (asked .address)) (asked .register) && eqb (asked .value) 0x41
 
-abbrev pub asksStaging : Taken → Bool
-asksStaging (taken.Parts address register v check) = writes address && allowed register v
-asksStaging (taken.Refused why) = false
+abbrev pub asksStaging : Request → Bool
+asksStaging asked = writes (asked .address) && allowed (asked .register) (asked .value)
 
 -- programming would spend a cycle, and has one to spend
 unfoldable pub spendsCycle : Board → Bool
@@ -146,41 +138,37 @@ barOf writes register = cond (noRegister writes register) NoRegister BadValue
 abbrev pub readOf : Board → ℕ → Outcome
 readOf b register = cond (known register) (gives (readValue b register)) (denies NoRegister)
 
-unfoldable pub toldOf : Board → Taken → Outcome
-toldOf b (taken.Parts address register v check) =
-    cond (writes address || not (eqb v 0)) (denies (barOf (writes address) register)) (readOf b register)
-toldOf b (taken.Refused why) = denies why
+unfoldable pub toldOf : Board → Request → Outcome
+toldOf b asked =
+    let write = writes (asked .address) in
+    cond (write || not (eqb (asked .value) 0)) (denies (barOf write (asked .register))) (readOf b (asked .register))
 
-abbrev pub toldBy : Board → Taken → Obeyed
-toldBy b t = record { board = b; outcome = toldOf b t }
+abbrev pub toldBy : Board → Request → Obeyed
+toldBy b asked = record { board = b; outcome = toldOf b asked }
 
 -- a write that stages gives the byte back
-unfoldable pub stagedBy : Board → Taken → Obeyed
-stagedBy b (taken.Parts address register v check) = record { board = staging b register v; outcome = gives v }
-stagedBy b (taken.Refused why) = refusedOf b why
+unfoldable pub stagedBy : Board → Request → Obeyed
+stagedBy b asked = record { board = staging b (asked .register) (asked .value); outcome = gives (asked .value) }
 
 -- programming that spends gives the cycles then spent; a count with none left, which is never asked, stays, so that it fits its byte
 abbrev pub cyclesAfter : ℕ → ℕ
 cyclesAfter cycles = cond (ltb cycles 3) (cycles + 1) cycles
 
-unfoldable pub spentBy : Board → Taken → Obeyed
-spentBy b (taken.Parts address register v check) =
-    record { board = spentTo (cyclesAfter (b .cycles)) b; outcome = gives (cyclesAfter (b .cycles)) }
-spentBy b (taken.Refused why) = refusedOf b why
+unfoldable pub spentBy : Board → Obeyed
+spentBy b = record { board = spentTo (cyclesAfter (b .cycles)) b; outcome = gives (cyclesAfter (b .cycles)) }
 
 -- programming that does not spend leaves the board: the cycles for equal settings, else refusal 11
-unfoldable pub keptOf : Board → Taken → Outcome
-keptOf b (taken.Parts address register v check) = cond (same (b .staged) (b .working)) (gives (b .cycles)) (denies NoCycle)
-keptOf b (taken.Refused why) = denies why
+unfoldable pub keptOf : Board → Outcome
+keptOf b = cond (same (b .staged) (b .working)) (gives (b .cycles)) (denies NoCycle)
 
-abbrev pub keptBy : Board → Taken → Obeyed
-keptBy b t = record { board = b; outcome = keptOf b t }
+abbrev pub keptBy : Board → Obeyed
+keptBy b = record { board = b; outcome = keptOf b }
 
-abbrev pub programmedBy : Board → Taken → Obeyed
-programmedBy b t = cond (spendsCycle b) (spentBy b t) (keptBy b t)
+abbrev pub programmedBy : Board → Obeyed
+programmedBy b = cond (spendsCycle b) (spentBy b) (keptBy b)
 
-abbrev pub setBy : Board → Taken → Obeyed
-setBy b t = cond (asksStaging t) (stagedBy b t) (toldBy b t)
+abbrev pub setBy : Board → Request → Obeyed
+setBy b asked = cond (asksStaging asked) (stagedBy b asked) (toldBy b asked)
 
-abbrev pub writtenBy : Board → Taken → Obeyed
-writtenBy b t = cond (asksProgramming t) (programmedBy b t) (setBy b t)
+abbrev pub writtenBy : Board → Request → Obeyed
+writtenBy b asked = cond (asksProgramming asked) (programmedBy b) (setBy b asked)

@@ -5,7 +5,7 @@ ghost use Rattle.registers.specs.Registers.{gives, denies, noRegister, a
 use board::Board;
 use board::Currents;
 use frame::Outcome;
-use frame::Taken;
+use frame::Request;
 use frame::Verdict;
 use refusal::Refusal;
 use settings::Settings;
@@ -56,50 +56,23 @@ const KEY: u8 = 0x41;
 
 // ---- which way a frame goes: a caller asks before it copies the record
 
-pub fn asks_write(taken: Taken) -> bool
-    ensures { λ r. ⌜ r ≡ asksWrite taken ⌝ }
+pub fn asks_write(asked: Request) -> bool
+    ensures { λ r. ⌜ r ≡ asksWrite asked ⌝ }
 {
-    let Taken::Parts {
-        address,
-        register: _,
-        value: _,
-        check: _,
-    } = taken
-    else {
-        return false;
-    };
-    is_write(address)
+    is_write(asked.address)
 }
 
-pub fn asks_programming(taken: Taken) -> bool
-    ensures { λ r. ⌜ r ≡ asksProgramming taken ⌝ }
+pub fn asks_programming(asked: Request) -> bool
+    ensures { λ r. ⌜ r ≡ asksProgramming asked ⌝ }
 {
-    let Taken::Parts {
-        address,
-        register,
-        value,
-        check: _,
-    } = taken
-    else {
-        return false;
-    };
-    is_write(address) & (register == 11) & (value == KEY)
+    is_write(asked.address) & (asked.register == 11) & (asked.value == KEY)
 }
 
 // Of a write that does not program: whether it stages.
-pub fn asks_staging(taken: Taken) -> bool
-    ensures { λ r. ⌜ r ≡ asksStaging taken ⌝ }
+pub fn asks_staging(asked: Request) -> bool
+    ensures { λ r. ⌜ r ≡ asksStaging asked ⌝ }
 {
-    let Taken::Parts {
-        address,
-        register,
-        value,
-        check: _,
-    } = taken
-    else {
-        return false;
-    };
-    is_write(address) & Settings::allows(register, value)
+    is_write(asked.address) & Settings::allows(asked.register, asked.value)
 }
 
 // Programming equal settings spends nothing.
@@ -110,7 +83,7 @@ pub fn spends_cycle(b: Board) -> bool
     !equal & (b.cycles < 3)
 }
 
-// ---- what each way gives
+// ---- what each way gives. Every way is handed the request; the two that program need nothing of it
 
 // Why a write that does neither is refused, or a read that carries a value.
 fn bar_of(writes: bool, register: u8) -> Refusal
@@ -136,47 +109,26 @@ fn read(b: Board, register: u8) -> Outcome
 }
 
 // A read, or a write that is refused: the board stays.
-pub fn tell(b: Board, taken: Taken) -> Outcome
-    ensures { λ r. ⌜ r ≡ toldOf b taken ⌝ }
+pub fn tell(b: Board, asked: Request) -> Outcome
+    ensures { λ r. ⌜ r ≡ toldOf b asked ⌝ }
 {
-    let Taken::Parts {
-        address,
-        register,
-        value,
-        check: _,
-    } = taken
-    else {
-        return refused(frame::why(taken));
-    };
-    let writes = is_write(address);
-    if writes | (value != 0) {
-        return refused(bar_of(writes, register));
+    let writes = is_write(asked.address);
+    if writes | (asked.value != 0) {
+        return refused(bar_of(writes, asked.register));
     }
-    read(b, register)
+    read(b, asked.register)
 }
 
 // A write that stages.
-pub fn stage(b: Board, taken: Taken) -> Obeyed
-    ensures { λ r. ⌜ r ≡ stagedBy b taken ⌝ }
+pub fn stage(b: Board, asked: Request) -> Obeyed
+    ensures { λ r. ⌜ r ≡ stagedBy b asked ⌝ }
 {
-    let Taken::Parts {
-        address: _,
-        register,
-        value,
-        check: _,
-    } = taken
-    else {
-        return Obeyed {
-            board: b,
-            outcome: refused(frame::why(taken)),
-        };
-    };
-    let staged = b.staged.with_byte(register, value);
+    let staged = b.staged.with_byte(asked.register, asked.value);
     let mut next = b;
     next.staged = staged;
     Obeyed {
         board: next,
-        outcome: given(value),
+        outcome: given(asked.value),
     }
 }
 
@@ -187,15 +139,9 @@ fn cycles_after(cycles: u8) -> u8
 }
 
 // Programming that spends a cycle. Every run starts over, since the levels and delays may be others now.
-pub fn spend(b: Board, taken: Taken) -> Obeyed
-    ensures { λ r. ⌜ r ≡ spentBy b taken ⌝ }
+pub fn spend(b: Board, _asked: Request) -> Obeyed
+    ensures { λ r. ⌜ r ≡ spentBy b ⌝ }
 {
-    let Taken::Parts { .. } = taken else {
-        return Obeyed {
-            board: b,
-            outcome: refused(frame::why(taken)),
-        };
-    };
     let cycles = cycles_after(b.cycles);
     let cells = cells::fresh_cells();
     let currents = Currents { ocd: 0, scd: 0 };
@@ -212,12 +158,9 @@ pub fn spend(b: Board, taken: Taken) -> Obeyed
 }
 
 // Programming that spends none: the board stays. Equal settings are never refused.
-pub fn keep(b: Board, taken: Taken) -> Outcome
-    ensures { λ r. ⌜ r ≡ keptOf b taken ⌝ }
+pub fn keep(b: Board, _asked: Request) -> Outcome
+    ensures { λ r. ⌜ r ≡ keptOf b ⌝ }
 {
-    let Taken::Parts { .. } = taken else {
-        return refused(frame::why(taken));
-    };
     let cycles = b.cycles;
     let equal = b.staged.same(b.working);
     if equal {

@@ -21,6 +21,8 @@ use Rattle.board.proofs.Stepped as Stepped
 use Rattle.board.proofs.Stepped.Laws as Stepped′
 use Rattle.frame.proofs.Taken as Taken
 use Rattle.frame.proofs.Taken.Laws as Taken′
+use Rattle.frame.proofs.Request as Request
+use Rattle.frame.proofs.Request.Laws as Request′
 use Rattle.frame.proofs.Outcome as Outcome
 use Rattle.frame.proofs.Outcome.Laws as Outcome′
 use Rattle.frame.proofs.Reply as Reply
@@ -52,6 +54,9 @@ module _ {M : Type 1} (𝓤 : URA M) (H : Heap 𝓤) (A : Atoms 𝓤) (W : Given
 
   abbrev pub taken : PlainType 𝓤 H A Taken.the-row
   taken = enumeration 𝓤 H A W Taken.the-type Taken′.the-laws Taken′.the-plain Taken′.the-copy tt
+
+  abbrev pub request : PlainType 𝓤 H A Request.the-row
+  request = struct 𝓤 H A W Request.the-type Request′.the-laws Request′.the-plain Request′.the-copy
 
   abbrev pub outcome : PlainType 𝓤 H A Outcome.the-row
   outcome = struct 𝓤 H A W Outcome.the-type Outcome′.the-laws Outcome′.the-plain Outcome′.the-copy

@@ -7,20 +7,20 @@ use mir.Syntax.{Name}
 use Rattle.walks.proofs.TwoWays.{Ways}
 use Rattle.board.specs.declared.Board.{Board}
 use Rattle.board.proofs.Board as Board′
-use Rattle.frame.specs.declared.Taken.{Taken}
-use Rattle.frame.proofs.Taken as Taken′
+use Rattle.frame.specs.declared.Request.{Request}
+use Rattle.frame.proofs.Request as Request′
 use Rattle.frame.proofs.Outcome as Outcome′
 use Rattle.registers.specs.declared.Obeyed.{Obeyed}
 
 -- what each of two functions makes of the board and the frame, and what the whole makes of them
 abbrev pub Access : Type 0
-Access = Board → Taken → Obeyed
+Access = Board → Request → Obeyed
 
 abbrev pub ways : Name → Name → Access → Access → Access → Ways
 ways f h by-f by-h whole =
     record {
       T = Board′.the-type;
-      X = Taken′.the-row;
+      X = Request′.the-row;
       O = Outcome′.the-row;
       f = f;
       h = h;

@@ -18,15 +18,17 @@ use Rattle.refusal.specs.Said.{first, accepts, refuses}
 use Rattle.board.specs.declared.Board.{Board}
 use Rattle.board.specs.declared.Readings.{Readings}
 use Rattle.board.specs.Sample.{fresh, badBoard, readingBars, boardNext, sampleOf}
+use Rattle.frame.specs.declared.Taken.{Taken}
+use Rattle.frame.specs.declared.Taken.the-variants as taken
 use Rattle.frame.specs.declared.Reply.{Reply}
 use Rattle.frame.specs.declared.Reply.the-variants.{Refused}
-use Rattle.frame.specs.Frame.{byte, boardOf, writes, takenApart}
+use Rattle.frame.specs.Frame.{byte, boardOf, writes, takenApart, requestOf}
 use Rattle.frame.specs.Check.{checkOf, checkAfter}
 use Rattle.frame.specs.Reply.{replyBytes, outcomeSaying, replySaying, replyBy, replyOf, putOf}
 use Rattle.registers.specs.Registers.{accessBars, replyValue, obeyedOf}
 use Rattle.stack.specs.Row.{badCount, goodRow, noBoard, placeOf, boardAt}
 use Rattle.stack.specs.Sample.{noRowSample, sampleAnswerAt, sampleRowAt, sampleAnswer, sampleRow}
-use Rattle.stack.specs.Frame.{framePlace, frameBoard, boardFramed, obeyOutcomeAt, obeyRowAt, noRowReply, frameAnswerIn, frameRowIn, frameBufferIn, frameAnswer, frameRow, frameBuffer}
+use Rattle.stack.specs.Frame.{framePlace, frameBoard, boardFramed, obeyOutcomeAt, obeyRowAt, noRowReply, takenAnswer, takenRow, takenBuffer, frameAnswerIn, frameRowIn, frameBufferIn, frameAnswer, frameRow, frameBuffer}
 use Rattle.stack.proofs.Counts.{within}
 
 -- a record that is new only where the act is accepted
@@ -103,37 +105,94 @@ put-refused buffer why = split (ltb (length buffer) 4) (λ e. rw e) (λ e. rw e)
 abbrev Framed : List Board → List ℕ → List ℕ → Reply → List Board → List ℕ → Type 0
 Framed row bytes buffer answer after put = (answer ≡ frameAnswer row bytes buffer) × ((after ≡ frameRow row bytes buffer) × (put ≡ frameBuffer row bytes buffer))
 
+-- by what the frame was taken apart into
+module _ (row : List Board) (bytes buffer : List ℕ) where
+  said-by : (t : Taken) → takenApart bytes (length buffer) ≡ t → Framed row bytes buffer (takenAnswer row t) (takenRow row t) (takenBuffer row buffer t)
+      → Framed row bytes buffer (frameAnswerIn row bytes buffer) (frameRowIn row bytes buffer) (frameBufferIn row bytes buffer)
+  unfolding frameAnswerIn frameRowIn frameBufferIn
+  said-by t e w = (ap (takenAnswer row) e ∙ w .0, (ap (takenRow row) e ∙ w .1 .0, ap (takenBuffer row buffer) e ∙ w .1 .1))
+
+-- the parts of a frame that none of 6, 7 and 8 refuses
+abbrev partsOf : List ℕ → Taken
+partsOf bytes = taken.Parts (byte bytes 0) (byte bytes 1) (byte bytes 2) (byte bytes 3)
+
+module _ (bytes : List ℕ) (room : ℕ) where
+  abbrev right : Bool
+  right = eqb (byte bytes 3) (checkOf (byte bytes 0 ∷ byte bytes 1 ∷ byte bytes 2 ∷ []))
+
+  apart-6 : eqb (length bytes) 4 ≡ false → takenApart bytes room ≡ taken.Refused (numbered 6)
+  unfolding takenApart
+  apart-6 e6 = rw e6
+
+  apart-7 : eqb (length bytes) 4 ≡ true → ltb room 4 ≡ true → takenApart bytes room ≡ taken.Refused (numbered 7)
+  unfolding takenApart
+  apart-7 e6 e7 = rw (e6, e7)
+
+  apart-8 : eqb (length bytes) 4 ≡ true → ltb room 4 ≡ false → right ≡ false → takenApart bytes room ≡ taken.Refused (numbered 8)
+  unfolding takenApart
+  apart-8 e6 e7 e8 = rw (e6, e7, e8)
+
+  apart-none : eqb (length bytes) 4 ≡ true → ltb room 4 ≡ false → right ≡ true → takenApart bytes room ≡ partsOf bytes
+  unfolding takenApart
+  apart-none e6 e7 e8 = rw (e6, e7, e8)
+
+-- a frame to a board of a good row
+module _ (row : List Board) (bytes buffer : List ℕ) (good : goodRow row ≡ true) (e6 : eqb (length bytes) 4 ≡ true) (e7 : ltb (length buffer) 4 ≡ false) (e8 : right bytes (length buffer) ≡ true) where
+  abbrev barred : ℕ
+  barred = first (accessBars (frameBoard row bytes) (writes (byte bytes 0)) (byte bytes 1) (byte bytes 2))
+
+  abbrev told : ℕ
+  told = replyValue (boardFramed row bytes) (writes (byte bytes 0)) (byte bytes 1) (byte bytes 2)
+
+  abbrev reply : Reply
+  reply = judgedReply barred (byte bytes 0) (byte bytes 1) told
+
+  -- which is there
+  module _ (e : ltb (framePlace bytes) (length row) ≡ true) where
+    there : noBoard row (boardOf (byte bytes 0)) ≡ false
+    there = has-board row good (boardOf (byte bytes 0)) (ltb-true (framePlace bytes) (length row) e)
+
+    obeyed : obeyOutcomeAt row (requestOf (partsOf bytes)) ≡ outcomeSaying (cond (eqb barred 0) (accepts (told ∷ [])) (refuses barred))
+    unfolding obeyOutcomeAt obeyedOf
+    obeyed = rw e
+
+    replied : takenAnswer row (partsOf bytes) ≡ reply
+    unfolding replyOf
+    replied = ap (replyOf (partsOf bytes)) obeyed ∙ reply-judged barred (byte bytes 0) (byte bytes 1) told (byte bytes 2) (byte bytes 3) e8
+
+    board-framed : Framed row bytes buffer (takenAnswer row (partsOf bytes)) (takenRow row (partsOf bytes)) (takenBuffer row buffer (partsOf bytes))
+    unfolding obeyRowAt obeyedOf frameAnswer frameRow frameBuffer
+    board-framed = (
+      replied ∙ rw (e6, e7, e8, good, there),
+      (
+        rw (e6, e7, e8, good, e, there) (set-kept (eqb barred 0) row (framePlace bytes) (boardFramed row bytes)),
+        ap (putOf buffer) replied ∙ rw (e6, e7, e8, good, there) (put-judged barred (byte bytes 0) (byte bytes 1) told buffer e7),
+      ),
+    )
+
+  -- which is not
+  none-framed : ltb (framePlace bytes) (length row) ≡ false → Framed row bytes buffer (takenAnswer row (partsOf bytes)) (takenRow row (partsOf bytes)) (takenBuffer row buffer (partsOf bytes))
+  unfolding obeyOutcomeAt obeyRowAt replyOf frameAnswer frameRow frameBuffer
+  none-framed e =
+      let none = has-none row good (boardOf (byte bytes 0)) (ltb-false (framePlace bytes) (length row) e) in
+      (rw (e6, e7, e8, good, e, none), (rw (e6, e7, e8, good, e, none), rw (e6, e7, e8, good, e, none) (put-refused buffer (numbered 2))))
+
 -- a frame to a good row
 pub frame-good : (row : List Board) (bytes buffer : List ℕ) → goodRow row ≡ true → Framed row bytes buffer (frameAnswerIn row bytes buffer) (frameRowIn row bytes buffer) (frameBufferIn row bytes buffer)
-unfolding frameAnswerIn frameRowIn frameBufferIn takenApart obeyOutcomeAt obeyRowAt obeyedOf replyOf frameAnswer frameRow frameBuffer
+unfolding frameAnswer frameRow frameBuffer
 frame-good row bytes buffer good =
     let room = length buffer in
-    let check = checkOf (byte bytes 0 ∷ byte bytes 1 ∷ byte bytes 2 ∷ []) in
-    let place = framePlace bytes in
-    let n = first (accessBars (frameBoard row bytes) (writes (byte bytes 0)) (byte bytes 1) (byte bytes 2)) in
-    let v = replyValue (boardFramed row bytes) (writes (byte bytes 0)) (byte bytes 1) (byte bytes 2) in
     split (eqb (length bytes) 4)
     (λ e6.
     split (ltb room 4)
-    (λ e7. (rw (e6, e7, good), (rw (e6, e7, good), rw (e6, e7, good))))
+    (λ e7. said-by row bytes buffer (taken.Refused (numbered 7)) (apart-7 bytes room e6 e7) (rw (e6, e7, good), (rw (e6, e7, good), rw (e6, e7, good))))
     (λ e7.
-    split (eqb (byte bytes 3) check)
+    split (right bytes room)
     (λ e8.
-    split (ltb place (length row))
-    (λ e.
-    let replied = reply-judged n (byte bytes 0) (byte bytes 1) v (byte bytes 2) (byte bytes 3) e8 in
-    let there = has-board row good (boardOf (byte bytes 0)) (ltb-true place (length row) e) in (
-      rw (e6, e7, e8, good, e, there) replied,
-      (
-        rw (e6, e7, e8, good, e, there) (set-kept (eqb n 0) row place (boardFramed row bytes)),
-        rw (e6, e7, e8, good, e, there) (ap (putOf buffer) replied ∙ put-judged n (byte bytes 0) (byte bytes 1) v buffer e7),
-      ),
-    ))
-    (λ e.
-    let none = has-none row good (boardOf (byte bytes 0)) (ltb-false place (length row) e) in
-    (rw (e6, e7, e8, good, e, none), (rw (e6, e7, e8, good, e, none), rw (e6, e7, e8, good, e, none) (put-refused buffer (numbered 2))))))
-    (λ e8. (rw (e6, e7, e8, good), (rw (e6, e7, e8, good), rw (e6, e7, e8, good))))))
-    (λ e6. (rw (e6, good), (rw (e6, good), rw (e6, good))))
+    said-by row bytes buffer (partsOf bytes) (apart-none bytes room e6 e7 e8)
+    (split (ltb (framePlace bytes) (length row)) (λ e. board-framed row bytes buffer good e6 e7 e8 e) (λ e. none-framed row bytes buffer good e6 e7 e8 e)))
+    (λ e8. said-by row bytes buffer (taken.Refused (numbered 8)) (apart-8 bytes room e6 e7 e8) (rw (e6, e7, e8, good), (rw (e6, e7, e8, good), rw (e6, e7, e8, good))))))
+    (λ e6. said-by row bytes buffer (taken.Refused (numbered 6)) (apart-6 bytes room e6) (rw (e6, good), (rw (e6, good), rw (e6, good))))
 
 -- a frame to a bad row
 pub frame-bad : (row : List Board) (bytes buffer : List ℕ) → goodRow row ≡ false → Framed row bytes buffer noRowReply row buffer

@@ -9,11 +9,11 @@ use Rattle.refusal.specs.Refusals.{numbered}
 use Rattle.refusal.specs.Said.{Bar, bar, judged, kept}
 use Rattle.board.specs.declared.Board.{Board}
 use Rattle.frame.specs.declared.Taken.{Taken}
-use Rattle.frame.specs.declared.Taken.the-variants as taken
+use Rattle.frame.specs.declared.Request.{Request}
 use Rattle.frame.specs.declared.Reply.{Reply}
 use Rattle.frame.specs.declared.Reply.the-variants.{Refused}
 use Rattle.frame.specs.declared.Outcome.{Outcome}
-use Rattle.frame.specs.Frame.{byte, boardOf, writes, frameBars, takenApart, isRefused, whyOf}
+use Rattle.frame.specs.Frame.{byte, boardOf, writes, frameBars, takenApart, isRefused, requestOf, whyOf}
 use Rattle.frame.specs.Reply.{replyBytes, replySaying, replyOf, putOf}
 use Rattle.registers.specs.Registers.{accessBars, boardAfter, replyValue, denies, obeyedOf}
 use Rattle.stack.specs.Row.{goodRow, noBoard, placeOf, boardAt}
@@ -59,25 +59,28 @@ noOutcome = denies (numbered 2)
 abbrev pub noRowReply : Reply
 noRowReply = Refused (numbered 1)
 
-abbrev pub takenPlace : Taken → ℕ
-takenPlace (taken.Parts address register v check) = placeOf (boardOf address)
-takenPlace (taken.Refused why) = 0
+abbrev pub askedPlace : Request → ℕ
+askedPlace asked = placeOf (boardOf (asked .address))
 
-unfoldable pub obeyOutcomeAt : List Board → Taken → Outcome
-obeyOutcomeAt row t = cond (ltb (takenPlace t) (length row)) (obeyedOf (boardAt row (takenPlace t)) t .outcome) noOutcome
+unfoldable pub obeyOutcomeAt : List Board → Request → Outcome
+obeyOutcomeAt row asked =
+    let at = askedPlace asked in
+    cond (ltb at (length row)) (obeyedOf (boardAt row at) asked .outcome) noOutcome
 
-unfoldable pub obeyRowAt : List Board → Taken → List Board
-obeyRowAt row t = cond (ltb (takenPlace t) (length row)) (set row (takenPlace t) (obeyedOf (boardAt row (takenPlace t)) t .board)) row
+unfoldable pub obeyRowAt : List Board → Request → List Board
+obeyRowAt row asked =
+    let at = askedPlace asked in
+    cond (ltb at (length row)) (set row at (obeyedOf (boardAt row at) asked .board)) row
 
 -- a frame that was refused as it stands is answered so; any other goes to its board
 abbrev pub takenAnswer : List Board → Taken → Reply
-takenAnswer row t = cond (isRefused t) (Refused (whyOf t)) (replyOf t (obeyOutcomeAt row t))
+takenAnswer row t = cond (isRefused t) (Refused (whyOf t)) (replyOf t (obeyOutcomeAt row (requestOf t)))
 
 abbrev pub takenRow : List Board → Taken → List Board
-takenRow row t = cond (isRefused t) row (obeyRowAt row t)
+takenRow row t = cond (isRefused t) row (obeyRowAt row (requestOf t))
 
 abbrev pub takenBuffer : List Board → List ℕ → Taken → List ℕ
-takenBuffer row buffer t = cond (isRefused t) buffer (putOf buffer (replyOf t (obeyOutcomeAt row t)))
+takenBuffer row buffer t = cond (isRefused t) buffer (putOf buffer (replyOf t (obeyOutcomeAt row (requestOf t))))
 
 unfoldable pub frameAnswerIn : List Board → List ℕ → List ℕ → Reply
 frameAnswerIn row bytes buffer = takenAnswer row (takenApart bytes (length buffer))

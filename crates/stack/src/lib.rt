@@ -9,7 +9,7 @@ ghost use Rattle.registers.specs.Registers.{obeyedOf, toldOf, keptOf, spentBy, 
 ghost use Rattle.stack.specs.Row.{badCount, goodRow, placeOf};
 ghost use Rattle.stack.specs.Open.{goodCounts, freshRow, noStack, openOf};
 ghost use Rattle.stack.specs.Sample.{sampleAnswerAt, sampleRowAt, sampleAnswer, sampleRow, noSample, noRowSample};
-ghost use Rattle.stack.specs.Frame.{takenPlace, obeyOutcomeAt, obeyRowAt, frameAnswerIn, frameRowIn, frameBufferIn, frameAnswer, frameRow, frameBuffer, noOutcome, noRowReply};
+ghost use Rattle.stack.specs.Frame.{askedPlace, obeyOutcomeAt, obeyRowAt, frameAnswerIn, frameRowIn, frameBufferIn, frameAnswer, frameRow, frameBuffer, noOutcome, noRowReply};
 ghost use Rattle.marks.specs.Marks.{marked};
 ghost use Rattle.reading.specs.Reading.{place};
 ghost use Rattle.stack.specs.Read.{seenRow, placeAt, firstFrom, lookOf, viewOf, readingOf, noRowView};
@@ -18,7 +18,7 @@ use board::Board;
 use board::Readings;
 use frame::Outcome;
 use frame::Reply;
-use frame::Taken;
+use frame::Request;
 use frame::Verdict;
 use reading::Place;
 use reading::Seen;
@@ -216,86 +216,76 @@ pub fn sample_stack(row: &mut [Board], board: u32, x: Readings, mv: &[u32]) -> A
 // ---- a frame
 
 // The ways of a frame on one board: two that leave the record, and two that store.
-fn tell_board(b: &mut Board, taken: Taken) -> Outcome
-    ensures { λ r. ⌜ (r ≡ toldOf (now (b .entry)) taken) × (now (b .exit) ≡ now (b .entry)) ⌝ }
+fn tell_board(b: &mut Board, asked: Request) -> Outcome
+    ensures { λ r. ⌜ (r ≡ toldOf (now (b .entry)) asked) × (now (b .exit) ≡ now (b .entry)) ⌝ }
 {
-    registers::tell(*b, taken)
+    registers::tell(*b, asked)
 }
 
-fn keep_board(b: &mut Board, taken: Taken) -> Outcome
-    ensures { λ r. ⌜ (r ≡ keptOf (now (b .entry)) taken) × (now (b .exit) ≡ now (b .entry)) ⌝ }
+fn keep_board(b: &mut Board, asked: Request) -> Outcome
+    ensures { λ r. ⌜ (r ≡ keptOf (now (b .entry))) × (now (b .exit) ≡ now (b .entry)) ⌝ }
 {
-    registers::keep(*b, taken)
+    registers::keep(*b, asked)
 }
 
-fn spend_board(b: &mut Board, taken: Taken) -> Outcome
-    ensures { λ r. ⌜ (r ≡ spentBy (now (b .entry)) taken .outcome) × (now (b .exit) ≡ spentBy (now (b .entry)) taken .board) ⌝ }
+fn spend_board(b: &mut Board, asked: Request) -> Outcome
+    ensures { λ r. ⌜ (r ≡ spentBy (now (b .entry)) .outcome) × (now (b .exit) ≡ spentBy (now (b .entry)) .board) ⌝ }
 {
-    let s = registers::spend(*b, taken);
+    let s = registers::spend(*b, asked);
     *b = s.board;
     s.outcome
 }
 
-fn stage_board(b: &mut Board, taken: Taken) -> Outcome
-    ensures { λ r. ⌜ (r ≡ stagedBy (now (b .entry)) taken .outcome) × (now (b .exit) ≡ stagedBy (now (b .entry)) taken .board) ⌝ }
+fn stage_board(b: &mut Board, asked: Request) -> Outcome
+    ensures { λ r. ⌜ (r ≡ stagedBy (now (b .entry)) asked .outcome) × (now (b .exit) ≡ stagedBy (now (b .entry)) asked .board) ⌝ }
 {
-    let s = registers::stage(*b, taken);
+    let s = registers::stage(*b, asked);
     *b = s.board;
     s.outcome
 }
 
 // Which of them it goes: the board is asked only whether programming would spend a cycle.
-fn program_board(b: &mut Board, taken: Taken) -> Outcome
-    ensures { λ r. ⌜ (r ≡ programmedBy (now (b .entry)) taken .outcome) × (now (b .exit) ≡ programmedBy (now (b .entry)) taken .board) ⌝ }
+fn program_board(b: &mut Board, asked: Request) -> Outcome
+    ensures { λ r. ⌜ (r ≡ programmedBy (now (b .entry)) .outcome) × (now (b .exit) ≡ programmedBy (now (b .entry)) .board) ⌝ }
 {
     if registers::spends_cycle(*b) {
-        return spend_board(b, taken);
+        return spend_board(b, asked);
     }
-    keep_board(b, taken)
+    keep_board(b, asked)
 }
 
-fn set_board(b: &mut Board, taken: Taken) -> Outcome
-    ensures { λ r. ⌜ (r ≡ setBy (now (b .entry)) taken .outcome) × (now (b .exit) ≡ setBy (now (b .entry)) taken .board) ⌝ }
+fn set_board(b: &mut Board, asked: Request) -> Outcome
+    ensures { λ r. ⌜ (r ≡ setBy (now (b .entry)) asked .outcome) × (now (b .exit) ≡ setBy (now (b .entry)) asked .board) ⌝ }
 {
-    if registers::asks_staging(taken) {
-        return stage_board(b, taken);
+    if registers::asks_staging(asked) {
+        return stage_board(b, asked);
     }
-    tell_board(b, taken)
+    tell_board(b, asked)
 }
 
-fn write_board(b: &mut Board, taken: Taken) -> Outcome
-    ensures { λ r. ⌜ (r ≡ writtenBy (now (b .entry)) taken .outcome) × (now (b .exit) ≡ writtenBy (now (b .entry)) taken .board) ⌝ }
+fn write_board(b: &mut Board, asked: Request) -> Outcome
+    ensures { λ r. ⌜ (r ≡ writtenBy (now (b .entry)) asked .outcome) × (now (b .exit) ≡ writtenBy (now (b .entry)) asked .board) ⌝ }
 {
-    if registers::asks_programming(taken) {
-        return program_board(b, taken);
+    if registers::asks_programming(asked) {
+        return program_board(b, asked);
     }
-    set_board(b, taken)
+    set_board(b, asked)
 }
 
 // A frame that was sent to one board: it stores only where it changes something.
-fn obey_board(b: &mut Board, taken: Taken) -> Outcome
-    ensures { λ r. ⌜ (r ≡ obeyedOf (now (b .entry)) taken .outcome) × (now (b .exit) ≡ obeyedOf (now (b .entry)) taken .board) ⌝ }
+fn obey_board(b: &mut Board, asked: Request) -> Outcome
+    ensures { λ r. ⌜ (r ≡ obeyedOf (now (b .entry)) asked .outcome) × (now (b .exit) ≡ obeyedOf (now (b .entry)) asked .board) ⌝ }
 {
-    if registers::asks_write(taken) {
-        return write_board(b, taken);
+    if registers::asks_write(asked) {
+        return write_board(b, asked);
     }
-    tell_board(b, taken)
+    tell_board(b, asked)
 }
 
-// Where a frame's board is. A frame that was refused as it stands is never sent to one.
-fn taken_place(taken: Taken) -> usize
-    ensures { λ r. ⌜ r ≡ takenPlace taken ⌝ }
+fn asked_place(asked: Request) -> usize
+    ensures { λ r. ⌜ r ≡ askedPlace asked ⌝ }
 {
-    let Taken::Parts {
-        address,
-        register: _,
-        value: _,
-        check: _,
-    } = taken
-    else {
-        return 0;
-    };
-    place_of((address / 2) as u32)
+    place_of((asked.address / 2) as u32)
 }
 
 fn no_outcome() -> Outcome
@@ -314,12 +304,12 @@ fn no_row_reply() -> Reply
     Reply::Refused(Refusal::BadRow)
 }
 
-fn obey_at(row: &mut [Board], taken: Taken) -> Outcome
-    ensures { λ r. ⌜ (r ≡ obeyOutcomeAt (now (row .entry)) taken) × (now (row .exit) ≡ obeyRowAt (now (row .entry)) taken) ⌝ }
+fn obey_at(row: &mut [Board], asked: Request) -> Outcome
+    ensures { λ r. ⌜ (r ≡ obeyOutcomeAt (now (row .entry)) asked) × (now (row .exit) ≡ obeyRowAt (now (row .entry)) asked) ⌝ }
 {
-    let at = taken_place(taken);
+    let at = asked_place(asked);
     if at < row.len() {
-        return obey_board(&mut row[at], taken);
+        return obey_board(&mut row[at], asked);
     }
     no_outcome()
 }
@@ -332,7 +322,8 @@ fn frame_in(row: &mut [Board], bytes: &[u8], reply: &mut [u8]) -> Reply
     if frame::refused(taken) {
         return frame::refusal(taken);
     }
-    let outcome = obey_at(row, taken);
+    let asked = frame::request_of(taken);
+    let outcome = obey_at(row, asked);
     frame::put(reply, taken, outcome)
 }
 

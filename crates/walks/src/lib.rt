@@ -38,8 +38,8 @@
 //                 f: r ≡ F row                  test: r ≡ is-enough a    h: r ≡ answer a     f2: r ≡ G row    h2: r ≡ answer-both a c    g: r ≡ A row
 // GuardedShared   fn g(row: &[T]) -> O { if good(row) { return f(row); } no() }
 //                 good as g of Every            f: r ≡ F row             no: r ≡ none        g: r ≡ A row
-// Framed          fn g(row: &mut [T], bytes: &[E], reply: &mut [G]) -> O { let d = f1(bytes, reply.len()); if done(d) { return told(d); } let y = f2(row, d); f3(reply, d, y) }
-//                 f1: r ≡ P bytes room          done: r ≡ is-done d      told: r ≡ tells d   f2 as g of LendAtPlain   f3: (r ≡ A3 reply d y) × (reply' ≡ C3 reply d y)
+// Framed          fn g(row: &mut [T], bytes: &[E], reply: &mut [G]) -> O { let d = f1(bytes, reply.len()); if done(d) { return told(d); } let z = part(d); let y = f2(row, z); f3(reply, d, y) }
+//                 f1: r ≡ P bytes room          done: r ≡ is-done d      told: r ≡ tells d   part: r ≡ part-of d   f2 as g of LendAtPlain   f3: (r ≡ A3 reply d y) × (reply' ≡ C3 reply d y)
 //                 g: (r ≡ A row bytes reply) × ((row' ≡ R row bytes reply) × (reply' ≡ C row bytes reply))
 // GuardedFramed   fn g(row: &mut [T], bytes: &[E], reply: &mut [G]) -> O { if good(row) { return f(row, bytes, reply); } no() }
 //                 good as g of Every            f as g of Framed         no: r ≡ none        g as f

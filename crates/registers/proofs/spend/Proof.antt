@@ -5,22 +5,6 @@ use borrow.Author.Needs.{needs}
 use Rattle.registers.proofs.spend.Statement.{statement}
 use Rattle.registers.proofs.spend.Tie as tie
 
-enum-told : tie.Need-enum-told
-enum-told c = search needs
-
-enum-told-2 : tie.Need-enum-told-2
-enum-told-2 c = search needs
-
-why-requires : tie.Need-why-requires
-why-requires c κs = search needs
-
-refused-requires : tie.Need-refused-requires
-refused-requires c κs = search needs
-
-returns : tie.Need-returns
-unfolding spentBy
-returns c = rw (c .refused .ensures, c .before .why .ensures, c .before .before .enum-told2 .given .1)
-
 cycles-after-requires : tie.Need-cycles-after-requires
 cycles-after-requires c κs = search needs
 
@@ -30,23 +14,9 @@ fresh-cells-requires c κs = search needs
 given-requires : tie.Need-given-requires
 given-requires c κs = search needs
 
-returns-2 : tie.Need-returns-2
+returns : tie.Need-returns
 unfolding spentBy
-returns-2 c =
-    let c2 = c .before .before in
-    let c3 = c2 .before in
-    rw (c .given .ensures, c3 .before .enum-told .given .1, c3 .cycles-after .ensures, c2 .fresh-cells .ensures)
+returns c = rw (c .given .ensures, c .before .before .before .cycles-after .ensures, c .before .before .fresh-cells .ensures)
 
 pub spend-spec : {M : Type 1} → statement M
-spend-spec =
-    tie.close
-    (tie.spec
-    enum-told
-    enum-told-2
-    why-requires
-    refused-requires
-    returns
-    cycles-after-requires
-    fresh-cells-requires
-    given-requires
-    returns-2)
+spend-spec = tie.close (tie.spec cycles-after-requires fresh-cells-requires given-requires returns)

@@ -29,7 +29,7 @@ knows 𝓤 H A W =
     record {
       says-so = λ b t. one-way (asksWrite t) (writtenBy b t) (toldBy b t) (obeyedOf b t) (obeyed-ways b t);
       says-not = λ b t. other-way (asksWrite t) (writtenBy b t) (toldBy b t) (obeyedOf b t) (obeyed-ways b t);
-      plain-X = known.taken 𝓤 H A W;
+      plain-X = known.request 𝓤 H A W;
       plain-O = known.outcome 𝓤 H A W;
     }
 

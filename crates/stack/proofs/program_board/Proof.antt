@@ -22,15 +22,15 @@ use Rattle.stack.proofs.program_board.Statement as stated
 use Rattle.stack.proofs.program_board.Code as code
 
 abbrev shape : Shape
-shape = record { ways = ways #spend-board #keep-board spentBy keptBy programmedBy; test = #spends-cycle; is-so = spendsCycle }
+shape = record { ways = ways #spend-board #keep-board (λ b asked. spentBy b) (λ b asked. keptBy b) (λ b asked. programmedBy b); test = #spends-cycle; is-so = spendsCycle }
 
 abbrev knows : {M : Type 1} (𝓤 : URA M) (H : Heap 𝓤) (A : Atoms 𝓤) (W : Given 𝓤 H A) → Knows 𝓤 H A shape
 knows 𝓤 H A W =
     record {
-      says-so = λ b t. one-way (spendsCycle b) (spentBy b t) (keptBy b t) (programmedBy b t) refl;
-      says-not = λ b t. other-way (spendsCycle b) (spentBy b t) (keptBy b t) (programmedBy b t) refl;
+      says-so = λ b t. one-way (spendsCycle b) (spentBy b) (keptBy b) (programmedBy b) refl;
+      says-not = λ b t. other-way (spendsCycle b) (spentBy b) (keptBy b) (programmedBy b) refl;
       plain-T = known.board 𝓤 H A W;
-      plain-X = known.taken 𝓤 H A W;
+      plain-X = known.request 𝓤 H A W;
       plain-O = known.outcome 𝓤 H A W;
     }
 

@@ -29,7 +29,7 @@ knows 𝓤 H A W =
     record {
       says-so = λ b t. one-way (asksStaging t) (stagedBy b t) (toldBy b t) (setBy b t) refl;
       says-not = λ b t. other-way (asksStaging t) (stagedBy b t) (toldBy b t) (setBy b t) refl;
-      plain-X = known.taken 𝓤 H A W;
+      plain-X = known.request 𝓤 H A W;
       plain-O = known.outcome 𝓤 H A W;
     }
 

@@ -22,14 +22,14 @@ use Rattle.stack.proofs.write_board.Statement as stated
 use Rattle.stack.proofs.write_board.Code as code
 
 abbrev shape : Shape
-shape = record { ways = ways #program-board #set-board programmedBy setBy writtenBy; test = #asks-programming; is-so = asksProgramming }
+shape = record { ways = ways #program-board #set-board (λ b asked. programmedBy b) setBy writtenBy; test = #asks-programming; is-so = asksProgramming }
 
 abbrev knows : {M : Type 1} (𝓤 : URA M) (H : Heap 𝓤) (A : Atoms 𝓤) (W : Given 𝓤 H A) → Knows 𝓤 H A shape
 knows 𝓤 H A W =
     record {
-      says-so = λ b t. one-way (asksProgramming t) (programmedBy b t) (setBy b t) (writtenBy b t) refl;
-      says-not = λ b t. other-way (asksProgramming t) (programmedBy b t) (setBy b t) (writtenBy b t) refl;
-      plain-X = known.taken 𝓤 H A W;
+      says-so = λ b t. one-way (asksProgramming t) (programmedBy b) (setBy b t) (writtenBy b t) refl;
+      says-not = λ b t. other-way (asksProgramming t) (programmedBy b) (setBy b t) (writtenBy b t) refl;
+      plain-X = known.request 𝓤 H A W;
       plain-O = known.outcome 𝓤 H A W;
     }
 
