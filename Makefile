@@ -1,26 +1,42 @@
-# The library for C and Rust: proved, compiled to an archive, and installed with its header and a pkg-config file.
-#     make                     target/staticlib/libadomvik.a
-#     make install PREFIX=DIR  DIR/lib/libadomvik.a, DIR/include/adomvik.h, DIR/lib/pkgconfig/adomvik.pc
+# The library for C, Rust and JavaScript: proved, compiled to an archive, and installed with its header.
+#     make                     the archive for this machine
+#     make install PREFIX=DIR  DIR/lib/libadomvik.a, DIR/include/adomvik.h, and a pkg-config file and a CMake package for them
+#     make install TARGET=thumbv7em-none-eabi PREFIX=DIR    the same for another processor (ports/targets has them all);
+#                              FLAGS='-O2 -mcpu=cortex-m7' are clang's words beside those of the target, and win
 #     make faces               the tests of the C and Rust faces
+#     make ports               the tests of every processor, on emulators
 PREFIX ?= /usr/local
 DESTDIR ?=
+TARGET ?= $(shell uname -m)-linux-gnu
+FLAGS ?=
 VERSION := 1.0.0
-ARCHIVE := target/staticlib/libadomvik.a
+INTO := $(DESTDIR)$(PREFIX)
+BUILT := target/ports/$(TARGET)
 
-.PHONY: all install uninstall faces
+.PHONY: all install uninstall faces ports
 
 # rt itself knows what has changed since it last proved a crate
 all:
-	rt staticlib adomvik
+	ports/build $(TARGET) $(FLAGS)
 
 install: all
-	install -d $(DESTDIR)$(PREFIX)/lib/pkgconfig $(DESTDIR)$(PREFIX)/include
-	install -m 644 $(ARCHIVE) $(DESTDIR)$(PREFIX)/lib/libadomvik.a
-	install -m 644 include/adomvik.h $(DESTDIR)$(PREFIX)/include/adomvik.h
-	sed -e 's|@PREFIX@|$(PREFIX)|' -e 's|@VERSION@|$(VERSION)|' include/adomvik.pc.in >$(DESTDIR)$(PREFIX)/lib/pkgconfig/adomvik.pc
+	install -d $(INTO)/lib/pkgconfig $(INTO)/lib/cmake/adomvik $(INTO)/include
+	install -m 644 $(BUILT)/libadomvik.a $(INTO)/lib/libadomvik.a
+	install -m 644 include/adomvik.h $(INTO)/include/adomvik.h
+	sed -e 's|@PREFIX@|$(PREFIX)|' -e 's|@VERSION@|$(VERSION)|' include/adomvik.pc.in >$(INTO)/lib/pkgconfig/adomvik.pc
+	install -m 644 include/adomvikConfig.cmake $(INTO)/lib/cmake/adomvik/adomvikConfig.cmake
+	sed -e 's|@VERSION@|$(VERSION)|' include/adomvikConfigVersion.cmake.in >$(INTO)/lib/cmake/adomvik/adomvikConfigVersion.cmake
+ifeq ($(TARGET),wasm32)
+	install -d $(INTO)/lib/adomvik
+	install -m 644 $(BUILT)/adomvik.wasm js/adomvik.mjs js/adomvik.d.ts js/package.json $(INTO)/lib/adomvik
+endif
 
 uninstall:
-	rm -f $(DESTDIR)$(PREFIX)/lib/libadomvik.a $(DESTDIR)$(PREFIX)/include/adomvik.h $(DESTDIR)$(PREFIX)/lib/pkgconfig/adomvik.pc
+	rm -f $(INTO)/lib/libadomvik.a $(INTO)/include/adomvik.h $(INTO)/lib/pkgconfig/adomvik.pc
+	rm -rf $(INTO)/lib/cmake/adomvik $(INTO)/lib/adomvik
 
 faces:
 	tests/faces 400
+
+ports:
+	tests/ports 120

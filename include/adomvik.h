@@ -112,7 +112,6 @@ typedef struct adomvik_reading {
     uint8_t cell;  /* the lowest flagged cell on it, or 0 */
 } adomvik_reading;
 
-ADOMVIK_ASSERT(sizeof(size_t) == 8, "the library is built for 64-bit lengths");
 ADOMVIK_ASSERT(sizeof(adomvik_board) == 104 && ADOMVIK_ALIGN(adomvik_board) == 4, "a board's record is 104 bytes, aligned to 4");
 ADOMVIK_ASSERT(offsetof(adomvik_board, flags) == 4 && offsetof(adomvik_board, working) == 6 && offsetof(adomvik_board, staged) == 11
         && offsetof(adomvik_board, currents) == 16 && offsetof(adomvik_board, cells) == 24, "a board's fields lie where the library has them");

@@ -1,0 +1,98 @@
+/* The acts of include/adomvik.h on a processor that rt does not compile for. The proved module has them as rt wrote it for
+ * x86-64: lengths of 64 bits, the readings as two words of 64 bits, and a result of 8 bits. This file gives them the header's
+ * own signatures by the target's calling convention; clang links the module in and inlines it. Nothing here is proved:
+ * tests/ports holds it on every target.
+ */
+#include "adomvik.h"
+
+uint8_t proved_open(adomvik_board *row, uint64_t boards, const uint32_t *counts, uint64_t count);
+uint8_t proved_sample(adomvik_board *row, uint64_t boards, uint32_t board, uint64_t first, uint64_t second, const uint32_t *cells, uint64_t count, adomvik_sampled *out);
+uint8_t proved_sample_board(adomvik_board *board, uint64_t first, uint64_t second, const uint32_t *cells, uint64_t count, adomvik_sampled *out);
+uint8_t proved_frame(adomvik_board *row, uint64_t boards, const uint8_t *frame, uint64_t length, uint8_t *reply, uint64_t room);
+uint8_t proved_read(const adomvik_board *row, uint64_t boards, adomvik_reading *out);
+
+/* Two fields of the readings that lie side by side, the lower one first. */
+static inline uint64_t word(uint32_t low, uint32_t high)
+{
+    return (uint64_t)high << 32 | low;
+}
+
+uint8_t adomvik_open(adomvik_board *row, size_t boards, const uint32_t *counts, size_t count)
+{
+    return proved_open(row, boards, counts, count);
+}
+
+uint8_t adomvik_sample(adomvik_board *row, size_t boards, uint32_t board, adomvik_readings x, const uint32_t *cells, size_t count, adomvik_sampled *out)
+{
+    return proved_sample(row, boards, board, word(x.elapsed, (uint32_t)x.shunt), word(x.thermistor, x.load), cells, count, out);
+}
+
+uint8_t adomvik_sample_board(adomvik_board *board, adomvik_readings x, const uint32_t *cells, size_t count, adomvik_sampled *out)
+{
+    return proved_sample_board(board, word(x.elapsed, (uint32_t)x.shunt), word(x.thermistor, x.load), cells, count, out);
+}
+
+uint8_t adomvik_frame(adomvik_board *row, size_t boards, const uint8_t *frame, size_t length, uint8_t *reply, size_t room)
+{
+    return proved_frame(row, boards, frame, length, reply, room);
+}
+
+uint8_t adomvik_read(const adomvik_board *row, size_t boards, adomvik_reading *out)
+{
+    return proved_read(row, boards, out);
+}
+
+/* ---- what the compiler may call for a copy or a fill, each target's under its own names, so that the archive calls nothing */
+
+#ifndef __wasm__ /* it has instructions for both */
+#define COPIES __attribute__((used, no_builtin)) static
+typedef uint32_t __attribute__((may_alias)) quad;
+
+/* By four bytes where both places and the length allow it: records and cells do. */
+static inline void copy(void *to, const void *from, size_t bytes)
+{
+    uint8_t *t = to;
+    const uint8_t *f = from;
+    if (((uintptr_t)t | (uintptr_t)f | bytes) % sizeof(quad) == 0)
+        for (size_t i = 0; i < bytes; i += sizeof(quad))
+            *(quad *)(t + i) = *(const quad *)(f + i);
+    else
+        for (size_t i = 0; i < bytes; i++)
+            t[i] = f[i];
+}
+
+static inline void fill(void *to, uint8_t with, size_t bytes)
+{
+    uint8_t *t = to;
+    if (((uintptr_t)t | bytes) % sizeof(quad) == 0)
+        for (size_t i = 0; i < bytes; i += sizeof(quad))
+            *(quad *)(t + i) = with * 0x01010101u;
+    else
+        for (size_t i = 0; i < bytes; i++)
+            t[i] = with;
+}
+
+#ifdef __ARM_EABI__
+COPIES void __aeabi_memcpy(void *to, const void *from, size_t bytes)
+{
+    copy(to, from, bytes);
+}
+
+COPIES void __aeabi_memclr(void *to, size_t bytes)
+{
+    fill(to, 0, bytes);
+}
+#else
+COPIES void *memcpy(void *to, const void *from, size_t bytes)
+{
+    copy(to, from, bytes);
+    return to;
+}
+
+COPIES void *memset(void *to, int with, size_t bytes)
+{
+    fill(to, (uint8_t)with, bytes);
+    return to;
+}
+#endif
+#endif
