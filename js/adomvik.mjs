@@ -1,0 +1,204 @@
+// Adomvik, a proved battery-pack protector, for JavaScript: the proved module as WebAssembly, which imports nothing.
+//
+// A row owns its board records, in a memory of its own. Every act returns its answer, or throws the Refusal of the paper's
+// table; a refused act has changed nothing. adomvik.d.ts has the types.
+
+/** The bytes of a record. */
+export const RECORD_BYTES = 104;
+/** The most boards that a stack has. */
+export const BOARDS_MAX = 16;
+
+const FRAME_BYTES = 4;
+const RECORDS_MAX = 256; // that fit the memory as it starts; the library itself takes 16 at most
+const LARGEST = 0xffffffff;
+
+const WHY = [
+  "not 1 to 16 boards, or a board without 5 to 10 cells",
+  "no board of that number",
+  "the cell list is not as long as the board's cell count",
+  "elapsed time not 1 to 100,000 µs",
+  "a cell or the thermistor above 5,000 mV, the shunt beyond 500,000 µV, or the load flag not 0 or 1",
+  "the frame is not 4 bytes",
+  "the reply buffer is under 4 bytes",
+  "the check byte is wrong",
+  "the register is unknown, or a write to register 0",
+  "the value is not allowed",
+  "programming staged settings unlike the working ones, three cycles already spent",
+];
+
+/** Why an act was refused, with the paper's number. */
+export class Refusal extends Error {
+  constructor(number) {
+    super(`refusal ${number}: ${WHY[number - 1]}`);
+    this.name = "Refusal";
+    this.number = number;
+  }
+}
+
+function accepted(number) {
+  if (number !== 0) throw new Refusal(number);
+}
+
+// A number that fits no field is handed on as the largest, which the table refuses wherever a number is asked for.
+function natural(n) {
+  return Number.isInteger(n) && n >= 0 && n <= LARGEST ? n : LARGEST;
+}
+
+function signed(n) {
+  return Number.isInteger(n) && n >= -0x80000000 && n <= 0x7fffffff ? n : 0x7fffffff;
+}
+
+// A frame and a reply are bytes and nothing else: another number has no place in the table.
+function checkBytes(bytes) {
+  for (const byte of bytes) {
+    if (!Number.isInteger(byte) || byte < 0 || byte > 255) throw new RangeError(`${byte} is no byte`);
+  }
+}
+
+/** A row of board records, made by `Adomvik.open` or `Adomvik.row`. */
+export class Row {
+  #acts;
+  #memory;
+  #at;
+  #boards;
+  #behind;
+
+  /** `at` is where the records lie in the memory, `behind` what is free for the lists of a call. */
+  constructor(acts, at, boards, behind) {
+    this.#acts = acts;
+    this.#memory = acts.memory;
+    this.#at = at;
+    this.#boards = boards;
+    this.#behind = behind;
+  }
+
+  /** How many records there are. */
+  get boards() {
+    return this.#boards;
+  }
+
+  /** The row of the first so many of these records. */
+  first(boards) {
+    if (!Number.isInteger(boards) || boards < 0 || boards > this.#boards) throw new RangeError(`no row of ${boards} records here`);
+    return new Row(this.#acts, this.#at, boards, this.#behind);
+  }
+
+  // A block for a call, so many bytes behind the records. The memory grows by what is lacking.
+  #place(from, bytes) {
+    const at = this.#behind + from;
+    const lacking = at + bytes - this.#memory.buffer.byteLength;
+    if (lacking > 0) this.#memory.grow(Math.ceil(lacking / 65536));
+    return at;
+  }
+
+  #words(from, numbers) {
+    const at = this.#place(from, 4 * numbers.length);
+    const view = new Uint32Array(this.#memory.buffer, at, numbers.length);
+    for (let i = 0; i < numbers.length; i++) view[i] = natural(numbers[i]);
+    return at;
+  }
+
+  // The readings, passed by value in C: on this target by an address.
+  #readings({ elapsed, shunt, thermistor, load }) {
+    const at = this.#words(0, [elapsed, 0, thermistor, load]);
+    new Int32Array(this.#memory.buffer, at + 4, 1)[0] = signed(shunt);
+    return at;
+  }
+
+  #sampled(act, readings, cells) {
+    const cellsAt = this.#words(24, cells);
+    const out = this.#place(16, 4);
+    accepted(act(this.#readings(readings), cellsAt, cells.length, out));
+    const view = new DataView(this.#memory.buffer, out, 4);
+    return { status: view.getUint8(0), bled: view.getUint16(2, true) };
+  }
+
+  /** Opens the row: a cell count for each record, southernmost first. */
+  open(counts) {
+    accepted(this.#acts.adomvik_open(this.#at, this.#boards, this.#words(0, counts), counts.length));
+  }
+
+  /** A sample of one board, counted from 1. */
+  sample(board, readings, cells) {
+    return this.#sampled((x, mv, n, out) => this.#acts.adomvik_sample(this.#at, this.#boards, natural(board), x, mv, n, out), readings, cells);
+  }
+
+  /** A sample of the record at a place, from 0, with no row looked at. */
+  sampleRecord(place, readings, cells) {
+    const record = this.#record(place);
+    return this.#sampled((x, mv, n, out) => this.#acts.adomvik_sample_board(record, x, mv, n, out), readings, cells);
+  }
+
+  /** A frame from the host; its reply takes the first four bytes of `reply`, and later ones stay. */
+  frameInto(frame, reply) {
+    checkBytes(frame);
+    const sent = this.#place(0, frame.length);
+    const room = this.#place(frame.length, reply.length);
+    new Uint8Array(this.#memory.buffer, sent, frame.length).set(frame);
+    new Uint8Array(this.#memory.buffer, room, reply.length).set(reply);
+    const number = this.#acts.adomvik_frame(this.#at, this.#boards, sent, frame.length, room, reply.length);
+    reply.set(new Uint8Array(this.#memory.buffer, room, reply.length));
+    accepted(number);
+  }
+
+  /** A frame from the host; its four bytes of reply. */
+  frame(frame) {
+    const reply = new Uint8Array(FRAME_BYTES);
+    this.frameInto(frame, reply);
+    return reply;
+  }
+
+  /** The whole-stack reading. */
+  read() {
+    const out = this.#place(0, 5);
+    accepted(this.#acts.adomvik_read(this.#at, this.#boards, out));
+    const [line, chg, dsg, board, cell] = new Uint8Array(this.#memory.buffer, out, 5);
+    return { line: line === 1, chg: chg === 1, dsg: dsg === 1, board, cell };
+  }
+
+  #record(place) {
+    if (!Number.isInteger(place) || place < 0 || place >= this.#boards) throw new RangeError(`no record at ${place}`);
+    return this.#at + RECORD_BYTES * place;
+  }
+
+  /** The bytes of the record at a place, from 0, to be kept. */
+  record(place) {
+    return new Uint8Array(this.#memory.buffer, this.#record(place), RECORD_BYTES).slice();
+  }
+
+  /** Kept bytes back into the record at a place: any bytes are a record. */
+  setRecord(place, bytes) {
+    if (bytes.length !== RECORD_BYTES) throw new RangeError(`a record has ${RECORD_BYTES} bytes`);
+    checkBytes(bytes);
+    new Uint8Array(this.#memory.buffer, this.#record(place), RECORD_BYTES).set(bytes);
+  }
+}
+
+/** The library. */
+export class Adomvik {
+  #module;
+
+  constructor(module) {
+    this.#module = module;
+  }
+
+  /** A stack by the cell count of each board, southernmost first. */
+  open(counts) {
+    const row = this.row(Math.min(counts.length, RECORDS_MAX));
+    row.open(counts);
+    return row;
+  }
+
+  /** A row of so many records that no opening has made yet, in a memory of its own. */
+  row(boards) {
+    if (!Number.isInteger(boards) || boards < 0 || boards > RECORDS_MAX) throw new RangeError(`no row of ${boards} records`);
+    const acts = new WebAssembly.Instance(this.#module, {}).exports;
+    const at = (acts.__heap_base.value + 7) & ~7;
+    return new Row(acts, at, boards, at + RECORD_BYTES * boards);
+  }
+}
+
+/** Compiles the bytes of adomvik.wasm. */
+export async function load(bytes) {
+  return new Adomvik(await WebAssembly.compile(bytes));
+}
