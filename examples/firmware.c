@@ -1,10 +1,11 @@
 /* A firmware main loop over a stack of two boards, on a simulated board: it reads samples, drives two switch pins and answers
- * the host's frames. What stands under "the simulated board" is what a real one has as hardware. firmware.rs is the same in Rust.
+ * the host's frames. What stands under "the simulated board" is what a real one has as hardware; what it says goes to a console
+ * (desk/console.c, or cortex-m4/console.c on bare metal). firmware.rs is the same in Rust.
  */
 #include <stdbool.h>
-#include <stdio.h>
 
 #include "adomvik.h"
+#include "console.h"
 
 enum { BOARDS = 2, TICKS = 16, TICK_US = 100000 };
 
@@ -13,6 +14,13 @@ static const uint32_t cell_counts[BOARDS] = {5, 6};
 /* ---- the simulated board */
 
 static int tick;
+
+static void say_tick(const char *what)
+{
+    say("tick ");
+    say_number((unsigned)tick);
+    say(what);
+}
 
 /* A short circuit in ticks 3 and 4, the load gone from tick 6 on; the top cell of board 2 too high from tick 7 to 13. */
 static adomvik_readings read_sensors(uint32_t board, uint32_t *cells)
@@ -30,8 +38,10 @@ static void drive_pins(bool chg, bool dsg)
 {
     static int shown = -1;
     const int now = chg * 2 + dsg;
-    if (now != shown)
-        printf("tick %d: chg %d dsg %d\n", tick, chg, dsg);
+    if (now != shown) {
+        say_tick(chg ? ": chg 1" : ": chg 0");
+        say(dsg ? " dsg 1\n" : " dsg 0\n");
+    }
     shown = now;
 }
 
@@ -53,7 +63,12 @@ static size_t receive(uint8_t *frame)
 
 static void send(const uint8_t *reply)
 {
-    printf("tick %d: reply %d %d %d %d\n", tick, reply[0], reply[1], reply[2], reply[3]);
+    say_tick(": reply");
+    for (size_t i = 0; i < ADOMVIK_FRAME_BYTES; i++) {
+        say(" ");
+        say_number(reply[i]);
+    }
+    say("\n");
 }
 
 /* ---- the firmware */
@@ -81,10 +96,13 @@ static void answer_host(void)
     if (length == 0)
         return;
     const uint8_t refusal = adomvik_frame(stack, BOARDS, frame, length, reply, sizeof reply);
-    if (refusal == ADOMVIK_OK)
+    if (refusal == ADOMVIK_OK) {
         send(reply);
-    else
-        printf("tick %d: frame refused, %d\n", tick, refusal);
+        return;
+    }
+    say_tick(": frame refused, ");
+    say_number(refusal);
+    say("\n");
 }
 
 int main(void)
