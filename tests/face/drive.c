@@ -9,35 +9,92 @@
  *     W place bytes..                                    104 bytes over the record at a place, and no act
  *
  * An answer: the act's number, what stands in the place for the answer or in the reply buffer, and a checksum of all records.
- * Before an act these places hold PATTERN, so that what a refusal wrote would show. Every list is lent in a block of the heap
- * of just its size, so that valgrind sees one byte too many.
+ * Before an act these places hold PATTERN, so that what a refusal wrote would show. Every list is lent in a block of just its
+ * size. Nothing of a C library is used, nor a division, so that the same driver runs on the smallest board (platform.h).
  */
-#include <stdio.h>
-#include <stdlib.h>
-#include <string.h>
-
 #include "adomvik.h"
+#include "platform.h"
 
-enum { RECORDS = 18, NUMBERS = 160, LINE = 4096, PATTERN = 0xa5 };
+enum { RECORDS = 18, NUMBERS = 160, LINE = 640, BUFFER = 1024, PATTERN = 0xa5 };
 
 static adomvik_board *row;
-static long long number[NUMBERS];
+static uint32_t number[NUMBERS]; /* one below 0 as its two's complement */
 static size_t numbers;
 
-static void *block(size_t bytes)
+/* ---- text */
+
+static char answers[BUFFER];
+static size_t answered;
+
+static void put_char(char c)
 {
-    void *p = malloc(bytes ? bytes : 1);
-    if (!p)
-        exit(2);
-    return p;
+    if (answered == BUFFER) {
+        give(answers, answered);
+        answered = 0;
+    }
+    answers[answered++] = c;
 }
+
+static void put_number(uint32_t n)
+{
+    static const uint32_t places[] = {10000, 1000, 100, 10, 1};
+    int begun = 0;
+    for (size_t i = 0; i < sizeof places / sizeof *places; i++) {
+        char digit = '0';
+        for (; n >= places[i]; n -= places[i])
+            digit++;
+        begun |= digit != '0' || places[i] == 1;
+        if (begun)
+            put_char(digit);
+    }
+}
+
+static void put_hex(uint32_t n, int digits)
+{
+    while (digits-- > 0)
+        put_char("0123456789abcdef"[n >> 4 * digits & 15]);
+}
+
+/* The next line of the script, without its newline; NULL at the end. */
+static const char *next_line(void)
+{
+    static char line[LINE], taken[BUFFER];
+    static size_t at, end;
+    for (size_t length = 0; length < LINE; length++) {
+        if (at == end) {
+            at = 0;
+            end = take(taken, BUFFER);
+            if (end == 0)
+                return 0;
+        }
+        line[length] = taken[at++];
+        if (line[length] == '\n') {
+            line[length] = 0;
+            return line;
+        }
+    }
+    __builtin_trap();
+}
+
+static void read_numbers(const char *p)
+{
+    for (numbers = 0; *p == ' '; numbers++) {
+        const int minus = *++p == '-';
+        uint32_t n = 0;
+        for (p += minus; *p >= '0' && *p <= '9'; p++)
+            n = 10 * n + (uint32_t)(*p - '0');
+        number[numbers] = minus ? 0 - n : n;
+    }
+}
+
+/* ---- what is lent */
 
 /* The numbers from place `from` on, as a list of 32-bit numbers or of bytes. */
 static uint32_t *words(size_t from)
 {
     uint32_t *list = block((numbers - from) * sizeof *list);
     for (size_t i = from; i < numbers; i++)
-        list[i - from] = (uint32_t)number[i];
+        list[i - from] = number[i];
     return list;
 }
 
@@ -49,111 +106,129 @@ static uint8_t *bytes(size_t from)
     return list;
 }
 
-static void print_bytes(const void *from, size_t count)
+/* A place for an answer. */
+static void *blank(size_t size)
 {
-    const unsigned char *p = from;
-    for (size_t i = 0; i < count; i++)
-        printf("%s%02x", i ? "" : " ", p[i]);
-}
-
-/* CRC-32 of the records, as zlib has it, but for the byte of padding in each. */
-static uint32_t checksum(const adomvik_board *from, size_t count)
-{
-    const unsigned char *p = (const unsigned char *)from;
-    uint32_t crc = 0xffffffff;
-    for (size_t i = 0; i < count * sizeof *from; i++) {
-        if (i % sizeof *from == offsetof(adomvik_board, cycles) + 1)
-            continue;
-        crc ^= p[i];
-        for (int k = 0; k < 8; k++)
-            crc = crc >> 1 ^ (crc & 1 ? 0xedb88320 : 0);
-    }
-    return ~crc;
-}
-
-static void answer_end(void)
-{
-    printf(" %08x\n", checksum(row, RECORDS));
+    uint8_t *place = block(size);
+    for (size_t i = 0; i < size; i++)
+        place[i] = PATTERN;
+    return place;
 }
 
 static adomvik_readings readings(size_t from)
 {
-    adomvik_readings x = {(uint32_t)number[from], (int32_t)number[from + 1], (uint32_t)number[from + 2], (uint32_t)number[from + 3]};
+    adomvik_readings x = {number[from], (int32_t)number[from + 1], number[from + 2], number[from + 3]};
     return x;
 }
 
-static void open_row(void)
+/* ---- answers */
+
+/* CRC-32 of the records, as zlib has it, but for the byte of padding in each. */
+static uint32_t checksum(void)
 {
-    uint32_t *counts = words(1);
-    printf("%u", adomvik_open(row, (size_t)number[0], counts, numbers - 1));
-    answer_end();
-    free(counts);
+    const unsigned char *p = (const unsigned char *)row;
+    uint32_t crc = 0xffffffff;
+    for (size_t n = 0; n < RECORDS; n++)
+        for (size_t i = 0; i < sizeof *row; i++, p++) {
+            if (i == offsetof(adomvik_board, cycles) + 1)
+                continue;
+            crc ^= *p;
+            for (int k = 0; k < 8; k++)
+                crc = crc >> 1 ^ (crc & 1 ? 0xedb88320 : 0);
+        }
+    return ~crc;
+}
+
+static void put_next(uint32_t n)
+{
+    put_char(' ');
+    put_number(n);
+}
+
+static void answer_end(void)
+{
+    put_char(' ');
+    put_hex(checksum(), 8);
+    put_char('\n');
 }
 
 static void told_sample(uint8_t result, const adomvik_sampled *out)
 {
-    printf("%u %u %u", result, out->status, out->bled);
+    put_number(result);
+    put_next(out->status);
+    put_next(out->bled);
     answer_end();
+}
+
+/* ---- the acts */
+
+static void open_row(void)
+{
+    uint32_t *counts = words(1);
+    put_number(adomvik_open(row, number[0], counts, numbers - 1));
+    answer_end();
+    release(counts);
 }
 
 static void sample_row(void)
 {
     uint32_t *cells = words(6);
-    adomvik_sampled *out = block(sizeof *out);
-    memset(out, PATTERN, sizeof *out);
-    told_sample(adomvik_sample(row, (size_t)number[0], (uint32_t)number[1], readings(2), cells, numbers - 6, out), out);
-    free(out);
-    free(cells);
+    adomvik_sampled *out = blank(sizeof *out);
+    told_sample(adomvik_sample(row, number[0], number[1], readings(2), cells, numbers - 6, out), out);
+    release(out);
+    release(cells);
 }
 
 static void sample_one(void)
 {
     uint32_t *cells = words(5);
-    adomvik_sampled *out = block(sizeof *out);
-    memset(out, PATTERN, sizeof *out);
+    adomvik_sampled *out = blank(sizeof *out);
     told_sample(adomvik_sample_board(&row[number[0]], readings(1), cells, numbers - 5, out), out);
-    free(out);
-    free(cells);
+    release(out);
+    release(cells);
 }
 
 static void frame(void)
 {
-    const size_t room = (size_t)number[1];
-    uint8_t *sent = bytes(2), *reply = block(room);
-    memset(reply, PATTERN, room);
-    printf("%u", adomvik_frame(row, (size_t)number[0], sent, numbers - 2, reply, room));
-    print_bytes(reply, room);
+    const size_t room = number[1];
+    uint8_t *sent = bytes(2), *reply = blank(room);
+    put_number(adomvik_frame(row, number[0], sent, numbers - 2, reply, room));
+    for (size_t i = 0; i < room; i++) {
+        if (i == 0)
+            put_char(' ');
+        put_hex(reply[i], 2);
+    }
     answer_end();
-    free(reply);
-    free(sent);
+    release(reply);
+    release(sent);
 }
 
 static void reading(void)
 {
-    adomvik_reading *out = block(sizeof *out);
-    memset(out, PATTERN, sizeof *out);
-    const uint8_t result = adomvik_read(row, (size_t)number[0], out);
-    printf("%u %u %u %u %u %u", result, out->line, out->chg, out->dsg, out->board, out->cell);
+    adomvik_reading *out = blank(sizeof *out);
+    put_number(adomvik_read(row, number[0], out));
+    put_next(out->line);
+    put_next(out->chg);
+    put_next(out->dsg);
+    put_next(out->board);
+    put_next(out->cell);
     answer_end();
-    free(out);
+    release(out);
 }
 
 static void overwrite(void)
 {
-    uint8_t *record = bytes(1);
-    memcpy(&row[number[0]], record, sizeof *row);
-    free(record);
+    for (size_t i = 0; i < sizeof *row; i++)
+        ((uint8_t *)&row[number[0]])[i] = (uint8_t)number[1 + i];
 }
 
 int main(void)
 {
-    static char line[LINE];
     row = block(RECORDS * sizeof *row);
-    memset(row, 0, RECORDS * sizeof *row);
-    while (fgets(line, sizeof line, stdin)) {
-        char *p = line + 1;
-        for (numbers = 0; *p == ' '; numbers++)
-            number[numbers] = strtoll(p, &p, 10);
+    for (size_t i = 0; i < RECORDS * sizeof *row; i++)
+        ((uint8_t *)row)[i] = 0;
+    for (const char *line = next_line(); line; line = next_line()) {
+        read_numbers(line + 1);
         switch (line[0]) {
         case 'O': open_row(); break;
         case 'S': sample_row(); break;
@@ -164,6 +239,7 @@ int main(void)
         default: return 2;
         }
     }
-    free(row);
+    give(answers, answered);
+    release(row);
     return 0;
 }

@@ -1,0 +1,48 @@
+/* Blocks where there is no heap: one behind the other, released in the opposite order; and the copies that the compiler may
+ * call for. */
+#include <stdint.h>
+
+#include "platform.h"
+
+enum { ARENA = 4096, ALIGN = 8 };
+
+static _Alignas(ALIGN) unsigned char arena[ARENA];
+static size_t used;
+
+void *block(size_t bytes)
+{
+    void *p = arena + used;
+    used += (bytes + ALIGN - 1) / ALIGN * ALIGN;
+    if (used > ARENA)
+        __builtin_trap();
+    return p;
+}
+
+void release(void *p)
+{
+    used = (size_t)((unsigned char *)p - arena);
+}
+
+#define COPIES __attribute__((no_builtin))
+
+COPIES void *memcpy(void *to, const void *from, size_t bytes)
+{
+    for (size_t i = 0; i < bytes; i++)
+        ((unsigned char *)to)[i] = ((const unsigned char *)from)[i];
+    return to;
+}
+
+COPIES void *memset(void *to, int with, size_t bytes)
+{
+    for (size_t i = 0; i < bytes; i++)
+        ((unsigned char *)to)[i] = (unsigned char)with;
+    return to;
+}
+
+#ifdef __ARM_EABI__
+void __aeabi_memcpy(void *to, const void *from, size_t bytes) { memcpy(to, from, bytes); }
+void __aeabi_memcpy4(void *to, const void *from, size_t bytes) { memcpy(to, from, bytes); }
+void __aeabi_memclr(void *to, size_t bytes) { memset(to, 0, bytes); }
+void __aeabi_memclr4(void *to, size_t bytes) { memset(to, 0, bytes); }
+void __aeabi_memset(void *to, size_t bytes, int with) { memset(to, with, bytes); }
+#endif
