@@ -1,0 +1,171 @@
+/* The acts that are measured, each of the library and of its peer, and the order in which they are: for perf/face.c, which
+ * times them on this machine, and perf/bare.c, which counts instructions on a board.
+ */
+#ifndef FACE_ACTS_H
+#define FACE_ACTS_H
+
+#include "adomvik.h"
+#include "face_peer.h"
+
+enum { BOARDS = 16, CELLS = 10, KINDS = 8 };
+
+typedef void act(int i);
+
+/* What the program that measures has: an act of the library and of the peer under a name, and a way to stop. */
+static void measure(const char *of, const char *what, act *one, act *other);
+static void fail(const char *what);
+
+static adomvik_board ours[BOARDS];
+static struct peer_board theirs[BOARDS];
+static size_t boards; /* 1 or 16 while acts are measured */
+
+static unsigned check(unsigned a, unsigned b, unsigned c)
+{
+    const unsigned bytes[3] = {a, b, c};
+    unsigned crc = 0;
+    for (int i = 0; i < 3; i++) {
+        crc ^= bytes[i];
+        for (int k = 0; k < 8; k++)
+            crc = (crc & 128 ? crc << 1 ^ 7 : crc << 1) & 255;
+    }
+    return crc;
+}
+
+static void open_both(size_t count)
+{
+    uint32_t counts[BOARDS];
+    boards = count;
+    for (size_t i = 0; i < count; i++)
+        counts[i] = CELLS;
+    if (adomvik_open(ours, count, counts, count) || peer_open(theirs, count, counts, count))
+        fail("an opening was refused");
+}
+
+/* ---- the acts */
+
+static uint32_t mv[KINDS][CELLS];
+static adomvik_readings readings;
+static uint8_t frames[KINDS][4];
+static adomvik_sampled sampled;
+static adomvik_reading whole;
+static uint8_t reply[4];
+static unsigned sum;
+
+static void ours_one(int i) { sum += adomvik_sample_board(&ours[0], readings, mv[i % KINDS], CELLS, &sampled); }
+static void theirs_one(int i) { sum += peer_sample_board(&theirs[0], readings, mv[i % KINDS], CELLS, &sampled); }
+static void ours_row(int i) { sum += adomvik_sample(ours, boards, (uint32_t)(i & (int)(boards - 1)) + 1, readings, mv[i % KINDS], CELLS, &sampled); }
+static void theirs_row(int i) { sum += peer_sample(theirs, boards, (uint32_t)(i & (int)(boards - 1)) + 1, readings, mv[i % KINDS], CELLS, &sampled); }
+static void ours_frame(int i) { sum += adomvik_frame(ours, boards, frames[i % KINDS], 4, reply, 4); }
+static void theirs_frame(int i) { sum += peer_frame(theirs, boards, frames[i % KINDS], 4, reply, 4); }
+static void ours_read(int i) { (void)i; sum += adomvik_read(ours, boards, &whole); }
+static void theirs_read(int i) { (void)i; sum += peer_read(theirs, boards, &whole); }
+
+/* a cycle spent at each call: the count goes back, and the staged byte is another than the working one */
+static size_t addressed(int i) { return frames[i % KINDS][0] / 2 - 1u; }
+
+static void ours_spend(int i)
+{
+    adomvik_board *b = &ours[addressed(i)];
+    b->cycles = 0;
+    b->staged.r6 = (uint8_t)i;
+    b->working.r6 = (uint8_t)(i + 1);
+    ours_frame(i);
+}
+
+static void theirs_spend(int i)
+{
+    struct peer_board *b = &theirs[addressed(i)];
+    b->cycles = 0;
+    b->staged[0] = (uint8_t)i;
+    b->working[0] = (uint8_t)(i + 1);
+    theirs_frame(i);
+}
+
+/* Samples with so many cells and currents at fault, of ten cells; which ones goes round. */
+static void set_samples(int faults)
+{
+    for (int k = 0; k < KINDS; k++)
+        for (int i = 0; i < CELLS; i++)
+            mv[k][i] = (uint32_t)((i + 7 * k) % CELLS < faults ? (k % 2 ? 4300 : 4200) : 3900 + k);
+    readings = (adomvik_readings){.elapsed = 1000, .shunt = faults == CELLS ? 90000 : faults ? 20000 : 0, .thermistor = 2000, .load = faults > 0};
+}
+
+static void set_frames(uint8_t address, uint8_t reg, uint8_t value)
+{
+    for (int k = 0; k < KINDS; k++) {
+        const uint8_t to = (uint8_t)(address + 2 * (k & (int)(boards - 1)));
+        frames[k][0] = to;
+        frames[k][1] = reg;
+        frames[k][2] = value;
+        frames[k][3] = (uint8_t)check(to, reg, value);
+    }
+}
+
+static void samples(void)
+{
+    static const struct { const char *name; int faults; } how[] = {{"quiet", 0}, {"a third faulting", 3}, {"all faulting", CELLS}};
+    for (int k = 0; k < 3; k++) {
+        set_samples(how[k].faults);
+        open_both(1);
+        measure("sample of one record, ", how[k].name, ours_one, theirs_one);
+        measure("sample in a row of 1, ", how[k].name, ours_row, theirs_row);
+        open_both(BOARDS);
+        measure("sample in a row of 16, ", how[k].name, ours_row, theirs_row);
+    }
+}
+
+static void frames_in(size_t count, const char *row)
+{
+    static const struct { const char *name; uint8_t address, reg, value; act *one, *other; } acts[] = {
+        {"a read", 2, 0, 0, ours_frame, theirs_frame},
+        {"a staging write", 3, 9, 0x25, ours_frame, theirs_frame},
+        {"programming equal", 3, 11, 0x41, ours_frame, theirs_frame},
+        {"programming that spends", 3, 11, 0x41, ours_spend, theirs_spend},
+    };
+    for (int k = 0; k < 4; k++) {
+        open_both(count);
+        set_frames(acts[k].address, acts[k].reg, acts[k].value);
+        measure(row, acts[k].name, acts[k].one, acts[k].other);
+    }
+}
+
+static void readings_of_16(void)
+{
+    open_both(BOARDS);
+    measure("reading of 16, ", "quiet", ours_read, theirs_read);
+    set_samples(CELLS);
+    readings.elapsed = 100000;
+    for (int i = 0; i < 20 * BOARDS; i++) {
+        ours_row(i);
+        theirs_row(i);
+    }
+    measure("reading of 16, ", "with latches", ours_read, theirs_read);
+}
+
+static void all_acts(void)
+{
+    samples();
+    frames_in(1, "frame in a row of 1, ");
+    frames_in(BOARDS, "frame in a row of 16, ");
+    readings_of_16();
+}
+
+/* ---- bytes of stack, by what the program that measures has for one act */
+
+static size_t depth(act *one);
+static void tell(const char *of, size_t one, size_t other);
+
+static void nothing(int i) { sum += (unsigned)i; }
+
+static void all_stacks(void)
+{
+    open_both(BOARDS);
+    set_samples(3);
+    set_frames(3, 9, 0x25);
+    const size_t base = depth(nothing);
+    tell("stack of a sample", depth(ours_row) - base, depth(theirs_row) - base);
+    tell("stack of a frame", depth(ours_frame) - base, depth(theirs_frame) - base);
+    tell("stack of a reading", depth(ours_read) - base, depth(theirs_read) - base);
+}
+
+#endif
