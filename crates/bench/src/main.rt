@@ -1,9 +1,9 @@
 // The bench: lines from standard input, an answer for each on standard output (01, The bench program).
 ghost use Prim.Native.Nat.{_≤_};
 ghost use lib.ListN.{length};
-use cutter::Cutter;
 use libc::STDIN_FILENO;
 use libc::STDOUT_FILENO;
+use lines::Cutter;
 use stack::Stack;
 
 // The line that is open, the stack, and whether the output still takes answers.
@@ -49,7 +49,7 @@ fn block_in(b: Bench, block: &[u8], out: &mut [u8]) -> Bench
 fn main() {
     let mut input = io::large_buffer();
     let mut out = io::large_buffer();
-    let mut cutter = cutter::new_cutter();
+    let mut cutter = lines::new_cutter();
     let start = stack::open_stack(&[]);
     let mut stack = start.stack;
     let mut turns = u64::MAX;

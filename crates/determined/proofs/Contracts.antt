@@ -82,11 +82,11 @@ use Rattle.held.proofs.sample_held.Reads as held-sample-held
 use Rattle.held.proofs.read_held.Reads as held-read-held
 use Rattle.lines.proofs.line_at.Reads as lines-line-at
 use Rattle.lines.proofs.line_of.Reads as lines-line-of
-use Rattle.cutter.proofs.new_cutter.Reads as cutter-new-cutter
-use Rattle.cutter.proofs.emptied.Reads as cutter-emptied
-use Rattle.cutter.proofs.kept_len.Reads as cutter-kept-len
-use Rattle.cutter.proofs.line_end.Reads as cutter-line-end
-use Rattle.cutter.proofs.keep.Reads as cutter-keep
+use Rattle.lines.proofs.new_cutter.Reads as lines-new-cutter
+use Rattle.lines.proofs.emptied.Reads as lines-emptied
+use Rattle.lines.proofs.kept_len.Reads as lines-kept-len
+use Rattle.lines.proofs.line_end.Reads as lines-line-end
+use Rattle.lines.proofs.keep.Reads as lines-keep
 use Rattle.text.proofs.put_told.Reads as text-put-told
 use Rattle.held.proofs.frame_held.Reads as held-frame-held
 
@@ -296,21 +296,21 @@ lines-line-at-one κs a r t s u = agree
 pub lines-line-of-one : (κs : _) (a : _) (r t : _) (s u : _) → lines-line-of.Learnt κs a r s → lines-line-of.Learnt κs a t u → r ≡ t
 lines-line-of-one κs a r t s u = agree
 
--- ---- cutter
-pub cutter-new-cutter-one : (κs : _) (a : _) (r t : _) (s u : _) → cutter-new-cutter.Learnt κs a r s → cutter-new-cutter.Learnt κs a t u → r ≡ t
-cutter-new-cutter-one κs a r t s u = agree
+-- ---- lines out of blocks
+pub lines-new-cutter-one : (κs : _) (a : _) (r t : _) (s u : _) → lines-new-cutter.Learnt κs a r s → lines-new-cutter.Learnt κs a t u → r ≡ t
+lines-new-cutter-one κs a r t s u = agree
 
-pub cutter-emptied-one : (κs : _) (a : _) (r t : _) (s u : _) → cutter-emptied.Learnt κs a r s → cutter-emptied.Learnt κs a t u → r ≡ t
-cutter-emptied-one κs a r t s u = agree
+pub lines-emptied-one : (κs : _) (a : _) (r t : _) (s u : _) → lines-emptied.Learnt κs a r s → lines-emptied.Learnt κs a t u → r ≡ t
+lines-emptied-one κs a r t s u = agree
 
-pub cutter-kept-len-one : (κs : _) (a : _) (r t : _) (s u : _) → cutter-kept-len.Learnt κs a r s → cutter-kept-len.Learnt κs a t u → r ≡ t
-cutter-kept-len-one κs a r t s u = agree
+pub lines-kept-len-one : (κs : _) (a : _) (r t : _) (s u : _) → lines-kept-len.Learnt κs a r s → lines-kept-len.Learnt κs a t u → r ≡ t
+lines-kept-len-one κs a r t s u = agree
 
-pub cutter-line-end-one : (κs : _) (a : _) (r t : _) (s u : _) → cutter-line-end.Learnt κs a r s → cutter-line-end.Learnt κs a t u → r ≡ t
-cutter-line-end-one κs a r t s u = agree
+pub lines-line-end-one : (κs : _) (a : _) (r t : _) (s u : _) → lines-line-end.Learnt κs a r s → lines-line-end.Learnt κs a t u → r ≡ t
+lines-line-end-one κs a r t s u = agree
 
-pub cutter-keep-one : (κs : _) (a : _) (r t : _) (s u : _) → cutter-keep.Learnt κs a r s → cutter-keep.Learnt κs a t u → r ≡ t
-cutter-keep-one κs a r t s u p q = agree (p .whole) (q .whole)
+pub lines-keep-one : (κs : _) (a : _) (r t : _) (s u : _) → lines-keep.Learnt κs a r s → lines-keep.Learnt κs a t u → r ≡ t
+lines-keep-one κs a r t s u p q = agree (p .whole) (q .whole)
 
 pub text-put-told-one : (κs : _) (a : _) (r t : _) (s u : _) → text-put-told.Learnt κs a r s → text-put-told.Learnt κs a t u → r ≡ t
 text-put-told-one κs a r t s u p q = agree (p .line .after) (q .line .after)

@@ -13,8 +13,8 @@ use lib.ListN.{length, getD, set}
 use lib.Seq.{sets}
 use borrow.Author.Tests.{eqb-true, eqb-false, eq-eqb, ne-eqb, le-leb, lt-leb, ltb-true, ltb-false}
 use Rattle.lists.proofs.Split.{split}
-use Rattle.cutter.specs.Lines.{before, onto, pieces}
-use Rattle.cutter.proofs.Pieces.{behind, first-piece}
+use Rattle.lines.specs.Lines.{before, onto, pieces}
+use Rattle.lines.proofs.Pieces.{behind, first-piece}
 use Rattle.lines.specs.declared.Kind.{Kind}
 use Rattle.lines.specs.declared.Kind.the-variants.{Open, Sample, Frame, Read, Malformed}
 use Rattle.lines.specs.declared.Rules.{Rules}

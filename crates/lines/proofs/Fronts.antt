@@ -11,8 +11,8 @@ use lib.ListN.{length, drop}
 use borrow.Author.Tests.{eqb-true, ne-eqb}
 use Rattle.lists.specs.Every.{every}
 use Rattle.lists.proofs.Split.{split, both}
-use Rattle.cutter.specs.Lines.{before}
-use Rattle.cutter.proofs.Pieces.{behind}
+use Rattle.lines.specs.Lines.{before}
+use Rattle.lines.proofs.Pieces.{behind}
 use Rattle.lines.specs.Line.{isDigit, startsWell, isNumber, negative, unsigned}
 use Rattle.lines.specs.Field.{digits, front}
 use Rattle.lines.proofs.Numbers.{digit-range}

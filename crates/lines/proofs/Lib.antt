@@ -1,3 +1,8 @@
+pub mod Pieces
+pub mod Blocks
+pub mod Clips
+pub mod Keeping
+pub mod Ends
 pub mod Words
 pub mod Numbers
 pub mod Fronts

@@ -10,8 +10,8 @@ use lib.ListN.{length}
 use borrow.Author.Tests.{eqb-true, ne-eqb}
 use Rattle.lists.specs.Every.{every}
 use Rattle.lists.proofs.Split.{split, both}
-use Rattle.cutter.specs.Lines.{before, pieces}
-use Rattle.cutter.proofs.Pieces.{first-piece}
+use Rattle.lines.specs.Lines.{before, pieces}
+use Rattle.lines.proofs.Pieces.{first-piece}
 use Rattle.lines.specs.declared.Rules.{Rules}
 use Rattle.lines.specs.declared.Kind.{Kind}
 use Rattle.lines.specs.Line.{words, isDigit, startsWell, isNumber, unsigned, isField, letter, kindOf, rulesOf, isShunt, allFields, obeys, malformed, said, wordsSay, lineOf}

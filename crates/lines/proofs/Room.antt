@@ -13,8 +13,8 @@ use Rattle.lists.proofs.Split.{split, both}
 use Rattle.lines.specs.declared.Kind.the-variants.{Open}
 use Rattle.lines.specs.declared.Rules.{Rules}
 use Rattle.lines.specs.Line.{words, isField, letter, kindOf, rulesOf, isShunt, allFields, obeys, lineWith, said, wordsSay, lineOf}
-use Rattle.cutter.specs.Lines.{pieces}
-use Rattle.cutter.proofs.Pieces.{first-piece}
+use Rattle.lines.specs.Lines.{pieces}
+use Rattle.lines.proofs.Pieces.{first-piece}
 use Rattle.lines.proofs.Fields.{no-field}
 
 -- the bytes of some words, with a space in front of each

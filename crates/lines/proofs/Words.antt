@@ -12,7 +12,7 @@ use lib.ListN.{length, getD, drop, length-drop}
 use lib.Seq.{drop-drop}
 use borrow.Author.Tests.{eq-eqb, ne-eqb}
 use Rattle.lists.proofs.Split.{split}
-use Rattle.cutter.specs.Lines.{before}
+use Rattle.lines.specs.Lines.{before}
 use Rattle.lines.specs.Field.{restAt, endAt}
 
 -- a byte of the bytes, whatever stands for those behind their end

@@ -11,7 +11,7 @@ use Rattle.lists.specs.Every.{every}
 use Rattle.lines.specs.declared.Kind.{Kind}
 use Rattle.lines.specs.declared.Kind.the-variants.{Open, Sample, Frame, Read, Malformed}
 use Rattle.lines.specs.declared.Line.{Line}
-use Rattle.cutter.specs.Lines.{pieces}
+use Rattle.lines.specs.Lines.{pieces}
 use Rattle.lines.specs.Line.{worth, startsWell, isNumber, negative, unsigned, isField, letter, kindOf, allFields, obeys, anyNegative, blank, malformed, said, wordsSay, lineOf}
 
 -- the bytes of what is typed, and the same n times over

@@ -1,3 +1,5 @@
+pub mod Lines
+pub mod Kept
 pub mod Line
 pub mod Field
 pub mod Edges

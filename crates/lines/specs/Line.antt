@@ -8,7 +8,7 @@ use lib.Dec.{leb, eqb}
 use lib.ListN.{length, replicate}
 use lib.Seq.{sets}
 use Rattle.lists.specs.Every.{every}
-use Rattle.cutter.specs.Lines.{pieces}
+use Rattle.lines.specs.Lines.{pieces}
 use Rattle.lines.specs.declared.Kind.{Kind}
 use Rattle.lines.specs.declared.Kind.the-variants.{Open, Sample, Frame, Read, Malformed}
 use Rattle.lines.specs.declared.Rules.{Rules}

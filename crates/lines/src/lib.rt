@@ -1,7 +1,10 @@
-// A line of the bench: its bytes taken apart into a letter and numbers, or malformed (01, The bench program).
+// Lines of the bench (01, The bench program): a line's bytes taken apart into a letter and numbers, or malformed; and lines out
+// of blocks of bytes, where one ends and what is kept of one that a block cuts in two.
 ghost use mathlib.Core.Path.{_≡_};
-ghost use Prim.Native.Nat.{_≤_};
-ghost use lib.ListN.{getD};
+ghost use Prim.Native.Nat.{_+_, _≤_};
+ghost use lib.ListN.{getD, length, drop};
+ghost use Rattle.lines.specs.Lines.{upTo};
+ghost use Rattle.lines.specs.Kept.{held, nothing, emptiedOf, byteKept, Kept};
 ghost use Rattle.lines.specs.Line.{isDigit, letter, rulesOf, blank, malformed, lineOf};
 ghost use Rattle.lines.specs.Field.{restAt, endAt, digitsFrom, numberAt, fieldAt, foundAt};
 
@@ -39,6 +42,14 @@ enum Field {
     Good { minus: bool, size: u32, next: usize },
     Bad,
 }
+
+// The first bytes of a line that has not ended. A line is at most 200 bytes long, so 201 are enough to know one that is too long.
+pub struct Cutter {
+    pub bytes: [u8; 201],
+    pub len: usize,
+}
+
+// ---- one line
 
 // The kind of line that a letter begins.
 fn kind_of(b: u8) -> Kind
@@ -200,7 +211,7 @@ fn malformed_from(s: &[u8], at: usize) -> Found
 {
     Found {
         line: malformed_line(),
-        end: cutter::line_end(s, at),
+        end: line_end(s, at),
     }
 }
 
@@ -266,4 +277,73 @@ pub fn line_of(s: &[u8]) -> Line
         return malformed_line();
     }
     found.line
+}
+
+// ---- lines out of blocks
+
+pub fn new_cutter() -> Cutter
+    ensures { λ r. ⌜ r ≡ nothing ⌝ }
+{
+    Cutter {
+        bytes: [0; 201],
+        len: 0,
+    }
+}
+
+// Nothing kept; the old bytes need no clearing.
+pub fn emptied(c: Cutter) -> Cutter
+    ensures { λ r. ⌜ r ≡ emptiedOf c ⌝ }
+{
+    let mut next = c;
+    next.len = 0;
+    next
+}
+
+fn keep_byte(c: Cutter, b: u8) -> Cutter
+    ensures { λ r. ⌜ r ≡ byteKept c b ⌝ }
+{
+    let len = c.len;
+    if 201 <= len {
+        return c;
+    }
+    let mut next = c;
+    next.bytes[len] = b;
+    next.len = len + 1;
+    next
+}
+
+// Keeps s behind what is kept.
+pub fn keep(c: Cutter, s: &[u8]) -> Cutter
+    ensures { λ r. ⌜ Kept c (now (s .entry)) r ⌝ }
+{
+    let mut next = c;
+    let mut i = 0;
+    while i < s.len() {
+        next = keep_byte(next, s[i]);
+        i += 1;
+    }
+    next
+}
+
+// How many bytes are kept.
+pub fn kept_len(c: Cutter) -> usize
+    ensures { λ r. ⌜ r ≡ length (held c) ⌝ }
+{
+    let bytes = c.bytes;
+    let len = c.len;
+    if len < bytes.len() { len } else { bytes.len() }
+}
+
+// The place of the first newline from at on, or the end.
+pub fn line_end(s: &[u8], at: usize) -> usize
+    ensures { λ r. ⌜ r ≡ at + length (upTo (drop at (now (s .entry)))) ⌝ }
+{
+    let mut i = at;
+    while i < s.len() {
+        if s[i] == 10 {
+            return i;
+        }
+        i += 1;
+    }
+    i
 }

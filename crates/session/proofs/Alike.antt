@@ -10,9 +10,9 @@ use borrow.Author.Tests.{lt-leb}
 use Rattle.lines.specs.Line.{lineOf}
 use Rattle.text.specs.Text.{textOf}
 use Rattle.stack.specs.declared.Stack.{Stack}
-use Rattle.cutter.specs.declared.Cutter.{Cutter}
-use Rattle.cutter.specs.Kept.{clip, held}
-use Rattle.cutter.proofs.Clips.{read-clip}
+use Rattle.lines.specs.declared.Cutter.{Cutter}
+use Rattle.lines.specs.Kept.{clip, held}
+use Rattle.lines.proofs.Clips.{read-clip}
 use Rattle.session.specs.Session.{stepOf, stackAfter, outputOf}
 
 -- all lines over 200 bytes are read alike

@@ -7,10 +7,10 @@ use lib.ListN.{length, take}
 use Rattle.lines.specs.Line.{lineOf}
 use Rattle.text.proofs.Puts.{put-take}
 use Rattle.stack.specs.declared.Stack.{Stack}
-use Rattle.cutter.specs.declared.Cutter.{Cutter}
-use Rattle.cutter.specs.Lines.{lastLine, linesOf, ended}
-use Rattle.cutter.specs.Kept.{held, endedIn, leftIn}
-use Rattle.cutter.proofs.Clips.{lines-flatten}
+use Rattle.lines.specs.declared.Cutter.{Cutter}
+use Rattle.lines.specs.Lines.{lastLine, linesOf, ended}
+use Rattle.lines.specs.Kept.{held, endedIn, leftIn}
+use Rattle.lines.proofs.Clips.{lines-flatten}
 use Rattle.session.specs.declared.Fed.{Fed}
 use Rattle.session.specs.Session.{stackAfter, outputOf, Fold, Run, lacking}
 use Rattle.session.proofs.Alike.{over-alike, output-alike, stack-append, output-append}

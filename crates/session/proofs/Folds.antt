@@ -12,13 +12,13 @@ use Rattle.lines.specs.Line.{lineOf}
 use Rattle.text.specs.Text.{textOf, Put, Printed}
 use Rattle.text.proofs.Puts.{put-then, put-same, placed-all}
 use Rattle.stack.specs.declared.Stack.{Stack}
-use Rattle.cutter.specs.declared.Cutter.{Cutter}
-use Rattle.cutter.specs.Lines.{ended, left, upTo}
-use Rattle.cutter.specs.Kept.{most, clip, held, emptiedOf}
-use Rattle.cutter.proofs.Clips.{clip-append}
-use Rattle.cutter.proofs.Pieces.{ended-none, left-none}
-use Rattle.cutter.proofs.Ends.{part, ended-line, left-line, ended-rest, left-rest}
-use Rattle.cutter.proofs.Keeping.{held-clip}
+use Rattle.lines.specs.declared.Cutter.{Cutter}
+use Rattle.lines.specs.Lines.{ended, left, upTo}
+use Rattle.lines.specs.Kept.{most, clip, held, emptiedOf}
+use Rattle.lines.proofs.Clips.{clip-append}
+use Rattle.lines.proofs.Pieces.{ended-none, left-none}
+use Rattle.lines.proofs.Ends.{part, ended-line, left-line, ended-rest, left-rest}
+use Rattle.lines.proofs.Keeping.{held-clip}
 use Rattle.session.specs.declared.Acted.{Acted}
 use Rattle.session.specs.Acts.{actOf}
 use Rattle.session.specs.Session.{stepOf, stackAfter, outputOf, Fold}

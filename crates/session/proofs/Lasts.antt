@@ -9,10 +9,10 @@ use lib.ListN.{length, take}
 use lib.Seq.{take-all}
 use Rattle.text.proofs.Puts.{put-take}
 use Rattle.stack.specs.declared.Stack.{Stack}
-use Rattle.cutter.specs.declared.Cutter.{Cutter}
-use Rattle.cutter.specs.Lines.{ended, lastLine}
-use Rattle.cutter.specs.Kept.{clip, held}
-use Rattle.cutter.proofs.Pieces.{ended-none, left-none, ended-newline}
+use Rattle.lines.specs.declared.Cutter.{Cutter}
+use Rattle.lines.specs.Lines.{ended, lastLine}
+use Rattle.lines.specs.Kept.{clip, held}
+use Rattle.lines.proofs.Pieces.{ended-none, left-none, ended-newline}
 use Rattle.session.specs.declared.Fed.{Fed}
 use Rattle.session.specs.Session.{stackAfter, outputOf, Run, lacking}
 use Rattle.session.proofs.Alike.{none-held}

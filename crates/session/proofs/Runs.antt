@@ -17,9 +17,9 @@ use Rattle.text.proofs.Puts.{put-same}
 use Rattle.board.specs.declared.Board.{Board}
 use Rattle.stack.specs.declared.Stack.{Stack}
 use Rattle.held.specs.Held.{heldRow, withRow}
-use Rattle.cutter.proofs.Ends.{line-part}
-use Rattle.cutter.specs.declared.Cutter.{Cutter}
-use Rattle.cutter.specs.Kept.{held}
+use Rattle.lines.proofs.Ends.{line-part}
+use Rattle.lines.specs.declared.Cutter.{Cutter}
+use Rattle.lines.specs.Kept.{held}
 use Rattle.session.specs.declared.Acted.{Acted}
 use Rattle.session.specs.declared.Pace.{Pace}
 use Rattle.session.specs.declared.Turn.{Turn}

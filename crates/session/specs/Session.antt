@@ -7,9 +7,9 @@ use mathlib.Core.List.{List, [], _∷_, _++_}
 use lib.ListN.{length, take}
 use Rattle.lines.specs.Line.{lineOf}
 use Rattle.text.specs.Text.{textOf, Put}
-use Rattle.cutter.specs.declared.Cutter.{Cutter}
-use Rattle.cutter.specs.Lines.{ended, left}
-use Rattle.cutter.specs.Kept.{clip, held}
+use Rattle.lines.specs.declared.Cutter.{Cutter}
+use Rattle.lines.specs.Lines.{ended, left}
+use Rattle.lines.specs.Kept.{clip, held}
 use Rattle.stack.specs.declared.Stack.{Stack}
 use Rattle.session.specs.declared.Acted.{Acted}
 use Rattle.session.specs.declared.Fed.{Fed}

@@ -3,15 +3,15 @@ ghost use mathlib.Core.Path.{_≡_};
 ghost use Prim.Native.Nat.{_≤_, min};
 ghost use mathlib.Core.List.{_++_};
 ghost use Rattle.lines.specs.Line.{lineOf};
-ghost use Rattle.cutter.specs.Kept.{held};
+ghost use Rattle.lines.specs.Kept.{held};
 ghost use Rattle.session.specs.Acts.{shuntOf, readingsOf, cellCount, cellPlaces, byteCount, bytesOf, noBytes, openingTold, sampleTold, replyTold, viewTold, opens, samples, frames, reads, actOf};
 ghost use Rattle.session.specs.Turns.{boardIn, readingsIn, cellsIn, cellCountIn, bytesIn, byteCountIn, isOpen, isSample, isFrame, sampledTold, sampledRow, framedTold, framedRow, viewedTold, askedTold, askedRow, rowTold, rowAfter, lineTold, tightAt, stopAt, turnOf, paceAfter, outAfter, lineDone, runDone, ranIn, ranInOut, paceAt, ranOf, ranOut};
 ghost use Rattle.session.specs.Session.{Run, lacking};
 use board::Answer;
 use board::Board;
 use board::Readings;
-use cutter::Cutter;
 use frame::Reply;
+use lines::Cutter;
 use lines::Kind;
 use lines::Line;
 use stack::Opening;
@@ -558,7 +558,7 @@ fn kept_line(c: Cutter) -> Line
     ensures { λ r. ⌜ r ≡ lineOf (held c) ⌝ }
 {
     let bytes = c.bytes;
-    let len = cutter::kept_len(c);
+    let len = lines::kept_len(c);
     lines::line_of(&bytes[..len])
 }
 
@@ -566,10 +566,10 @@ fn kept_line(c: Cutter) -> Line
 fn whole_line(c: Cutter, s: &[u8]) -> Line
     ensures { λ r. ⌜ r ≡ lineOf (held c ++ now (s .entry)) ⌝ }
 {
-    if cutter::kept_len(c) == 0 {
+    if lines::kept_len(c) == 0 {
         return lines::line_of(s);
     }
-    kept_line(cutter::keep(c, s))
+    kept_line(lines::keep(c, s))
 }
 
 // The lines that end in the block are answered one after the other, until it is used up or out has no room for one more text.
@@ -590,9 +590,9 @@ pub fn feed(cutter: Cutter, stack: Stack, block: &[u8], out: &mut [u8]) -> Fed
                 wrote: wrote,
             };
         }
-        let end = cutter::line_end(block, at);
+        let end = lines::line_end(block, at);
         if block.len() <= end {
-            let kept = cutter::keep(c, &block[at..]);
+            let kept = lines::keep(c, &block[at..]);
             return Fed {
                 cutter: kept,
                 stack: s,
@@ -604,7 +604,7 @@ pub fn feed(cutter: Cutter, stack: Stack, block: &[u8], out: &mut [u8]) -> Fed
         let told = acted.told;
         let next = acted.stack;
         let put = text::put_told(out, wrote, told);
-        c = cutter::emptied(c);
+        c = lines::emptied(c);
         let ran = run_lines(next, pace_at(end + 1, put, out.len()), block, out);
         let after = ran.stack;
         s = after;
@@ -623,7 +623,7 @@ pub fn feed(cutter: Cutter, stack: Stack, block: &[u8], out: &mut [u8]) -> Fed
 pub fn finish(cutter: Cutter, stack: Stack, out: &mut [u8]) -> Fed
     ensures { λ r. ⌜ Run cutter stack (lacking (held cutter)) (now (out .entry)) (now (out .exit)) r ⌝ }
 {
-    if cutter::kept_len(cutter) == 0 {
+    if lines::kept_len(cutter) == 0 {
         return Fed {
             cutter: cutter,
             stack: stack,

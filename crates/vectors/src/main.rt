@@ -1,9 +1,12 @@
-// Runs the published check bytes and worked samples and frames of a stack of one board, and prints what comes of each.
+// Runs the published check bytes, the session of the paper and worked samples and frames of a stack of one board, and prints
+// what comes of each.
 // The file stdout has what the publications and the paper say; nothing in it was taken from a run.
 use board::Answer;
 use board::Readings;
 use frame::Reply;
+use stack::Opening;
 use stack::Stack;
+use stack::View;
 
 const OUT: i32 = 1;
 
@@ -35,6 +38,35 @@ fn show_answer(answer: Answer) {
             io::print_decimal(OUT, bled as u64);
         }
         Answer::Refused(why) => show(b"no ", refusal::number(why)),
+    }
+    end_line();
+}
+
+fn show_opening(answer: Opening) {
+    match answer {
+        Opening::Opened => {
+            io::write_all(OUT, b"ok");
+        }
+        Opening::Refused(why) => show(b"no ", refusal::number(why)),
+    }
+    end_line();
+}
+
+fn bit(b: bool) -> u8 {
+    if b { 1 } else { 0 }
+}
+
+fn show_reading(s: Stack) {
+    let v = held::read_held(s);
+    match v {
+        View::Read(w) => {
+            show(b"ln ", bit(w.line));
+            show(b" chg ", bit(w.chg));
+            show(b" dsg ", bit(w.dsg));
+            show(b" at ", w.flagged.board);
+            show(b" ", w.flagged.cell);
+        }
+        View::Refused(why) => show(b"no ", refusal::number(why)),
     }
     end_line();
 }
@@ -128,12 +160,16 @@ fn published() {
     show_check(b"reply 2 0 192 ", frame::check_byte(2, 0, 192));
 }
 
-// The session of the paper, its opening and its reading left out.
+// The session of the paper.
 fn session() {
-    let s = alone(5);
+    let start = stack::open_stack(&[5]);
+    let answer = start.answer;
+    show_opening(answer);
+    let s = start.stack;
     let s = first_cell(s, 1000, 4000);
     let s = framed(s, 2, 0, 0, 214);
     let s = shunt_at(s, 1000, 60001, 1);
+    show_reading(s);
     shunt_at(s, 20000, 0, 0);
 }
 

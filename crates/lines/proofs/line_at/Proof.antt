@@ -6,7 +6,7 @@ use mathlib.Core.Path.{_≡_, refl, sym, _∙_}
 use mathlib.Core.Logic.{⊎-elim}
 use lib.ListN.{length, set, length-set}
 use borrow.Author.Needs.{needs}
-use Rattle.cutter.proofs.Pieces.{behind}
+use Rattle.lines.proofs.Pieces.{behind}
 use Rattle.lines.specs.Line.{words, wordsSay, blank}
 use Rattle.lines.specs.Field.{restAt, endAt}
 use Rattle.lines.proofs.Words.{byte-within, end-on}

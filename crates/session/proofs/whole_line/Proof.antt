@@ -3,7 +3,7 @@
 use mathlib.Core.Path.{sym, ap, _∙_}
 use mathlib.Core.List.{_++_}
 use Rattle.lines.specs.Line.{lineOf}
-use Rattle.cutter.specs.Kept.{held}
+use Rattle.lines.specs.Kept.{held}
 use Rattle.session.proofs.Alike.{line-clip, none-held}
 use borrow.Author.Needs.{needs}
 use Rattle.session.proofs.whole_line.Statement.{statement}

@@ -1,12 +1,12 @@
--- `cutter::kept_len` meets its contract: the length, or all 201.
+-- `lines::kept_len` meets its contract: the length, or all 201.
 -- Assumes nothing.
 use native.Mathlib.Omega.{arith}
 use mathlib.Core.Path.{_≡_}
 use lib.ListN.{length, length-take}
-use Rattle.cutter.specs.Kept.{held}
+use Rattle.lines.specs.Kept.{held}
 use borrow.Author.Needs.{needs}
-use Rattle.cutter.proofs.kept_len.Statement.{statement}
-use Rattle.cutter.proofs.kept_len.Tie as tie
+use Rattle.lines.proofs.kept_len.Statement.{statement}
+use Rattle.lines.proofs.kept_len.Tie as tie
 
 returns : tie.Need-returns
 unfolding held

@@ -10,9 +10,9 @@ use lib.ListN.{length, getD, take, drop, length-append, length-take, length-set,
 use lib.Seq.{take-suc-set, take-all, take-at, drop-cons, length-take-le}
 use borrow.Author.Tests.{leb-true, leb-false}
 use borrow.Table.Steps.{cases}
-use Rattle.cutter.specs.declared.Cutter.{Cutter}
-use Rattle.cutter.specs.Kept.{most, clip, held, byteKept, listKept, Kept}
-use Rattle.cutter.proofs.Clips.{clip-append}
+use Rattle.lines.specs.declared.Cutter.{Cutter}
+use Rattle.lines.specs.Kept.{most, clip, held, byteKept, listKept, Kept}
+use Rattle.lines.proofs.Clips.{clip-append}
 
 -- whatever its length says, a cutter keeps no more than it has
 pub held-clip : (c : Cutter) → length (c .bytes) ≡ most → clip (held c) ≡ held c

@@ -1,13 +1,13 @@
--- `cutter::keep` meets its contract: the invariant is that keeping the rest of s makes the whole.
+-- `lines::keep` meets its contract: the invariant is that keeping the rest of s makes the whole.
 -- Assumes nothing.
 use Prim.Native.Nat.{_-_}
 use mathlib.Core.Path.{_≡_, refl}
 use lib.ListN.{length, drop}
-use Rattle.cutter.specs.Kept.{listKept}
-use Rattle.cutter.proofs.Keeping.{kept-turn, kept-all}
+use Rattle.lines.specs.Kept.{listKept}
+use Rattle.lines.proofs.Keeping.{kept-turn, kept-all}
 use borrow.Author.Needs.{needs}
-use Rattle.cutter.proofs.keep.Statement.{statement}
-use Rattle.cutter.proofs.keep.Tie as tie
+use Rattle.lines.proofs.keep.Statement.{statement}
+use Rattle.lines.proofs.keep.Tie as tie
 
 abbrev Inv-loop : tie.InvT-loop
 Inv-loop s next₀ i₀ next i = listKept next₀ s ≡ listKept next (drop i s)

@@ -11,9 +11,9 @@ use lib.ListN.{length, getD, take, drop, length-drop, drop-of-length-le, take-ap
 use lib.Seq.{take-all, take-add, drop-cons}
 use borrow.Author.Tests.{eqb-true}
 use borrow.Table.Steps.{cases}
-use Rattle.cutter.specs.Lines.{before, ended, left, upTo}
-use Rattle.cutter.proofs.Pieces.{ended-none, left-none, ended-byte, left-byte, ended-newline, left-newline}
-use Rattle.cutter.proofs.Blocks.{ended-append, left-append}
+use Rattle.lines.specs.Lines.{before, ended, left, upTo}
+use Rattle.lines.proofs.Pieces.{ended-none, left-none, ended-byte, left-byte, ended-newline, left-newline}
+use Rattle.lines.proofs.Blocks.{ended-append, left-append}
 
 -- ---- a turn of the search, and its end
 

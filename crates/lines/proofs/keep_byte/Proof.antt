@@ -1,10 +1,10 @@
--- `cutter::keep_byte` meets its contract: one store, while there is room.
+-- `lines::keep_byte` meets its contract: one store, while there is room.
 -- Assumes nothing.
 use borrow.Author.Tests.{le-leb, lt-leb}
-use Rattle.cutter.specs.Kept.{byteKept}
+use Rattle.lines.specs.Kept.{byteKept}
 use borrow.Author.Needs.{needs}
-use Rattle.cutter.proofs.keep_byte.Statement.{statement}
-use Rattle.cutter.proofs.keep_byte.Tie as tie
+use Rattle.lines.proofs.keep_byte.Statement.{statement}
+use Rattle.lines.proofs.keep_byte.Tie as tie
 
 returns : tie.Need-returns
 unfolding byteKept

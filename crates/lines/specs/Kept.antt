@@ -6,8 +6,8 @@ use mathlib.Core.Bool.{cond}
 use mathlib.Core.List.{List, [], _∷_, _++_}
 use lib.Dec.{leb}
 use lib.ListN.{take, set, replicate}
-use Rattle.cutter.specs.declared.Cutter.{Cutter}
-use Rattle.cutter.specs.Lines.{ended, left}
+use Rattle.lines.specs.declared.Cutter.{Cutter}
+use Rattle.lines.specs.Lines.{ended, left}
 
 -- so many bytes of a line are kept, one more than it may have
 abbrev pub most : ℕ

@@ -1,15 +1,15 @@
--- `cutter::line_end` meets its contract: the invariant is that the end of the line from at on is the end of the line from i on.
+-- `lines::line_end` meets its contract: the invariant is that the end of the line from at on is the end of the line from i on.
 -- Assumes nothing.
 use Prim.Native.Nat.{_-_, _+_}
 use native.Mathlib.Omega.{arith}
 use mathlib.Core.Path.{_≡_, refl, _∙_}
 use lib.ListN.{length, drop}
 use borrow.Author.Tests.{eq-eqb, ne-eqb}
-use Rattle.cutter.specs.Lines.{upTo}
-use Rattle.cutter.proofs.Ends.{end-at, end-none}
+use Rattle.lines.specs.Lines.{upTo}
+use Rattle.lines.proofs.Ends.{end-at, end-none}
 use borrow.Author.Needs.{needs}
-use Rattle.cutter.proofs.line_end.Statement.{statement}
-use Rattle.cutter.proofs.line_end.Tie as tie
+use Rattle.lines.proofs.line_end.Statement.{statement}
+use Rattle.lines.proofs.line_end.Tie as tie
 
 abbrev Inv-loop : tie.InvT-loop
 Inv-loop s at i₀ i = at + length (upTo (drop at s)) ≡ i + length (upTo (drop i s))

@@ -5,8 +5,8 @@ use mathlib.Core.Path.{_≡_}
 use mathlib.Core.List.{List, [], _∷_, _++_, append-nil}
 use lib.Dec.{eqb}
 use borrow.Table.Steps.{cases}
-use Rattle.cutter.specs.Lines.{ended, left, lastLine, linesOf}
-use Rattle.cutter.proofs.Pieces.{ended-none, left-none, ended-byte, left-byte, ended-newline, left-newline}
+use Rattle.lines.specs.Lines.{ended, left, lastLine, linesOf}
+use Rattle.lines.proofs.Pieces.{ended-none, left-none, ended-byte, left-byte, ended-newline, left-newline}
 
 -- the lines of a and then b are those of a, and those of b behind what a leaves
 pub ended-append : (p a b : List ℕ) → ended p (a ++ b) ≡ ended p a ++ ended (left p a) b

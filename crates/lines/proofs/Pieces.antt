@@ -7,7 +7,7 @@ use mathlib.Core.List.{List, [], _∷_, _++_, append-assoc, append-nil}
 use lib.Dec.{eqb}
 use lib.ListN.{length, drop}
 use borrow.Table.Steps.{cases}
-use Rattle.cutter.specs.Lines.{before, pieces, ended, left}
+use Rattle.lines.specs.Lines.{before, pieces, ended, left}
 
 -- the pieces behind the first: none at the end, and behind a c those that follow it; behind any other byte one that is empty
 unfoldable pub behind : ℕ → List ℕ → List (List ℕ)

@@ -9,10 +9,10 @@ use lib.ListN.{length, take, length-take}
 use lib.Seq.{take-all, take-take}
 use borrow.Author.Tests.{ltb-true, ltb-false}
 use borrow.Table.Steps.{cases}
-use Rattle.cutter.specs.Lines.{ended, left, lastLine, linesOf}
-use Rattle.cutter.proofs.Pieces.{ended-none, left-none, ended-byte, left-byte}
-use Rattle.cutter.specs.Kept.{most, clip, endedIn, leftIn}
-use Rattle.cutter.proofs.Blocks.{ended-append, left-append}
+use Rattle.lines.specs.Lines.{ended, left, lastLine, linesOf}
+use Rattle.lines.proofs.Pieces.{ended-none, left-none, ended-byte, left-byte}
+use Rattle.lines.specs.Kept.{most, clip, endedIn, leftIn}
+use Rattle.lines.proofs.Blocks.{ended-append, left-append}
 
 pub clip-append : (p s : List ℕ) → clip (clip p ++ s) ≡ clip (p ++ s)
 unfolding clip
