@@ -17,7 +17,7 @@ use Rattle.frame.specs.Frame.{byte, writes}
 use Rattle.registers.specs.Registers.{accessBars}
 use Rattle.stack.specs.Row.{goodRow, placeOf, boardAt}
 use Rattle.stack.specs.Frame.{framePlace}
-use Rattle.demands.specs.Paper.{Entry, sampled, asked}
+use Rattle.demands.specs.Paper.{Entry, sampled, framed}
 use Rattle.demands.specs.Acts.{Act, sample, frame, reading, Outcome, bars}
 use Rattle.demands.specs.Table.{lent}
 use Rattle.demands.specs.Tied.{Who, board, whole, nobody, early, who, ties, tied}
@@ -36,7 +36,7 @@ place reading = 0
 abbrev entry : Act → Entry
 entry (sample n x mv) = sampled x mv
 entry (frame bytes buffer) = frameEntry bytes
-entry reading = asked
+entry reading = framed 0 0 0
 
 abbrev late : Board → Act → List Bar
 late b (sample n x mv) = readingBars b x mv

@@ -1,4 +1,4 @@
--- The cycles spent: the programmings at which staged and working differed, at most three of them; an equal programming changes nothing.
+-- The cycles spent: the record holds the count of the programmings at which staged and working differed, and that is at most three.
 -- Assumes nothing.
 use Prim.Native.Nat.{ℕ, zero, suc, _+_, _<_, _≤_}
 use native.Mathlib.Omega.{arith}
@@ -9,36 +9,18 @@ use lib.Dec.{leb, eqb}
 use lib.ListN.{set}
 use borrow.Author.Tests.{leb-false}
 use Rattle.refusal.specs.Said.{Bar, bar, first, kept}
-use Rattle.lists.proofs.Split.{split}
 use Rattle.settings.specs.Bytes.{same}
 use Rattle.board.specs.declared.Board.{Board}
 use Rattle.frame.specs.Frame.{byte, writes}
 use Rattle.registers.specs.Registers.{known, fits, programs, lacksCycle}
 use Rattle.stack.specs.Row.{placeOf, boardAt}
 use Rattle.stack.specs.Frame.{framePlace}
-use Rattle.demands.specs.Paper.{Entry, sampled, wrote, programmed, asked, History, staged, working, spent, given}
-use Rattle.demands.specs.Count.{differed, howMany}
+use Rattle.demands.specs.Paper.{Entry, sampled, History, staged, working, spends, howMany, spent}
 use Rattle.demands.specs.Acts.{Act, sample, frame, reading, bars, next, openedRow, final}
 use Rattle.demands.specs.Demands.{Log, begun, logAt, joined, boardGiven, rowGiven, frameEntry, joins, taken, opens}
-use Rattle.demands.proofs.Runs.{cycles}
-use Rattle.demands.proofs.Given.{equal-stays}
 use Rattle.demands.proofs.Clear.{clear}
 use Rattle.demands.proofs.Tells.{board-at, frame-fits}
 use Rattle.demands.proofs.Demanded.{demand2}
-
-pub equal-programming : (n : ℕ) (h : History) → same (staged h) (working h) ≡ true → given n (programmed ∷ h) ≡ given n h
-equal-programming n h e = sym (equal-stays n h e)
-
-pub spent-counts : (h : History) → spent h ≡ howMany differed h
-spent-counts [] = refl
-spent-counts (sampled x mv ∷ h) = let rest = spent-counts h in omega arith
-spent-counts (wrote register v ∷ h) = let rest = spent-counts h in omega arith
-spent-counts (programmed ∷ h) =
-    let rest = spent-counts h in
-    split (same (staged h) (working h))
-    (λ e. cycles h .none-at-equal e ∙ rw e (omega arith))
-    (λ e. cycles h .one-at-unlike e ∙ rw e (omega arith))
-spent-counts (asked ∷ h) = let rest = spent-counts h in omega arith
 
 -- ---- at most three
 
@@ -61,15 +43,10 @@ three-kept refusals logs at e p h = by (eqb (first refusals) 0) p
     by false q = h
 
 -- a programming that differs needs a free cycle
-three-framed : (write programs : Bool) (register v : ℕ) (h : History) → ((write && programs) && (not (same (staged h) (working h)) && leb 3 (spent h))) ≡ false
-    → spent h ≤ 3 → spent (cond write (cond programs programmed (wrote register v)) asked ∷ h) ≤ 3
-three-framed true true register v h e p = by (same (staged h) (working h)) e
-  where
-    by : (t : Bool) → (not t && leb 3 (spent h)) ≡ false → cond t (spent h) (spent h + 1) ≤ 3
-    by true q = p
-    by false q = let free : spent h < 3 = leb-false 3 (spent h) q in omega arith
-three-framed true false register v h e p = p
-three-framed false programs register v h e p = p
+three-by : (programs differ : Bool) (spent : ℕ) → (programs && (differ && leb 3 spent)) ≡ false → spent ≤ 3 → cond (programs && differ) (spent + 1) spent ≤ 3
+three-by true true spent free p = let fewer : spent < 3 = leb-false 3 spent free in omega arith
+three-by true false spent free p = p
+three-by false differ spent free p = p
 
 three-frame : (logs : List Log) (bytes buffer : List ℕ) → eqb (first (bars (rowGiven logs) (frame bytes buffer))) 0 ≡ true
     → Three logs → spent (frameEntry bytes ∷ logAt logs (framePlace bytes) .acts) ≤ 3
@@ -83,7 +60,7 @@ three-frame logs bytes buffer accepted h =
     let c9 = clear b9 (b10 ∷ b11 ∷ []) refl (frame-fits logs bytes buffer accepted .1) in
     let c10 = clear b10 (b11 ∷ []) refl (c9 .1) in
     let c11 = clear b11 [] refl (c10 .1) in
-    three-framed w (eqb r 11) r (byte bytes 2) (l .acts) (c11 .0) (h (framePlace bytes))
+    three-by (programs w r) (not (same (staged (l .acts)) (working (l .acts)))) (spent (l .acts)) (c11 .0) (h (framePlace bytes))
 
 three-taken : (logs : List Log) (a : Act) → Three logs → Three (taken logs a)
 three-taken logs (sample n x mv) h = three-kept (bars (rowGiven logs) (sample n x mv)) logs (placeOf n) (sampled x mv) (λ accepted. h (placeOf n)) h
@@ -105,11 +82,8 @@ module _ (counts : List ℕ) (e : opens counts ≡ true) (acts : List Act) (i : 
   abbrev acts-of : History
   acts-of = logAt (final taken (begun counts) acts) i .acts
 
-  cycles-are : boardAt (final next (openedRow counts) acts) i .cycles ≡ spent acts-of
-  cycles-are = ap (λ (row : List Board). boardAt row i .cycles) (demand2 counts e acts .1) ∙ ap (λ (b : Board). b .cycles) (board-at (final taken (begun counts) acts) i)
-
-  pub cycles-count : boardAt (final next (openedRow counts) acts) i .cycles ≡ howMany differed acts-of
-  cycles-count = cycles-are ∙ spent-counts acts-of
+  pub cycles-count : boardAt (final next (openedRow counts) acts) i .cycles ≡ howMany spends acts-of
+  cycles-count = ap (λ (row : List Board). boardAt row i .cycles) (demand2 counts e acts .1) ∙ ap (λ (b : Board). b .cycles) (board-at (final taken (begun counts) acts) i)
 
   pub at-most-three : boardAt (final next (openedRow counts) acts) i .cycles ≤ 3
-  at-most-three = subst (λ (k : ℕ). k ≤ 3) (sym cycles-are) (three-final (begun counts) acts (three-begun counts) i)
+  at-most-three = subst (λ (k : ℕ). k ≤ 3) (sym cycles-count) (three-final (begun counts) acts (three-begun counts) i)

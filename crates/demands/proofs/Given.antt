@@ -1,16 +1,17 @@
 -- What a board keeps is what the paper gives of its accepted acts: at the start, and one act on.
 -- Assumes nothing.
-use Prim.Native.Nat.{ℕ, _<_, _≤_}
+use Prim.Native.Nat.{ℕ, _+_, _<_, _≤_}
 use native.Mathlib.Omega.{arith}
 use mathlib.Core.Path.{_≡_, refl, ap, ap₂, sym, _∙_}
-use mathlib.Core.Bool.{Bool, true, false, cond, or-false}
+use mathlib.Core.Bool.{Bool, true, false, true≢false, cond, _&&_, or-false}
 use mathlib.Core.List.{List, [], _∷_, _++_, dropLast}
-use lib.Dec.{leb·zero}
+use lib.Dec.{leb, eqb, leb·zero}
 use lib.ListN.{length, drop}
+use borrow.Author.Tests.{eqb-true, ne-eqb}
 use Rattle.lists.proofs.Split.{split}
 use Rattle.settings.specs.Levels.{ovRelease}
-use Rattle.settings.specs.Bytes.{same}
-use Rattle.settings.proofs.Laws.{same-yes}
+use Rattle.settings.specs.declared.Settings.{Settings}
+use Rattle.settings.specs.Bytes.{withByte, same}
 use Rattle.settings.specs.Faults.{Fault, SCD, OCD, OV, UV, OT, delay}
 use Rattle.marks.specs.Marks.{number, marked}
 use Rattle.marks.proofs.Laws.{number-at}
@@ -30,10 +31,11 @@ use Rattle.board.specs.declared.Currents.{Currents}
 use Rattle.board.specs.declared.Readings.{Readings}
 use Rattle.board.specs.Sample as board
 use Rattle.board.specs.Sample.{fresh, hot, currentsNext, latchesNext, sweptAt, latchesAfter, boardNext}
+use Rattle.frame.specs.Frame.{writes}
 use Rattle.registers.specs.Registers as registers
-use Rattle.registers.specs.Registers.{staging}
-use Rattle.demands.specs.Paper.{sampled, wrote, programmed, asked, History, staged, working, spent, Sample, sampleOf, since, holds, runOf, stoodDelay, stands, letsGo, latched, latchesAt, flagged, flagsAt, cellGiven, given}
-use Rattle.demands.proofs.Runs.{runs, cycles}
+use Rattle.registers.specs.Registers.{staging, boardAfter}
+use Rattle.demands.specs.Paper.{Entry, sampled, framed, History, staged, working, spends, spent, Sample, sampleOf, since, holds, runOf, stoodDelay, stands, letsGo, latched, latchesAt, flagged, flagsAt, cellGiven, given}
+use Rattle.demands.proofs.Runs.{working-stays, runs}
 use Rattle.demands.proofs.Lists.{each-same, each-behind, each-before, each-one, number-none}
 
 -- ---- the start
@@ -159,55 +161,77 @@ module _ (n : ℕ) (few : n ≤ 10) (h : History) (x : Readings) (mv : List ℕ)
 
 -- ---- a frame
 
--- a write to registers 6 to 10, and a read
-pub given-wrote : (n : ℕ) (h : History) (register v : ℕ) → staging (given n h) register v ≡ given n (wrote register v ∷ h)
-given-wrote n h register v = refl
+-- no register but 6 to 10 has a settings byte
+no-byte : (s : Settings) (register v : ℕ) → (leb 6 register && leb register 10) ≡ false → s ≡ withByte s register v
+no-byte s register v n = rw (other 6 refl, other 7 refl, other 8 refl, other 9 refl, other 10 refl)
+  where
+    other : (k : ℕ) → (leb 6 k && leb k 10) ≡ true → eqb register k ≡ false
+    other k in-map = ne-eqb register k (λ is. true≢false (sym in-map ∙ ap (λ (r : ℕ). leb 6 r && leb r 10) (sym is) ∙ n))
 
-pub given-asked : (n : ℕ) (h : History) → given n h ≡ given n (asked ∷ h)
-given-asked n h = refl
+module _ (n : ℕ) (h : History) (address register v : ℕ) where
+  abbrev e : Entry
+  e = framed address register v
 
--- a programming, by whether staged and working are equal
-module _ (n : ℕ) (h : History) where
   abbrev then : History
-  then = programmed ∷ h
+  then = e ∷ h
 
-  -- nothing changes
-  pub equal-stays : same (staged h) (working h) ≡ true → given n h ≡ given n then
-  equal-stays e =
-      let run-is : (f : Fault) (k : ℕ) → kept (runOf f k h) ≡ kept (runOf f k then) = λ f k. sym (ap kept (runs f k h .not-at-equal e)) in
-      let cell-is : (k : ℕ) → cellGiven h k ≡ cellGiven then k = λ k i. record { ov = run-is OV k i; uv = run-is UV k i } in
-      let cells-are = each-same n (cellGiven h) (cellGiven then) (λ k p. cell-is k) in
-      λ i. record {
+  -- the record after it: latches and flags stay
+  abbrev boardWith : ℕ → Settings → Settings → Currents → List Cell → Board
+  boardWith c w s currents cells =
+      record {
         count = n;
         latches = latchesByte (latchesAt n h);
-        cycles = sym (cycles h .none-at-equal e) i;
+        cycles = c;
         flags = number (flagsAt n h);
-        working = sym (same-yes (staged h) (working h) e) i;
-        staged = staged h;
-        currents = record { ocd = run-is OCD 0 i; scd = run-is SCD 0 i };
-        cells = cells-are i ++ drop n noCells;
+        working = w;
+        staged = s;
+        currents = currents;
+        cells = cells;
       }
 
-  -- a cycle is spent, and every run starts over
-  unlike-spends : n ≤ 10 → same (staged h) (working h) ≡ false → registers.spent (given n h) ≡ given n then
+  abbrev currentsWith : (Fault → ℕ → ℕ) → Currents
+  currentsWith r = record { ocd = r OCD 0; scd = r SCD 0 }
+
+  abbrev cellsWith : (Fault → ℕ → ℕ) → List Cell
+  cellsWith r = each 0 n (λ k. record { ov = r OV k; uv = r UV k }) ++ drop n noCells
+
+  with-these : (c : ℕ) (w s : Settings) (r : Fault → ℕ → ℕ) → c ≡ spent then → w ≡ working then → s ≡ staged then
+      → ((f : Fault) (k : ℕ) → r f k ≡ kept (runOf f k then)) → boardWith c w s (currentsWith r) (cellsWith r) ≡ given n then
+  with-these c w s r c-is w-is s-is r-is = λ i. boardWith (c-is i) (w-is i) (s-is i) (currentsWith (λ f k. r-is f k i)) (cellsWith (λ f k. r-is f k i))
+
+  -- where it spends no cycle, no more than the staged settings changes
+  unspent : (s : Settings) → s ≡ staged then → spends e h ≡ false → boardWith (spent h) (working h) s (given n h .currents) (given n h .cells) ≡ given n then
+  unspent s s-is c =
+      with-these (spent h) (working h) s (λ f k. kept (runOf f k h)) (rw c) (sym (working-stays e h c)) s-is
+      (λ f k. sym (ap kept (runs f k h .else-stays address register v c)))
+
+  -- where it spends one, staged becomes working and every run starts over
+  spent-by : n ≤ 10 → spends e h ≡ true → staged h ≡ working then → staged h ≡ staged then → registers.spent (given n h) ≡ given n then
   unfolding registers.spent
-  unlike-spends few e =
-      let over : (f : Fault) (k : ℕ) → 0 ≡ kept (runOf f k then) = λ f k. sym (ap kept (runs f k h .starts-over e)) in
-      let cell-is : (k : ℕ) → noCell ≡ cellGiven then k = λ k i. record { ov = over OV k i; uv = over UV k i } in
-      let cells-are = each-same n (λ k. noCell) (cellGiven then) (λ k p. cell-is k) in
-      let all-over = sym (each-one 0 n 10 noCell few) ∙ ap (λ (l : List Cell). l ++ drop n noCells) cells-are in
-      λ i. record {
-        count = n;
-        latches = latchesByte (latchesAt n h);
-        cycles = sym (cycles h .one-at-unlike e) i;
-        flags = number (flagsAt n h);
-        working = staged h;
-        staged = staged h;
-        currents = record { ocd = over OCD 0 i; scd = over SCD 0 i };
-        cells = all-over i;
-      }
+  spent-by few c w-is s-is =
+      ap (boardWith (spent h + 1) (staged h) (staged h) (currentsWith (λ f k. 0))) (sym (each-one 0 n 10 noCell few))
+      ∙ with-these (spent h + 1) (staged h) (staged h) (λ f k. 0) (rw c) w-is s-is (λ f k. sym (ap kept (runs f k h .starts-over e c)))
 
-  pub given-programmed : n ≤ 10 → registers.programmed (given n h) ≡ given n then
-  given-programmed few =
-      let by : Bool → Board = λ equal. cond equal (given n h) (registers.spent (given n h)) in
-      split (same (staged h) (working h)) (λ e. ap by e ∙ equal-stays e) (λ e. ap by e ∙ unlike-spends few e)
+  -- a read stages and spends nothing; a write to register 11 programs; any other write stages, where there is a byte
+  pub given-framed : n ≤ 10 → boardAfter (given n h) (writes address) register v ≡ given n then
+  unfolding boardAfter
+  given-framed few =
+      split (writes address)
+      (λ w. split (eqb register 11) (λ p. ap₂ by w p ∙ programs w p) (λ o. ap₂ by w o ∙ unspent (withByte (staged h) register v) (writes-it w) (rw (w, o))))
+      (λ w. ap (λ (t : Bool). by t (eqb register 11)) w ∙ unspent (staged h) (rw w) (rw w))
+    where
+      by : Bool → Bool → Board
+      by w p = cond w (cond p (registers.programmed (given n h)) (staging (given n h) register v)) (given n h)
+
+      writes-it : writes address ≡ true → withByte (staged h) register v ≡ staged then
+      writes-it w = split (leb 6 register && leb register 10) (λ s. rw (w, s)) (λ s. sym (no-byte (staged h) register v s) ∙ rw (w, s))
+
+      programs : writes address ≡ true → eqb register 11 ≡ true → registers.programmed (given n h) ≡ given n then
+      programs w p =
+          let eleven : register ≡ 11 = eqb-true register 11 p in
+          let stays : staged h ≡ staged then = rw (w, eleven) in
+          let becomes : staged h ≡ working then = rw (w, p) in
+          let either : Bool → Board = λ equal. cond equal (given n h) (registers.spent (given n h)) in
+          split (same (staged h) (working h))
+          (λ q. ap either q ∙ unspent (staged h) stays (rw (w, p, q)))
+          (λ u. ap either u ∙ spent-by few (rw (w, p, u)) becomes stays)

@@ -25,7 +25,7 @@ use Rattle.frame.specs.Frame.{byte, writes}
 use Rattle.registers.specs.Registers.{boardAfter}
 use Rattle.stack.specs.Row.{goodRow, placeOf}
 use Rattle.stack.specs.Frame.{framePlace, frameRow}
-use Rattle.demands.specs.Paper.{sampled, wrote, programmed, asked, History, staged, working, sampleOf, runOf, stoodDelay, places, stands, letsGo, latched, latchesAt}
+use Rattle.demands.specs.Paper.{sampled, History, staged, working, sampleOf, runOf, stoodDelay, places, stands, letsGo, latched, latchesAt}
 use Rattle.demands.specs.Acts.{Act, sample, frame, reading, Outcome, bars, outcome, next, final}
 use Rattle.demands.specs.Demands.{Log, log, begun, logAt, joined, rowGiven, frameEntry, joins, taken, frameSays}
 use Rattle.demands.specs.Mechanic.{Stood, isLatched, Accepted, Answers, Mechanic}
@@ -33,7 +33,6 @@ use Rattle.demands.proofs.Lists.{some-at, some-yes}
 use Rattle.demands.proofs.Table.{judged-number, stays, values, act-judged, demand1}
 use Rattle.demands.proofs.Tells.{board-at, sample-joins, tells, gives}
 use Rattle.demands.proofs.Demanded.{demand2, final-good}
-use Rattle.demands.proofs.Cycles.{spent-counts}
 use Rattle.demands.proofs.Turns.{never-latched, calm-never}
 
 -- ---- a condition that has stood its delay
@@ -67,13 +66,6 @@ latch-of OT on = refl
 not-true : (b : Bool) → (not b ≡ false) ↔ (b ≡ true)
 not-true true = (λ e. refl, λ e. refl)
 not-true false = (λ e. absurd (true≢false e), λ e. absurd (true≢false (sym e)))
-
--- a frame's act leaves every latch
-frame-leaves : (n : ℕ) (f : Fault) (write programs : Bool) (register v : ℕ) (h : History)
-    → latched n f (cond write (cond programs programmed (wrote register v)) asked ∷ h) ≡ latched n f h
-frame-leaves n f true true register v h = refl
-frame-leaves n f true false register v h = refl
-frame-leaves n f false programs register v h = refl
 
 -- a refusal is given only if a row of its number holds
 abbrev holdsOf : ℕ → List Bar → Bool
@@ -146,10 +138,7 @@ module _ (logs : List Log) (good : goodRow (rowGiven logs) ≡ true) where
       ∙ sym (latched-in f logs at)
     where
       all-same : map (latchedOf f) (joins logs (framePlace bytes) (frameEntry bytes)) ≡ map (latchedOf f) logs
-      all-same =
-          let m = logAt logs (framePlace bytes) in
-          map-set-same (latchedOf f) logs (framePlace bytes) (joined m (frameEntry bytes)) (log 0 [])
-          (frame-leaves (m .cells) f (writes (byte bytes 0)) (eqb (byte bytes 1) 11) (byte bytes 1) (byte bytes 2) (m .acts))
+      all-same = map-set-same (latchedOf f) logs (framePlace bytes) (joined (logAt logs (framePlace bytes)) (frameEntry bytes)) (log 0 []) refl
 
       by : (t : Bool) → latchedOf f (logAt (cond t (joins logs (framePlace bytes) (frameEntry bytes)) logs) at) ≡ latchedOf f (logAt logs at)
       by true =
@@ -198,7 +187,7 @@ module _ (logs : List Log) (good : goodRow (rowGiven logs) ≡ true) where
         calm = λ f at c. let l = logAt logs at in latched-in f logs at ∙ calm-never (l .cells) f (l .acts) c;
         reads-working = λ bytes buffer a w low high.
             replied bytes buffer a ∙ rw (w, ne-eqb (byte bytes 1) 0 (λ z. omega arith), ne-eqb (byte bytes 1) 11 (λ z. omega arith));
-        reads-cycles = λ bytes buffer a w is. replied bytes buffer a ∙ rw (w, is) (rw (spent-counts (logAt logs (framePlace bytes) .acts)));
+        reads-cycles = λ bytes buffer a w is. replied bytes buffer a ∙ rw (w, is);
         equal-programming = λ bytes buffer w r e. (equal-leaves bytes buffer w r e, never-eleven bytes buffer w r e);
         refused = λ a n p e. let same = demand1 row .unchanged a n p e in (same .0, same .1, refused-leaves a n p e);
         reading-accepted = ap (λ (o : Outcome). o .said .number) (tells logs good reading);

@@ -1,15 +1,34 @@
--- What one more act makes of the runs in a history, and a programming of the cycles spent.
+-- What one more act makes of the cycles spent, of the working settings and of the runs in a history.
 -- Assumes nothing.
 use Prim.Native.Nat.{ℕ, _+_}
 use mathlib.Core.Path.{_≡_, refl, sym, ap}
-use mathlib.Core.Bool.{Bool, true, false, true≢false}
+use mathlib.Core.Bool.{Bool, true, false, true≢false, cond, not, _&&_}
 use mathlib.Core.List.{List, [], _∷_}
 use mathlib.Core.Option.{Option, some, none}
+use borrow.Author.Tests.{not-false}
+use Rattle.lists.proofs.Split.{split}
+use Rattle.settings.specs.Bytes.{same}
 use Rattle.settings.specs.Faults.{Fault}
 use Rattle.settings.proofs.Laws.{same-yes}
 use Rattle.runs.specs.Run.{stretch, lasting}
-use Rattle.demands.specs.Paper.{History, staged, working, Sample, sampleOf, since, holds}
+use Rattle.demands.specs.Paper.{Entry, sampled, framed, History, programming, staged, working, spends, Sample, sampleOf, since, holds, runOf}
 use Rattle.demands.specs.Mechanic.{Runs, Cycles}
+
+pub cycles : (e : Entry) (h : History) → Cycles e h
+cycles e h =
+    record {
+      none-at-equal = λ s. split (programming e) (λ p. rw (p, s)) (λ p. rw p);
+      one-at-unlike = λ p s. rw (p, s);
+      none-else = λ p. rw p;
+    }
+
+-- an act that spends no cycle leaves the working settings: an equal programming too
+pub working-stays : (e : Entry) (h : History) → spends e h ≡ false → working (e ∷ h) ≡ working h
+working-stays e h = by (programming e)
+  where
+    by : (p : Bool) → (p && not (same (staged h) (working h))) ≡ false → cond p (staged h) (working h) ≡ working h
+    by true n = same-yes (staged h) (working h) (not-false (same (staged h) (working h)) n)
+    by false n = refl
 
 abbrev isNone : Option ℕ → Bool
 isNone none = true
@@ -37,9 +56,11 @@ runs f k h =
       fails = λ x mv e. rw e;
       begins = λ x mv e n. rw e (begin (sampleOf x mv) before n);
       goes-on = λ x mv t e n. rw e (go-on (sampleOf x mv) before t n);
-      starts-over = λ e. rw e;
-      not-at-equal = λ e. rw (e, same-yes (staged h) (working h) e);
+      starts-over = over;
+      else-stays = λ address register v n. let e = framed address register v in rw (n, working-stays e h n);
     }
-
-pub cycles : (h : History) → Cycles h
-cycles h = record { none-at-equal = λ e. rw e; one-at-unlike = λ e. rw e }
+  where
+    -- only a frame spends
+    over : (e : Entry) → spends e h ≡ true → runOf f k (e ∷ h) ≡ none
+    over (sampled x mv) s = absurd (true≢false (sym s))
+    over (framed address register v) s = rw s

@@ -21,8 +21,7 @@ use Rattle.board.specs.Sample.{badBoard, outside, outOfRange, readingBars, boar
 use Rattle.frame.specs.Frame.{byte, boardOf, writes}
 use Rattle.frame.specs.Reply.{replyBytes}
 use Rattle.frame.specs.Check.{checkOf}
-use Rattle.registers.specs.Registers as registers
-use Rattle.registers.specs.Registers.{programs, staging, accessBars, boardAfter, replyValue}
+use Rattle.registers.specs.Registers.{programs, accessBars, boardAfter, replyValue}
 use Rattle.reading.specs.declared.Summary.{Summary}
 use Rattle.reading.specs.Reading.{summaryOf, readOf, wholeSaid}
 use Rattle.stack.specs.Row.{goodRow, noBoard, placeOf, boardAt}
@@ -32,10 +31,10 @@ use Rattle.stack.specs.Read.{readBars}
 use Rattle.stack.proofs.Counts.{within}
 use Rattle.stack.proofs.Ways.{board-good, has-none}
 use Rattle.stack.proofs.Laws.{sample-said, frame-said}
-use Rattle.demands.specs.Paper.{sampled, wrote, programmed, asked, History, working, spent, latchesAt, given}
+use Rattle.demands.specs.Paper.{sampled, working, spent, latchesAt}
 use Rattle.demands.specs.Acts.{Act, sample, frame, reading, outcome, next}
 use Rattle.demands.specs.Demands.{Log, log, logAt, joined, boardGiven, rowGiven, frameEntry, joins, taken, sampleSays, readSays, frameSays, summaryGiven, told}
-use Rattle.demands.proofs.Given.{given-start, latches-are, bled-are, given-sampled, given-wrote, given-asked, given-programmed}
+use Rattle.demands.proofs.Given.{given-start, latches-are, bled-are, given-sampled, given-framed}
 use Rattle.demands.proofs.Table.{reading-judged}
 use Rattle.demands.proofs.Clear.{clear, judged-same, kept-same}
 
@@ -130,14 +129,6 @@ module _ (logs : List Log) (n : ℕ) (x : Readings) (mv : List ℕ) where
 
 -- ---- a frame
 
--- an access, by whether it writes and whether it is to register 11
-accessed : (write programs : Bool) (m : ℕ) → m ≤ 10 → (h : History) (register v : ℕ)
-    → cond write (cond programs (registers.programmed (given m h)) (staging (given m h) register v)) (given m h)
-    ≡ given m (cond write (cond programs programmed (wrote register v)) asked ∷ h)
-accessed true true m few h register v = given-programmed m h few
-accessed true false m few h register v = given-wrote m h register v
-accessed false programs m few h register v = given-asked m h
-
 -- a reply by the record is a reply by the log
 reply-is : (l : Log) (write : Bool) (register v : ℕ)
     → replyValue (boardGiven l) write register v ≡ cond (programs write register) (spent (l .acts)) (cond write v (readSays l register))
@@ -173,11 +164,9 @@ module _ (logs : List Log) (bytes buffer : List ℕ) where
       (few-cells logs n (c1 .0) (c2 .0), ap (λ (k : ℕ). eqb k 0) (sym here) ∙ c2 .1)
 
   frame-leaves : eqb (first frame-row) 0 ≡ true → boardFramed (rowGiven logs) bytes ≡ boardGiven (joined of-frame (frameEntry bytes))
-  unfolding boardAfter
   frame-leaves accepted =
-      let write = writes (byte bytes 0) in
-      ap (λ (b : Board). boardAfter b write (byte bytes 1) (byte bytes 2)) (board-at logs (framePlace bytes))
-      ∙ accessed write (eqb (byte bytes 1) 11) (of-frame .cells) (frame-fits accepted .0) (of-frame .acts) (byte bytes 1) (byte bytes 2)
+      ap (λ (b : Board). boardAfter b (writes (byte bytes 0)) (byte bytes 1) (byte bytes 2)) (board-at logs (framePlace bytes))
+      ∙ given-framed (of-frame .cells) (of-frame .acts) (byte bytes 0) (byte bytes 1) (byte bytes 2) (frame-fits accepted .0)
 
   frame-values : eqb (first frame-row) 0 ≡ true → frameReply (rowGiven logs) bytes ≡ frameSays (joined of-frame (frameEntry bytes)) bytes
   frame-values accepted =

@@ -5,23 +5,22 @@ use native.Mathlib.Omega.{arith}
 use mathlib.Core.Path.{_≡_, refl, sym, ap, _∙_}
 use mathlib.Core.Logic.{_⊎_, inl, inr}
 use mathlib.Core.Bool.{Bool, true, false, cond, not}
-use mathlib.Core.List.{[], _∷_}
+use mathlib.Core.List.{List, [], _∷_}
 use mathlib.Core.Option.{none}
 use lib.Dec.{ltb}
 use borrow.Author.Tests.{le-ltb, lt-leb}
 use Rattle.settings.specs.declared.Settings.{Settings}
 use Rattle.lists.proofs.Split.{split}
 use Rattle.settings.specs.Levels.{ovLevel, ocdLevel, scdLevel}
-use Rattle.settings.specs.Bytes.{same}
 use Rattle.settings.specs.Faults.{Fault, SCD, OCD, OV, delay}
 use Rattle.runs.specs.Run.{run, stretch, lasting, past}
 use Rattle.cells.specs.Each.{each, some}
 use Rattle.cells.specs.Cells.{readingAt}
 use Rattle.board.specs.declared.Readings.{Readings}
 use Rattle.board.proofs.Signed.{above-none}
-use Rattle.demands.specs.Paper.{sampled, wrote, programmed, asked, History, staged, working, Sample, sampleOf, since, holds, stoodDelay, places, latched}
+use Rattle.demands.specs.Paper.{sampled, framed, History, working, spends, Sample, sampleOf, since, holds, stoodDelay, places, latched}
 use Rattle.demands.specs.Marked.{more, one}
-use Rattle.demands.specs.Turns.{Under, Calm, Charging, byTurns, alternate}
+use Rattle.demands.specs.Turns.{Under, EverySample, Calm, Charging, byTurns, alternate}
 use Rattle.demands.proofs.Lists.{each-same}
 
 none-of : (i n : ℕ) → some (each i n (λ k. false)) ≡ false
@@ -33,43 +32,37 @@ pub never-latched : (n : ℕ) (f : Fault) (h : History) → Under n f h → latc
 never-latched n f [] u = refl
 never-latched n f (sampled x mv ∷ h) u =
     rw (never-latched n f h (u .1)) (ap some (each-same (places f n) (λ k. stoodDelay f k (sampled x mv ∷ h)) (λ k. false) (u .0)) ∙ none-of 0 (places f n))
-never-latched n f (wrote register v ∷ h) u = never-latched n f h (u .1)
-never-latched n f (programmed ∷ h) u = never-latched n f h (u .1)
-never-latched n f (asked ∷ h) u = never-latched n f h (u .1)
+never-latched n f (framed address register v ∷ h) u = never-latched n f h (u .1)
 
 -- ---- a condition that never holds has no run, so its fault is not latched
 
 calm-run : (f : Fault) (k : ℕ) (s : Settings) (h : History) → Calm f h → run (λ x. x .readings .elapsed) (holds f s k) (since h) ≡ none
 calm-run f k s [] c = refl
 calm-run f k s (sampled x mv ∷ h) c = rw (c .0 s k)
-calm-run f k s (wrote register v ∷ h) c = calm-run f k s h c
-calm-run f k s (programmed ∷ h) c = split (same (staged h) (working h)) (λ e. rw e (calm-run f k s h c)) (λ e. rw e)
-calm-run f k s (asked ∷ h) c = calm-run f k s h c
+calm-run f k s (framed address register v ∷ h) c = split (spends (framed address register v) h) (λ e. rw e) (λ e. rw e (calm-run f k s h c))
 
 calm-under : (n : ℕ) (f : Fault) (h : History) → Calm f h → Under n f h
 calm-under n f [] c = tt
 calm-under n f (sampled x mv ∷ h) c =
     (λ k p. ap (past (delay f (working h))) (calm-run f k (working h) (sampled x mv ∷ h) c), calm-under n f h (c .1))
-calm-under n f (wrote register v ∷ h) c = (λ k p. ap (past (delay f (working h))) (calm-run f k (working h) h c), calm-under n f h c)
-calm-under n f (programmed ∷ h) c =
-    (λ k p. ap (past (delay f (staged h))) (calm-run f k (staged h) (programmed ∷ h) c), calm-under n f h c)
-calm-under n f (asked ∷ h) c = (λ k p. ap (past (delay f (working h))) (calm-run f k (working h) h c), calm-under n f h c)
+calm-under n f (framed address register v ∷ h) c =
+    let then = framed address register v ∷ h in
+    (λ k p. ap (past (delay f (working then))) (calm-run f k (working then) then c), calm-under n f h c)
 
 pub calm-never : (n : ℕ) (f : Fault) (h : History) → Calm f h → latched n f h ≡ false
 calm-never n f h c = never-latched n f h (calm-under n f h c)
 
 -- no charge current trips a discharge fault
-charging-calm : (h : History) → Charging h → Calm SCD h × Calm OCD h
-charging-calm [] c = (tt, tt)
-charging-calm (sampled x mv ∷ h) c =
-    let rest = charging-calm h (c .1) in
-    ((λ s k. sym (above-none (scdLevel s) (x .shunt) (c .0)), rest .0), (λ s k. sym (above-none (ocdLevel s) (x .shunt) (c .0)), rest .1))
-charging-calm (wrote register v ∷ h) c = charging-calm h c
-charging-calm (programmed ∷ h) c = charging-calm h c
-charging-calm (asked ∷ h) c = charging-calm h c
+every-so : (So To : Readings → List ℕ → Type 0) → ((x : Readings) (mv : List ℕ) → So x mv → To x mv) → (h : History) → EverySample So h → EverySample To h
+every-so So To so [] c = tt
+every-so So To so (sampled x mv ∷ h) c = (so x mv (c .0), every-so So To so h (c .1))
+every-so So To so (framed address register v ∷ h) c = every-so So To so h c
 
 pub charge-never-trips : (n : ℕ) (h : History) → Charging h → (latched n SCD h ≡ false) × (latched n OCD h ≡ false)
-charge-never-trips n h c = let calm = charging-calm h c in (calm-never n SCD h (calm .0), calm-never n OCD h (calm .1))
+charge-never-trips n h c = (
+  calm-never n SCD h (every-so _ _ (λ x mv charge s k. sym (above-none (scdLevel s) (x .shunt) charge)) h c),
+  calm-never n OCD h (every-so _ _ (λ x mv charge s k. sym (above-none (ocdLevel s) (x .shunt) charge)) h c),
+)
 
 -- M2, of any number of samples: a cell at 4,150 never latches OV
 not-above : (s : Settings) (reading : ℕ) → reading ≤ 4150 → ltb (ovLevel s) reading ≡ false

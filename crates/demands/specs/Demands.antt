@@ -14,13 +14,12 @@ use Rattle.latches.specs.Latches.{anyLatch, chgOn, dsgOn, register0}
 use Rattle.board.specs.declared.Board.{Board}
 use Rattle.frame.specs.Frame.{byte, writes}
 use Rattle.frame.specs.Reply.{replyBytes}
-use Rattle.registers.specs.Registers.{programs}
 use Rattle.reading.specs.declared.Summary.{Summary}
 use Rattle.reading.specs.Reading.{readOf, wholeSaid}
 use Rattle.stack.specs.Row.{placeOf}
 use Rattle.stack.specs.Open.{openBars}
 use Rattle.stack.specs.Frame.{framePlace}
-use Rattle.demands.specs.Paper.{Entry, sampled, wrote, programmed, asked, History, working, spent, latchesAt, flagsAt, given}
+use Rattle.demands.specs.Paper.{Entry, sampled, framed, History, programming, working, spent, latchesAt, flagsAt, given}
 use Rattle.demands.specs.Acts.{Act, sample, frame, reading, Outcome, bars, outcome, next, openedRow, final, answers}
 use Rattle.demands.specs.Shuffle.{picked, Shuffle}
 use Rattle.demands.specs.Tied.{tied}
@@ -54,7 +53,7 @@ rowGiven logs = map boardGiven logs
 -- ---- an act joins its board's log exactly if no row of the table refuses it
 
 abbrev pub frameEntry : List ℕ → Entry
-frameEntry bytes = cond (writes (byte bytes 0)) (cond (eqb (byte bytes 1) 11) programmed (wrote (byte bytes 1) (byte bytes 2))) asked
+frameEntry bytes = framed (byte bytes 0) (byte bytes 1) (byte bytes 2)
 
 abbrev pub joins : List Log → ℕ → Entry → List Log
 joins logs at e = set logs at (joined (logAt logs at) e)
@@ -79,9 +78,10 @@ readSays l register =
 -- a frame: its first two bytes, then the cycles spent, the byte written or what is read, and a fresh check
 abbrev pub frameSays : Log → List ℕ → List ℕ
 frameSays l bytes =
-    let write = writes (byte bytes 0) in
     let register = byte bytes 1 in
-    replyBytes (byte bytes 0) register (cond (programs write register) (spent (l .acts)) (cond write (byte bytes 2) (readSays l register)))
+    replyBytes (byte bytes 0) register
+    (cond (programming (frameEntry bytes)) (spent (l .acts))
+    (cond (writes (byte bytes 0)) (byte bytes 2) (readSays l register)))
 
 -- a whole-stack reading: what it takes from each board
 abbrev pub summaryGiven : Log → Summary

@@ -7,6 +7,5 @@ pub mod Tied
 pub mod Demands
 pub mod Examples
 pub mod Session
-pub mod Count
 pub mod Turns
 pub mod Mechanic

@@ -14,7 +14,7 @@ use Rattle.cells.specs.Each.{each}
 use Rattle.cells.specs.Bleed.{bled}
 use Rattle.latches.specs.Latches.{register0}
 use Rattle.board.specs.Shunt.{shuntAbove}
-use Rattle.demands.specs.Paper.{Entry, sampled, wrote, programmed, History, working, latched, latchesAt, flagsAt}
+use Rattle.demands.specs.Paper.{Entry, sampled, framed, History, working, latched, latchesAt, flagsAt}
 
 -- ---- histories, newest act first
 
@@ -42,9 +42,9 @@ shunt v = reads v (4000 ∷ 4000 ∷ 4000 ∷ 4000 ∷ 4000 ∷ [])
 abbrev pub three : Entry
 three = reads (pos 0) (4000 ∷ 4000 ∷ 4151 ∷ 4000 ∷ 4000 ∷ 4000 ∷ 4151 ∷ 4151 ∷ [])
 
--- a byte that was written and programmed
+-- a byte that was written and programmed; address 3 is a write to board 1
 abbrev pub with : ℕ → ℕ → Settings
-with register v = working (programmed ∷ wrote register v ∷ [])
+with register v = working (framed 3 11 0x41 ∷ framed 3 register v ∷ [])
 
 -- ---- the table
 

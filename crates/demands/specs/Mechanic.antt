@@ -16,10 +16,9 @@ use Rattle.frame.specs.Frame.{byte, writes}
 use Rattle.frame.specs.Reply.{replyBytes}
 use Rattle.stack.specs.Row.{placeOf, boardAt}
 use Rattle.stack.specs.Frame.{framePlace}
-use Rattle.demands.specs.Paper.{sampled, programmed, History, staged, working, spent, sampleOf, holds, runOf, places, letsGo}
+use Rattle.demands.specs.Paper.{Entry, sampled, framed, History, programming, staged, working, spends, howMany, spent, sampleOf, holds, runOf, places, letsGo}
 use Rattle.demands.specs.Acts.{Act, sample, frame, reading, outcome, next, openedRow, final}
 use Rattle.demands.specs.Table.{lent}
-use Rattle.demands.specs.Count.{differed, howMany}
 use Rattle.demands.specs.Turns.{Under, Calm}
 use Rattle.demands.specs.Demands.{Log, begun, logAt, taken, opens}
 
@@ -34,14 +33,15 @@ pub record Runs (f : Fault) (k : ℕ) (h : History) : Type 0 where
   -- a later one counts its own
   pub goes-on : (x : Readings) (mv : List ℕ) (t : ℕ) → holds f (working h) k (sampleOf x mv) ≡ true → runOf f k h ≡ some t
       → runOf f k (sampled x mv ∷ h) ≡ some (x .elapsed + t)
-  -- a spent cycle starts it over, an equal programming does not
-  pub starts-over : same (staged h) (working h) ≡ false → runOf f k (programmed ∷ h) ≡ none
-  pub not-at-equal : same (staged h) (working h) ≡ true → runOf f k (programmed ∷ h) ≡ runOf f k h
+  -- a spent cycle starts it over, and no other frame touches it, an equal programming among them
+  pub starts-over : (e : Entry) → spends e h ≡ true → runOf f k (e ∷ h) ≡ none
+  pub else-stays : (address register v : ℕ) → let e = framed address register v in spends e h ≡ false → runOf f k (e ∷ h) ≡ runOf f k h
 
--- and a programming of the cycles spent
-pub record Cycles (h : History) : Type 0 where
-  pub none-at-equal : same (staged h) (working h) ≡ true → spent (programmed ∷ h) ≡ spent h
-  pub one-at-unlike : same (staged h) (working h) ≡ false → spent (programmed ∷ h) ≡ spent h + 1
+-- and of the cycles spent: a programming spends one where staged and working differ, and nothing else does
+pub record Cycles (e : Entry) (h : History) : Type 0 where
+  pub none-at-equal : same (staged h) (working h) ≡ true → spent (e ∷ h) ≡ spent h
+  pub one-at-unlike : programming e ≡ true → same (staged h) (working h) ≡ false → spent (e ∷ h) ≡ spent h + 1
+  pub none-else : programming e ≡ false → spent (e ∷ h) ≡ spent h
 
 -- some one run is at or past the delay: that of a cell with OV and UV, of n cells
 abbrev pub Stood : ℕ → Fault → History → Type 0
@@ -79,7 +79,7 @@ pub record Answers (row : List Board) (logs : List Log) : Type 0 where
   -- a read of register 11 gives the number of programmings at which staged and working differed
   pub reads-cycles : (bytes buffer : List ℕ) → let l = logAt logs (framePlace bytes) in
       Accepted row (frame bytes buffer) → writes (byte bytes 0) ≡ false → byte bytes 1 ≡ 11
-      → outcome row (frame bytes buffer) .said ≡ accepts (replyBytes (byte bytes 0) 11 (howMany differed (l .acts)))
+      → outcome row (frame bytes buffer) .said ≡ accepts (replyBytes (byte bytes 0) 11 (howMany spends (l .acts)))
   -- programming with staged equal to working changes no record, and is never refused for want of a cycle
   pub equal-programming : (bytes buffer : List ℕ) → let l = logAt logs (framePlace bytes) in
       writes (byte bytes 0) ≡ true → byte bytes 1 ≡ 11 → same (staged (l .acts)) (working (l .acts)) ≡ true

@@ -4,7 +4,7 @@ use Prim.Native.Nat.{ℕ, _+_}
 use mathlib.Core.Bool.{Bool, false, cond, not, _&&_}
 use mathlib.Core.List.{List, [], _∷_, _++_}
 use mathlib.Core.Option.{Option}
-use lib.Dec.{ltb}
+use lib.Dec.{leb, ltb, eqb}
 use lib.ListN.{drop}
 use Rattle.settings.specs.declared.Settings.{Settings}
 use Rattle.settings.specs.Levels.{factory, ovLevel, ovRelease, uvLevel, uvRelease, ocdLevel, scdLevel}
@@ -22,42 +22,51 @@ use Rattle.board.specs.declared.Board.{Board}
 use Rattle.board.specs.declared.Readings.{Readings}
 use Rattle.board.specs.Shunt.{shuntAbove}
 use Rattle.board.specs.Sample.{hot, attached}
+use Rattle.frame.specs.Frame.{writes}
 
--- an accepted act of one board: a sample, a write to registers 6 to 10, a programming, a read
+-- an accepted act of one board: a sample, or a frame by its address, register and value
 pub data Entry : Type 0 where
   sampled : Readings → List ℕ → Entry
-  wrote : ℕ → ℕ → Entry
-  programmed : Entry
-  asked : Entry
+  framed : ℕ → ℕ → ℕ → Entry
 
 abbrev pub History : Type 0
 History = List Entry
 
--- ---- Frames and registers
+-- ---- Frames and registers: what an act does is asked by tests; one that passes none, as a read, leaves the settings
 
--- the staged settings: a write changes the byte of its register
+-- a write to registers 6 to 10 stages
+abbrev pub stages : Entry → Bool
+stages (sampled x mv) = false
+stages (framed address register v) = writes address && (leb 6 register && leb register 10)
+
+-- a write to register 11 programs
+abbrev pub programming : Entry → Bool
+programming (sampled x mv) = false
+programming (framed address register v) = writes address && eqb register 11
+
+-- the staged settings: a write that stages changes the byte of its register
 abbrev pub staged : History → Settings
 staged [] = factory
 staged (sampled x mv ∷ h) = staged h
-staged (wrote register v ∷ h) = withByte (staged h) register v
-staged (programmed ∷ h) = staged h
-staged (asked ∷ h) = staged h
+staged (framed address register v ∷ h) = cond (stages (framed address register v)) (withByte (staged h) register v) (staged h)
 
 -- the working settings: at a programming staged becomes working
 abbrev pub working : History → Settings
 working [] = factory
-working (sampled x mv ∷ h) = working h
-working (wrote register v ∷ h) = working h
-working (programmed ∷ h) = staged h
-working (asked ∷ h) = working h
+working (e ∷ h) = cond (programming e) (staged h) (working h)
 
--- the cycles spent: the accepted programmings at which staged and working differed
+-- a programming at which staged and working differ spends a cycle
+abbrev pub spends : Entry → History → Bool
+spends e h = programming e && not (same (staged h) (working h))
+
+-- of how many accepted acts something is so, each with the acts before it
+abbrev pub howMany : (Entry → History → Bool) → History → ℕ
+howMany so [] = 0
+howMany so (e ∷ h) = cond (so e h) (howMany so h + 1) (howMany so h)
+
+-- the cycles spent: the accepted programmings that did
 abbrev pub spent : History → ℕ
-spent [] = 0
-spent (sampled x mv ∷ h) = spent h
-spent (wrote register v ∷ h) = spent h
-spent (programmed ∷ h) = cond (same (staged h) (working h)) (spent h) (spent h + 1)
-spent (asked ∷ h) = spent h
+spent h = howMany spends h
 
 -- ---- When a fault latches and lets go
 
@@ -72,9 +81,7 @@ sampleOf x mv = record { readings = x; cells = mv }
 abbrev pub since : History → List Sample
 since [] = []
 since (sampled x mv ∷ h) = sampleOf x mv ∷ since h
-since (wrote register v ∷ h) = since h
-since (programmed ∷ h) = cond (same (staged h) (working h)) (since h) []
-since (asked ∷ h) = since h
+since (framed address register v ∷ h) = cond (spends (framed address register v) h) [] (since h)
 
 -- the table's second column; OV and UV at the cell of a place, counted from 0
 abbrev pub holds : Fault → Settings → ℕ → Sample → Bool
@@ -112,26 +119,22 @@ letsGo n OV s x = all (each 0 n (λ k. ltb (readingAt (x .cells) k) (ovRelease s
 letsGo n UV s x = all (each 0 n (λ k. ltb (uvRelease s) (readingAt (x .cells) k)))
 letsGo n OT s x = not (hot (x .readings))
 
--- at each accepted sample an unlatched fault latches exactly if it stands, and a latched one unlatches exactly if it lets go
+-- at each accepted sample an unlatched fault latches exactly if it stands, and a latched one unlatches exactly if it lets go; frames leave it
 abbrev pub latched : ℕ → Fault → History → Bool
 latched n f [] = false
 latched n f (sampled x mv ∷ h) = latchNext (latched n f h) (stands n f (sampled x mv ∷ h)) (letsGo n f (working h) (sampleOf x mv))
-latched n f (wrote register v ∷ h) = latched n f h
-latched n f (programmed ∷ h) = latched n f h
-latched n f (asked ∷ h) = latched n f h
+latched n f (framed address register v ∷ h) = latched n f h
 
 abbrev pub latchesAt : ℕ → History → Latches
 latchesAt n h = latches (λ f. latched n f h)
 
 -- ---- Bleeding
 
--- a cell is flagged when its OV run has stood the delay, and loses its flag when it reads low
+-- a cell is flagged when its OV run has stood the delay, and loses its flag when it reads low; frames leave it
 abbrev pub flagged : ℕ → History → Bool
 flagged k [] = false
 flagged k (sampled x mv ∷ h) = flagNext (working h) (stoodDelay OV k (sampled x mv ∷ h)) (flagged k h) (readingAt mv k)
-flagged k (wrote register v ∷ h) = flagged k h
-flagged k (programmed ∷ h) = flagged k h
-flagged k (asked ∷ h) = flagged k h
+flagged k (framed address register v ∷ h) = flagged k h
 
 abbrev pub flagsAt : ℕ → History → List Bool
 flagsAt n h = each 0 n (λ k. flagged k h)

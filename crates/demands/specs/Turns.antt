@@ -9,28 +9,26 @@ use lib.Signed.{ltZ}
 use Rattle.settings.specs.declared.Settings.{Settings}
 use Rattle.settings.specs.Faults.{Fault}
 use Rattle.board.specs.declared.Readings.{Readings}
-use Rattle.demands.specs.Paper.{sampled, wrote, programmed, asked, History, sampleOf, holds, places, stoodDelay}
+use Rattle.demands.specs.Paper.{sampled, framed, History, sampleOf, holds, places, stoodDelay}
 
 -- each for less than the delay: after no act has the run of any one of n cells stood it
 abbrev pub Under : ℕ → Fault → History → Type 0
 Under n f [] = Unit {0}
 Under n f (e ∷ h) = ((k : ℕ) → k < places f n → stoodDelay f k (e ∷ h) ≡ false) × Under n f h
 
--- the condition fails at every accepted sample, whatever settings work
-abbrev pub Calm : Fault → History → Type 0
-Calm f [] = Unit {0}
-Calm f (sampled x mv ∷ h) = ((s : Settings) (k : ℕ) → holds f s k (sampleOf x mv) ≡ false) × Calm f h
-Calm f (wrote register v ∷ h) = Calm f h
-Calm f (programmed ∷ h) = Calm f h
-Calm f (asked ∷ h) = Calm f h
+-- of every accepted sample it is so
+abbrev pub EverySample : (Readings → List ℕ → Type 0) → History → Type 0
+EverySample So [] = Unit {0}
+EverySample So (sampled x mv ∷ h) = So x mv × EverySample So h
+EverySample So (framed address register v ∷ h) = EverySample So h
 
--- every accepted sample has a charge current
+-- the condition fails, whatever settings work
+abbrev pub Calm : Fault → History → Type 0
+Calm f h = EverySample (λ x mv. (s : Settings) (k : ℕ) → holds f s k (sampleOf x mv) ≡ false) h
+
+-- a charge current
 abbrev pub Charging : History → Type 0
-Charging [] = Unit {0}
-Charging (sampled x mv ∷ h) = (ltZ (x .shunt) (pos 0) ≡ true) × Charging h
-Charging (wrote register v ∷ h) = Charging h
-Charging (programmed ∷ h) = Charging h
-Charging (asked ∷ h) = Charging h
+Charging h = EverySample (λ x mv. ltZ (x .shunt) (pos 0) ≡ true) h
 
 -- two cells by turns: one reads v, and the other four read low
 abbrev pub byTurns : Bool → ℕ → ℕ → List ℕ
