@@ -7,6 +7,7 @@ pub mod Tells
 pub mod Demanded
 pub mod Commute
 pub mod Places
+pub mod Swaps
 pub mod Order
 pub mod Examples
 pub mod Session

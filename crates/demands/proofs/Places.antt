@@ -1,4 +1,4 @@
--- A shuffle by places is one by taking out, and so one by swaps of neighbours; and the test tells just the shuffles.
+-- A shuffle by places is one by taking out, and a list of images is shuffled as its list is.
 -- Assumes nothing.
 use Prim.Native.Nat.{ℕ, zero, suc, _+_, _<_}
 use native.Mathlib.Nat.{not-suc-le-zero, le-of-suc-le-suc}
@@ -12,7 +12,38 @@ use lib.Seq.{split-at}
 use borrow.Author.Tests.{ltb-true, lt-ltb, eqb-true, eqb-false, eq-eqb, ne-eqb}
 use Rattle.lists.proofs.Split.{split}
 use Rattle.marks.specs.Marks.{bit}
-use Rattle.demands.specs.Shuffle.{picked, times, turn, Shuffle, Free, TakenOut, Swaps, as-it-is, swap}
+use Rattle.demands.specs.Shuffle.{picked, times, turn, Shuffle, Free, TakenOut}
+
+-- ---- an order whose places are called otherwise
+
+module _ (f : ℕ → ℕ) where
+  -- where `g` takes a name back
+  pub same-place : (g : ℕ → ℕ) → ((i : ℕ) → f (g i) ≡ i) → (i q : ℕ) → g (f q) ≡ q → eqb i (f q) ≡ eqb (g i) q
+  same-place g there i q back =
+      split (eqb (g i) q)
+      (λ e. eq-eqb i (f q) (sym (there i) ∙ ap f (eqb-true (g i) q e)) ∙ sym e)
+      (λ e. ne-eqb i (f q) (λ z. eqb-false (g i) q e (ap g z ∙ back)) ∙ sym e)
+
+  named : (q : ℕ) (order : List ℕ) → 0 < times q (q ∷ order)
+  named q order = rw (eq-eqb q q refl) (omega arith)
+
+  -- place i is named as often as place j was, and as early, where of the named ones just j is called i now
+  pub renamed-times : (i j : ℕ) (order : List ℕ) → ((q : ℕ) → 0 < times q order → eqb i (f q) ≡ eqb j q) → times i (map f order) ≡ times j order
+  renamed-times i j [] called = refl
+  renamed-times i j (q ∷ order) called =
+      ap₂ (λ (t : Bool) (k : ℕ). bit t + k) (called q (named q order)) (renamed-times i j order (λ r m. called r (omega arith)))
+
+  pub renamed-turn : (i j : ℕ) (order : List ℕ) → ((q : ℕ) → 0 < times q order → eqb i (f q) ≡ eqb j q) → turn i (map f order) ≡ turn j order
+  renamed-turn i j [] called = refl
+  renamed-turn i j (q ∷ order) called =
+      ap₂ (λ (t : Bool) (k : ℕ). cond t 0 (suc k)) (called q (named q order)) (renamed-turn i j order (λ r m. called r (omega arith)))
+
+  -- the entries of another list, if each stands where the new name says
+  pub renamed-picked : {A : Type 0} (none : A) (xs ys : List A) (order : List ℕ) → ((q : ℕ) → 0 < times q order → getD ys (f q) none ≡ getD xs q none)
+      → picked none (map f order) ys ≡ picked none order xs
+  renamed-picked none xs ys [] stands = refl
+  renamed-picked {A} none xs ys (q ∷ order) stands =
+      ap₂ (λ (x : A) (l : List A). x ∷ l) (stands q (named q order)) (renamed-picked none xs ys order (λ r m. stands r (omega arith)))
 
 -- ---- a list without the entry at a place: where another place is in it, and where it was
 
@@ -70,42 +101,6 @@ module _ {A : Type 0} (none : A) where
   without-inside (x ∷ xs) (suc p) (suc i) h =
       leb·suc-suc (suc (up p i)) (length xs) ∙ without-inside xs p i (le-of-suc-le-suc h) ∙ sym (leb·suc-suc (suc i) (length (without p xs)))
 
--- ---- an order, once the place that it names first is gone
-
-not-named : (p q : ℕ) (order : List ℕ) → times p (q ∷ order) ≡ 0 → (q ≡ p → ⊥) × (times p order ≡ 0)
-not-named p q order = by (eqb p q) refl
-  where
-    by : (t : Bool) → eqb p q ≡ t → bit t + times p order ≡ 0 → (q ≡ p → ⊥) × (times p order ≡ 0)
-    by true e h = absurd (omega arith)
-    by false e h = (λ z. eqb-false p q e (sym z), omega arith)
-
-same-place : (p i q : ℕ) → (q ≡ p → ⊥) → eqb i (down p q) ≡ eqb (up p i) q
-same-place p i q n =
-    split (eqb (up p i) q)
-    (λ e. eq-eqb i (down p q) (sym (down-up p i) ∙ ap (down p) (eqb-true (up p i) q e)) ∙ sym e)
-    (λ e. ne-eqb i (down p q) (λ z. eqb-false (up p i) q e (ap (up p) z ∙ up-down p q n)) ∙ sym e)
-
-times-left : (p i : ℕ) (order : List ℕ) → times p order ≡ 0 → times i (map (down p) order) ≡ times (up p i) order
-times-left p i [] h = refl
-times-left p i (q ∷ order) h =
-    let rest = not-named p q order h in
-    ap₂ (λ (t : Bool) (k : ℕ). bit t + k) (same-place p i q (rest .0)) (times-left p i order (rest .1))
-
-turn-left : (p i : ℕ) (order : List ℕ) → times p order ≡ 0 → turn i (map (down p) order) ≡ turn (up p i) order
-turn-left p i [] h = refl
-turn-left p i (q ∷ order) h =
-    let rest = not-named p q order h in
-    ap₂ (λ (t : Bool) (k : ℕ). cond t 0 (suc k)) (same-place p i q (rest .0)) (turn-left p i order (rest .1))
-
-picked-left : {A : Type 0} (none : A) (xs : List A) (p : ℕ) (order : List ℕ) → times p order ≡ 0
-    → picked none (map (down p) order) (without p xs) ≡ picked none order xs
-picked-left none xs p [] h = refl
-picked-left {A} none xs p (q ∷ order) h =
-    let rest = not-named p q order h in
-    ap₂ (λ (x : A) (l : List A). x ∷ l)
-    (without-at none xs p (down p q) ∙ ap (λ (k : ℕ). getD xs k none) (up-down p q (rest .0)))
-    (picked-left none xs p order (rest .1))
-
 -- ---- a list of images is shuffled as its list is
 
 pub picked-map : {A B : Type 0} (f : A → B) (none : A) (order : List ℕ) (xs : List A) → map f (picked none order xs) ≡ picked (f none) order (map f xs)
@@ -146,6 +141,18 @@ module _ {A : Type 0} (tied : A → A → Bool) (none : A) where
     not-again : times p order ≡ 0
     not-again = let one : times p (p ∷ order) ≡ 1 = w .once p ∙ ap bit first-inside in let first = names-first in omega arith
 
+    -- the places that are left, each called as in the list without the first
+    up-back : (q : ℕ) → 0 < times q order → up p (down p q) ≡ q
+    up-back q m = up-down p q (λ e. let some : 0 < times p order = subst (λ (r : ℕ). 0 < times r order) e m in let none-more = not-again in omega arith)
+
+    called : (i q : ℕ) → 0 < times q order → eqb i (down p q) ≡ eqb (up p i) q
+    called i q m = same-place (down p) (up p) (down-up p) i q (up-back q m)
+
+    rest-picked : picked none (map (down p) order) (without p xs) ≡ picked none order xs
+    rest-picked =
+        renamed-picked (down p) none xs (without p xs) order
+        (λ q m. without-at none xs p (down p q) ∙ ap (λ (k : ℕ). getD xs k none) (up-back q m))
+
     other : (i : ℕ) → eqb (up p i) p ≡ false
     other i = ne-eqb (up p i) p (up-other p i)
 
@@ -161,7 +168,7 @@ module _ {A : Type 0} (tied : A → A → Bool) (none : A) where
     others : Shuffle tied none (without p xs) (map (down p) order)
     others =
         record {
-          once = λ i. times-left p i order not-again ∙ once-left i ∙ ap bit (without-inside none xs p i here);
+          once = λ i. renamed-times (down p) i (up p i) order (called i) ∙ once-left i ∙ ap bit (without-inside none xs p i here);
           stays = λ i j h k t. stays-left i j h k t;
         }
       where
@@ -174,8 +181,8 @@ module _ {A : Type 0} (tied : A → A → Bool) (none : A) where
             let in-all : up p j < length xs = ltb-true (up p j) (length xs) (without-inside none xs p j here ∙ lt-ltb j (length (without p xs)) k) in
             let so : tied (getD xs (up p i) none) (getD xs (up p j) none) ≡ true = ap₂ tied (sym (without-at none xs p i)) (sym (without-at none xs p j)) ∙ t in
             let later : suc (turn (up p i) order) < suc (turn (up p j) order) = rw (other i, other j) at (w .stays (up p i) (up p j) (up-later p i j h) in-all so) in
-            let a = turn-left p i order not-again in
-            let b = turn-left p j order not-again in
+            let a = renamed-turn (down p) i (up p i) order (called i) in
+            let b = renamed-turn (down p) j (up p j) order (called j) in
             omega arith
 
   none-left : (xs : List A) → Shuffle tied none xs [] → xs ≡ []
@@ -198,7 +205,7 @@ module _ {A : Type 0} (tied : A → A → Bool) (none : A) where
         drop (suc p) xs,
         split-at xs p none (here xs p order w),
         first-free xs p order w,
-        subst (λ (l : List A). TakenOut tied (without p xs) l) (picked-left none xs p order (not-again xs p order w)) left,
+        subst (λ (l : List A). TakenOut tied (without p xs) l) (rest-picked xs p order w) left,
       )
 
   outs : (n : ℕ) → Outs n
@@ -207,30 +214,3 @@ module _ {A : Type 0} (tied : A → A → Bool) (none : A) where
 
   pub taken-out : (xs : List A) (order : List ℕ) → Shuffle tied none xs order → TakenOut tied xs (picked none order xs)
   taken-out xs order = outs (length order) xs order refl
-
--- ---- and by swaps
-
-module _ {A : Type 0} (tied : A → A → Bool) where
-  then : (xs ys zs : List A) → Swaps tied xs ys → Swaps tied ys zs → Swaps tied xs zs
-  then xs ys zs as-it-is v = v
-  then xs ys zs (swap before a b after f u) v = swap before a b after f (then (before ++ (b ∷ a ∷ after)) ys zs u v)
-
-  behind : (x : A) (xs ys : List A) → Swaps tied xs ys → Swaps tied (x ∷ xs) (x ∷ ys)
-  behind x xs ys as-it-is = as-it-is
-  behind x xs ys (swap before a b after f u) = swap (x ∷ before) a b after f (behind x (before ++ (b ∷ a ∷ after)) ys u)
-
-  to-front : (a : A) (before after : List A) → Free tied a before → Swaps tied (before ++ (a ∷ after)) (a ∷ (before ++ after))
-  to-front a [] after f = as-it-is
-  to-front a (b ∷ before) after f =
-      then (b ∷ (before ++ (a ∷ after))) (b ∷ a ∷ (before ++ after)) (a ∷ b ∷ (before ++ after))
-      (behind b (before ++ (a ∷ after)) (a ∷ (before ++ after)) (to-front a before after (f .1)))
-      (swap [] b a (before ++ after) (f .0) as-it-is)
-
-  swapped : (xs ys : List A) → TakenOut tied xs ys → Swaps tied xs ys
-  swapped xs [] w = subst (λ (l : List A). Swaps tied xs l) w as-it-is
-  swapped xs (a ∷ ys) (before, after, e, f, w) =
-      subst (λ (l : List A). Swaps tied l (a ∷ ys)) (sym e)
-      (then (before ++ (a ∷ after)) (a ∷ (before ++ after)) (a ∷ ys) (to-front a before after f) (behind a (before ++ after) ys (swapped (before ++ after) ys w)))
-
-  pub swaps : (none : A) (xs : List A) (order : List ℕ) → Shuffle tied none xs order → Swaps tied xs (picked none order xs)
-  swaps none xs order w = swapped xs (picked none order xs) (taken-out tied none xs order w)

@@ -62,3 +62,8 @@ pub data Swaps {A : Type 0} (tied : A → A → Bool) : List A → List A → Ty
   as-it-is : {xs : List A} → Swaps tied xs xs
   swap : (before : List A) (a b : A) (after : List A) {ys : List A} → tied a b ≡ false
       → Swaps tied (before ++ (b ∷ a ∷ after)) ys → Swaps tied (before ++ (a ∷ b ∷ after)) ys
+
+-- ---- of two lists: the other one is made by some order (the laws same-as-taken-out and same-as-swaps: just where it is made so)
+
+abbrev pub Shuffled : {A : Type 0} → (A → A → Bool) → A → List A → List A → Type 0
+Shuffled tied none xs ys = (order : List ℕ) × Shuffle tied none xs order × (picked none order xs ≡ ys)
