@@ -3,17 +3,24 @@
 #     make install PREFIX=DIR  DIR/lib/libadomvik.a, DIR/include/adomvik.h, and a pkg-config file and a CMake package for them
 #     make install TARGET=thumbv7em-none-eabi PREFIX=DIR    the same for another processor (ports/targets has them all);
 #                              FLAGS='-O2 -mcpu=cortex-m7' are clang's words beside those of the target, and win
-#     make faces               the tests of the C and Rust faces
-#     make ports               the tests of every processor, on emulators
+# And for whoever works on it, each over a script that can be called by itself:
+#     make check               proves every crate, runs the programs
+#     make test                the reference's own tests, the bench against it, and the two below
+#     make faces               the C and Rust faces against the reference
+#     make ports               the library on every processor, on emulators
+#     make refused             the wrong programs that the gate leaves out; CRATES='cells board' only theirs and of crates below
+#     make perf                the benchmarks
+#     make gate                what has to pass before anything lands
 PREFIX ?= /usr/local
 DESTDIR ?=
 TARGET ?= $(shell uname -m)-linux-gnu
 FLAGS ?=
+CRATES ?=
 VERSION := 1.0.0
 INTO := $(DESTDIR)$(PREFIX)
 BUILT := target/ports/$(TARGET)
 
-.PHONY: all install uninstall faces ports
+.PHONY: all install uninstall check test faces ports refused perf gate
 
 # rt itself knows what has changed since it last proved a crate
 all:
@@ -35,8 +42,23 @@ uninstall:
 	rm -f $(INTO)/lib/libadomvik.a $(INTO)/include/adomvik.h $(INTO)/lib/pkgconfig/adomvik.pc
 	rm -rf $(INTO)/lib/cmake/adomvik $(INTO)/lib/adomvik
 
+check:
+	rt check
+
+test: faces ports
+	python3 tests/reference/selftest.py && tests/differential 3000
+
 faces:
 	tests/faces 400
 
 ports:
 	tests/ports 120
+
+refused:
+	tests/refused $(CRATES)
+
+perf:
+	perf/face && perf/run && perf/ports
+
+gate:
+	.ci/run
