@@ -3,7 +3,7 @@
 //! A [`Row`] owns its board records. Every act returns its answer, or the [`Refusal`] of the paper's table; a refused act has
 //! changed nothing. What C callers must see to themselves (lengths, places that do not overlap) the types here see to.
 //!
-//! ```no_run
+//! ```
 //! use adomvik::{Readings, Row};
 //!
 //! let mut row = Row::open([5, 10])?;
@@ -59,16 +59,23 @@ impl Refusal {
         self as u8
     }
 
-    /// What the library returned: 0 is no refusal. By their contracts its functions return no number past 11.
+    /// What the library returned: 0 is no refusal. By their contracts its functions return no number past the table's, so the
+    /// last arm is that of 11 alone; a table looked up by the number would put a bounds panic into every image.
     fn check(number: u8) -> Result<(), Refusal> {
-        use Refusal::*;
-        const ALL: [Refusal; 11] = [
-            BadRow, NoBoard, CellList, Elapsed, OutOfRange, FrameLength, ReplyRoom, CheckByte, NoRegister, BadValue, NoCycle,
-        ];
-        match number {
-            0 => Ok(()),
-            n => Err(ALL[n as usize - 1]),
-        }
+        Err(match number {
+            0 => return Ok(()),
+            1 => Refusal::BadRow,
+            2 => Refusal::NoBoard,
+            3 => Refusal::CellList,
+            4 => Refusal::Elapsed,
+            5 => Refusal::OutOfRange,
+            6 => Refusal::FrameLength,
+            7 => Refusal::ReplyRoom,
+            8 => Refusal::CheckByte,
+            9 => Refusal::NoRegister,
+            10 => Refusal::BadValue,
+            _ => Refusal::NoCycle,
+        })
     }
 }
 
