@@ -46,7 +46,7 @@ check:
 	rt check
 
 test: faces ports
-	python3 tests/reference/selftest.py && tests/differential 3000
+	python3 tests/reference/selftest.py && tests/stored && tests/differential 3000
 
 faces:
 	tests/faces 400
