@@ -77,7 +77,8 @@ typedef struct adomvik_cell {
     uint32_t ov, uv;
 } adomvik_cell;
 
-/* One board. Records are made by adomvik_open; copy and keep them as plain bytes. */
+/* One board. Records are made by adomvik_open; copy and keep them as plain bytes. A byte of padding lies behind `cycles`, and two
+ * records that are equal otherwise may differ in it: compare records by their fields. */
 typedef struct adomvik_board {
     uint8_t count;              /* cells */
     uint8_t latches;            /* the low five bits of register 0 */
@@ -91,7 +92,7 @@ typedef struct adomvik_board {
 
 /* What a sample reads beside the cells. It is passed by value. */
 typedef struct adomvik_readings {
-    uint32_t elapsed;    /* us since the board's last sample */
+    uint32_t elapsed;    /* us since the board's last accepted sample; a refused sample's time is lost, not made up for later */
     int32_t shunt;       /* uV; discharge is positive, charge is negative */
     uint32_t thermistor; /* mV */
     uint32_t load;       /* 1 attached, 0 not */
@@ -129,7 +130,8 @@ uint8_t adomvik_sample(adomvik_board *row, size_t boards, uint32_t board, adomvi
 /* The same of one record that is lent by itself; no row is looked at. Refusals 1 (this record's cell count), 3, 4, 5. */
 uint8_t adomvik_sample_board(adomvik_board *board, adomvik_readings readings, const uint32_t *cells, size_t count, adomvik_sampled *out);
 
-/* A frame from the host. The reply takes the first four bytes of its buffer; later bytes stay. Refusals 1, 6, 7, 8, 2, 9, 10, 11. */
+/* A frame from the host. The reply takes the first four bytes of its buffer; later bytes stay. The frame and the reply must not
+ * be one buffer: what can be written overlaps nothing else. Refusals 1, 6, 7, 8, 2, 9, 10, 11. */
 uint8_t adomvik_frame(adomvik_board *row, size_t boards, const uint8_t *frame, size_t length, uint8_t *reply, size_t room);
 
 /* The whole-stack reading. Refusal 1, which no opened row gets. */
