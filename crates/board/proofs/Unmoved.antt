@@ -99,7 +99,7 @@ module _ (b : Board) (x : Readings) (mv : List ℕ) (q : quietOf b x mv ≡ true
   a-flag = not-yes (ltb 1 (x .load)) (both (not (shuntOutside (x .shunt))) (not (ltb 1 (x .load))) rest₄ .1)
 
   -- what the sample makes of the board
-  swept : sweptAt b x mv ≡ record { cells = b .cells; flags = 0; bled = 0; «ov_stood» = false; «ov_lets_go» = true; «uv_stood» = false; «uv_lets_go» = true }
+  swept : sweptAt b x mv ≡ record { cells = b .cells; flags = 0; bled = 0; «ov_stood» = 0; «uv_stood» = 0; «ov_lets_go» = true; «uv_lets_go» = true }
   swept = rw no-flag (calm-sweep (b .working) (x .elapsed) (b .cells) mv calm)
 
   unlatched : latchesAfter b x mv ≡ latches (λ _. false)

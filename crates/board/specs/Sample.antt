@@ -58,8 +58,8 @@ module _ (s : Settings) (swept : Swept) (runs : Currents) (x : Readings) where
   abbrev pub stands : Fault → Bool
   stands SCD = stood (delay SCD s) (runs .scd)
   stands OCD = stood (delay OCD s) (runs .ocd)
-  stands OV = swept .«ov_stood»
-  stands UV = swept .«uv_stood»
+  stands OV = not (eqb (swept .«ov_stood») 0)
+  stands UV = not (eqb (swept .«uv_stood») 0)
   stands OT = hot x
 
   -- the table's last column

@@ -111,8 +111,8 @@ fn latches_next(s: Settings, swept: Swept, runs: Currents, x: Readings, old: Lat
     Latches {
         scd: latches::latch_next(old.scd, scd_stood, !attached & !over_scd),
         ocd: latches::latch_next(old.ocd, ocd_stood, !attached & !over_ocd),
-        ov: latches::latch_next(old.ov, swept.ov_stood, swept.ov_lets_go),
-        uv: latches::latch_next(old.uv, swept.uv_stood, swept.uv_lets_go),
+        ov: latches::latch_next(old.ov, swept.ov_stood != 0, swept.ov_lets_go),
+        uv: latches::latch_next(old.uv, swept.uv_stood != 0, swept.uv_lets_go),
         ot: latches::latch_next(old.ot, hot, !hot),
     }
 }

@@ -6,14 +6,13 @@ use native.Mathlib.Omega.{arith}
 use mathlib.Core.Path.{_≡_, refl, sym, ap, _∙_}
 use mathlib.Core.Bool.{Bool, true, false, cond, not, _&&_}
 use mathlib.Core.List.{List, [], _∷_}
-use borrow.Author.Tests.{eqb-true, ne-eqb}
+use borrow.Author.Tests.{eqb-true}
 use lib.Dec.{eqb}
 use lib.ListN.{length, drop, length-drop, drop-of-length-le}
 use lib.Seq.{drop-cons}
 use lib.Pow.{pow-mono}
-use Rattle.marks.specs.Marks.{number, marked, marks, lowest}
-use Rattle.marks.proofs.Laws.{marks-length, marks-at, number-below, lowest-zero}
-use Rattle.cells.specs.Each.{some}
+use Rattle.marks.specs.Marks.{number, marked, marks}
+use Rattle.marks.proofs.Laws.{marks-length, marks-at, number-below}
 use Rattle.cells.specs.Bleed.{next, bled, markNext}
 
 -- a cell below others, and the number with it
@@ -25,16 +24,6 @@ mark-turn false above = omega arith
 -- the number of up to ten cells
 pub below-ten : (bs : List Bool) → length bs ≤ 10 → number bs < 1024
 below-ten bs h = lt-of-lt-of-le (number-below bs) (pow-mono h)
-
--- a number is not 0 exactly if it has some cell
-some-lowest : (k : ℕ) (bs : List Bool) → not (eqb (lowest (k + 1) bs) 0) ≡ some bs
-unfolding lowest
-some-lowest k [] = refl
-some-lowest k (true ∷ bs) = rw (ne-eqb (k + 1) 0 (λ e. omega arith))
-some-lowest k (false ∷ bs) = some-lowest (k + 1) bs
-
-pub some-number : (bs : List Bool) → not (eqb (number bs) 0) ≡ some bs
-some-number bs = rw (← lowest-zero 0 bs) (some-lowest 0 bs)
 
 bled-length : (flags : List Bool) → length (bled flags) ≡ length flags
 unfolding bled

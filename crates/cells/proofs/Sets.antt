@@ -1,15 +1,19 @@
--- The flagged cells as a set: by numbers, and cell by cell.
+-- Sets of cells, by numbers and cell by cell: the flagged ones, whether there is one at all, and whether a cell is in it.
 -- Assumes nothing.
-use Prim.Native.Nat.{ℕ, zero, suc, _/_, _%_, _^_, _<_}
+use Prim.Native.Nat.{ℕ, zero, suc, _+_, _/_, _%_, _^_, _<_}
 use native.Mathlib.Nat.{two-pow-succ, div-one, div-div-eq-div-mul, mod-eq-of-lt}
 use native.Mathlib.Omega.{arith}
 use mathlib.Core.Path.{_≡_, refl, sym, ap, ap₂, _∙_}
-use mathlib.Core.Bool.{Bool, not, _&&_, _||_}
+use mathlib.Core.Bool.{Bool, true, false, not, _&&_, _||_}
+use mathlib.Core.List.{List, [], _∷_}
+use borrow.Author.Tests.{ne-eqb}
 use lib.Bits.{bitOr}
-use Rattle.marks.specs.Marks.{number, marked, marks}
-use Rattle.marks.proofs.Laws.{without, number-marks, or-turn, without-turn}
-use Rattle.cells.specs.Each.{each}
+use lib.Dec.{eqb}
+use Rattle.marks.specs.Marks.{number, marked, marks, lowest}
+use Rattle.marks.proofs.Laws.{without, number-at, number-marks, or-turn, without-turn, lowest-zero}
+use Rattle.cells.specs.Each.{each, some}
 use Rattle.cells.specs.Cells.{flagAt}
+use Rattle.cells.proofs.Each.{each-length, each-place}
 
 module _ (f g : ℕ → Bool) where
   or-each : (i n : ℕ) → bitOr (number (each i n f)) (number (each i n g)) ≡ number (each i n (λ k. f k || g k))
@@ -43,3 +47,17 @@ flags-set stands low flags n hs hl =
     let kept : without (flags % 2 ^ n) low ≡ number (each 0 n (λ k. marked flags k && not (marked low k))) =
     ap₂ without (first-each flags n) (own-each low n hl) ∙ without-each (marked flags) (marked low) 0 n in
     ap₂ bitOr (own-each stands n hs) kept ∙ or-each (marked stands) (λ k. marked flags k && not (marked low k)) 0 n
+
+-- a number is not 0 exactly if it has some cell
+some-lowest : (k : ℕ) (bs : List Bool) → not (eqb (lowest (k + 1) bs) 0) ≡ some bs
+unfolding lowest
+some-lowest k [] = refl
+some-lowest k (true ∷ bs) = rw (ne-eqb (k + 1) 0 (λ e. omega arith))
+some-lowest k (false ∷ bs) = some-lowest (k + 1) bs
+
+pub some-number : (bs : List Bool) → not (eqb (number bs) 0) ≡ some bs
+some-number bs = rw (← lowest-zero 0 bs) (some-lowest 0 bs)
+
+-- a cell is in a set exactly if it is so at its place
+pub set-at : (f : ℕ → Bool) (n k : ℕ) → k < n → marked (number (each 0 n f)) k ≡ f k
+set-at f n k p = number-at (each 0 n f) k (rw (each-length f 0 n) p) ∙ each-place f n k false p

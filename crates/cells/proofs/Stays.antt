@@ -18,7 +18,7 @@ use Rattle.runs.specs.Kept.{runNext, stood}
 use Rattle.marks.specs.Marks.{number}
 use Rattle.marks.proofs.Laws.{marked-above}
 use Rattle.cells.specs.declared.Cell.{Cell}
-use Rattle.cells.specs.Each.{each, some, all}
+use Rattle.cells.specs.Each.{each, all}
 use Rattle.cells.specs.Bleed.{bled}
 use Rattle.cells.specs.Cells.{cellBy, cellAt, readingAt, cellCount, limitsOf, nextAt, ovStoodAt, uvStoodAt, flaggedAt, sweepBy, sweepOf, readable, noRun, noRuns, between, allBetween, calmOf}
 use Rattle.cells.proofs.Each.{each-same}
@@ -40,11 +40,6 @@ none-bled : (i n : ℕ) → bled (each i n (λ _. false)) ≡ each i n (λ _. fa
 unfolding each bled
 none-bled i zero = refl
 none-bled i (suc n) = rw (none-bled (suc i) n)
-
-none-some : (i n : ℕ) → some (each i n (λ _. false)) ≡ false
-unfolding each
-none-some i zero = refl
-none-some i (suc n) = none-some (suc i) n
 
 all-all : (i n : ℕ) → all (each i n (λ _. true)) ≡ true
 unfolding each
@@ -119,7 +114,7 @@ module _ (s : Settings) (elapsed : ℕ) (cells : List Cell) (mv : List ℕ) (cal
   no-flag : (k : ℕ) → k < cellCount mv → flaggedAt (limitsOf s) elapsed cells 0 mv k ≡ false
   no-flag k p = rw (no-ov k p, marked-above 0 0 k (omega arith) (omega arith))
 
-  pub calm-sweep : sweepOf s elapsed cells 0 mv ≡ record { cells = cells; flags = 0; bled = 0; «ov_stood» = false; «ov_lets_go» = true; «uv_stood» = false; «uv_lets_go» = true }
+  pub calm-sweep : sweepOf s elapsed cells 0 mv ≡ record { cells = cells; flags = 0; bled = 0; «ov_stood» = 0; «uv_stood» = 0; «ov_lets_go» = true; «uv_lets_go» = true }
   unfolding sweepBy
   calm-sweep =
       let n = cellCount mv in
@@ -135,8 +130,8 @@ module _ (s : Settings) (elapsed : ℕ) (cells : List Cell) (mv : List ℕ) (cal
       let kept = ap (λ (l : List Cell). l ++ drop n cells) same ∙ ap (λ (m : ℕ). each 0 n (λ k. getD cells k none) ++ drop m cells) (sym all-of) ∙ each-getD cells none 0 n there in
       let unflagged = ap number flags ∙ none-number 0 n in
       let unbled = ap (λ (l : List Bool). number (bled l)) flags ∙ ap number (none-bled 0 n) ∙ none-number 0 n in
-      let no-ov-yet = ap some ov ∙ none-some 0 n in
-      let no-uv-yet = ap some uv ∙ none-some 0 n in
+      let no-ov-yet = ap number ov ∙ none-number 0 n in
+      let no-uv-yet = ap number uv ∙ none-number 0 n in
       let ov-goes = ap all below ∙ all-all 0 n in
       let uv-goes = ap all above ∙ all-all 0 n in
-      λ i. record { cells = kept i; flags = unflagged i; bled = unbled i; «ov_stood» = no-ov-yet i; «ov_lets_go» = ov-goes i; «uv_stood» = no-uv-yet i; «uv_lets_go» = uv-goes i }
+      λ i. record { cells = kept i; flags = unflagged i; bled = unbled i; «ov_stood» = no-ov-yet i; «uv_stood» = no-uv-yet i; «ov_lets_go» = ov-goes i; «uv_lets_go» = uv-goes i }

@@ -12,7 +12,7 @@ use Rattle.runs.specs.Kept.{runNext, stood}
 use Rattle.marks.specs.Marks.{number, marked}
 use Rattle.cells.specs.declared.Cell.{Cell}
 use Rattle.cells.specs.declared.Swept.{Swept}
-use Rattle.cells.specs.Each.{each, some, all}
+use Rattle.cells.specs.Each.{each, all}
 use Rattle.cells.specs.Bleed.{bled}
 
 -- OV is a cell above its level, UV a cell below its level; a cell keeps a run of each
@@ -72,7 +72,7 @@ module _ (l : Limits) (elapsed : ℕ) (cells : List Cell) (flags : ℕ) (mv : Li
   abbrev pub flaggedAt : ℕ → Bool
   flaggedAt k = flagBy (l .ovRelease) (ovStoodAt k) (marked flags k) (readingAt mv k)
 
-  -- of all cells: those after the sample, the flagged and the bled ones; OV and UV have stood for some one cell;
+  -- of all cells: those after the sample, the flagged and the bled ones, and those whose OV run and whose UV run has stood;
   -- all cells are where OV and UV let go. What a board keeps past its cells stays
   unfoldable pub sweepBy : Swept
   sweepBy =
@@ -80,9 +80,9 @@ module _ (l : Limits) (elapsed : ℕ) (cells : List Cell) (flags : ℕ) (mv : Li
         cells = each 0 (cellCount mv) nextAt ++ drop (cellCount mv) cells;
         flags = number (each 0 (cellCount mv) flaggedAt);
         bled = number (bled (each 0 (cellCount mv) flaggedAt));
-        «ov_stood» = some (each 0 (cellCount mv) ovStoodAt);
+        «ov_stood» = number (each 0 (cellCount mv) ovStoodAt);
+        «uv_stood» = number (each 0 (cellCount mv) uvStoodAt);
         «ov_lets_go» = all (each 0 (cellCount mv) (λ k. ltb (readingAt mv k) (l .ovRelease)));
-        «uv_stood» = some (each 0 (cellCount mv) uvStoodAt);
         «uv_lets_go» = all (each 0 (cellCount mv) (λ k. ltb (l .uvRelease) (readingAt mv k)));
       }
 

@@ -17,14 +17,14 @@ pub struct Cell {
     pub uv: u32,
 }
 
-// What one pass over the cells gives. The flagged and the bled cells are numbers.
+// What one pass over the cells gives. The flagged and the bled cells and those whose OV or UV run has stood are sets, as numbers.
 pub struct Swept {
     pub cells: [Cell; 10],
     pub flags: u16,
     pub bled: u16,
-    pub ov_stood: bool,
+    pub ov_stood: u16,
+    pub uv_stood: u16,
     pub ov_lets_go: bool,
-    pub uv_stood: bool,
     pub uv_lets_go: bool,
 }
 
@@ -87,11 +87,11 @@ pub fn sweep(s: Settings, elapsed: u32, cells: [Cell; 10], flags: u16, mv: &[u32
     let uv_release = s.uv_release();
     let uv_delay = s.uv_delay();
     let mut next = cells;
-    // the cells whose OV run has stood, and those that read lower than where OV lets go, as numbers
-    let mut stood = 0;
+    // the cells whose OV run and whose UV run has stood, and those that read lower than where OV lets go, as numbers
+    let mut ov_stood = 0;
+    let mut uv_stood = 0;
     let mut low = 0;
     let mut ov_lets_go = true;
-    let mut uv_stood = false;
     let mut uv_lets_go = true;
     let n = cell_count(mv.len());
     let mut i = n;
@@ -102,22 +102,22 @@ pub fn sweep(s: Settings, elapsed: u32, cells: [Cell; 10], flags: u16, mv: &[u32
         let uv_run = runs::advance(next[i].uv, v < uv, elapsed);
         next[i].ov = ov_run;
         next[i].uv = uv_run;
-        stood = mark_next(runs::has_stood(ov_delay, ov_run), stood);
+        ov_stood = mark_next(runs::has_stood(ov_delay, ov_run), ov_stood);
+        uv_stood = mark_next(runs::has_stood(uv_delay, uv_run), uv_stood);
         let under = v < ov_release;
         low = mark_next(under, low);
         ov_lets_go = under & ov_lets_go;
-        uv_stood = runs::has_stood(uv_delay, uv_run) | uv_stood;
         uv_lets_go = (uv_release < v) & uv_lets_go;
     }
-    let flagged = flags_next(stood, low, flags, n);
+    let flagged = flags_next(ov_stood, low, flags, n);
     Swept {
         cells: next,
         flags: flagged,
         // behind the pass, as cells are seldom flagged
         bled: bled_of(flagged, n),
-        ov_stood: stood != 0,
-        ov_lets_go: ov_lets_go,
+        ov_stood: ov_stood,
         uv_stood: uv_stood,
+        ov_lets_go: ov_lets_go,
         uv_lets_go: uv_lets_go,
     }
 }

@@ -14,14 +14,13 @@ use Rattle.settings.specs.declared.Settings.{Settings}
 use Rattle.settings.specs.Bytes.{withByte, same}
 use Rattle.settings.specs.Faults.{Fault, SCD, OCD, OV, UV, OT, delay}
 use Rattle.marks.specs.Marks.{number, marked}
-use Rattle.marks.proofs.Laws.{number-at}
 use Rattle.runs.specs.Run.{past, lasting, stretch, total}
 use Rattle.runs.specs.Kept.{kept, runNext, stood}
 use Rattle.runs.proofs.Laws.{kept-run, stood-delay}
 use Rattle.cells.specs.declared.Cell.{Cell}
 use Rattle.cells.specs.declared.Swept.{Swept}
 use Rattle.cells.specs.Each.{each, some as someOf}
-use Rattle.cells.proofs.Each.{each-length, each-place}
+use Rattle.cells.proofs.Sets.{some-number, set-at}
 use Rattle.cells.specs.Bleed.{bled}
 use Rattle.cells.specs.Cells.{cellBy, cellAt, readingAt, cellCount, noCells, limitsOf, nextAt, flaggedAt, flagBy, sweepBy}
 use Rattle.latches.specs.Latches.{latches, latchNext, latchesByte}
@@ -92,9 +91,7 @@ module _ (n : ℕ) (few : n ≤ 10) (h : History) (x : Readings) (mv : List ℕ)
 
   -- the flag at a place
   flag-was : (k : ℕ) → k < n → marked (given n h .flags) k ≡ flagged k h
-  flag-was k p =
-      let f : ℕ → Bool = λ k. flagged k h in
-      number-at (flagsAt n h) k (rw (each-length f 0 n) p) ∙ each-place f n k false p
+  flag-was k p = set-at (λ k. flagged k h) n k p
 
   abbrev flags : ℕ → Bool
   flags = flaggedAt (limitsOf (working h)) (x .elapsed) (given n h .cells) (given n h .flags) mv
@@ -116,8 +113,8 @@ module _ (n : ℕ) (few : n ≤ 10) (h : History) (x : Readings) (mv : List ℕ)
   unfolding sweepBy currentsNext each
   stands-is SCD = stood-after SCD 0 ∙ sym (or-false (stoodDelay SCD 0 after))
   stands-is OCD = stood-after OCD 0 ∙ sym (or-false (stoodDelay OCD 0 after))
-  stands-is OV = rw count-is (ap someOf (each-same n _ _ ov-is))
-  stands-is UV = rw count-is (ap someOf (each-same n _ _ uv-is))
+  stands-is OV = some-number (each 0 (cellCount mv) (λ k. stood (delay OV (working h)) (nexts k .ov))) ∙ rw count-is (ap someOf (each-same n _ _ ov-is))
+  stands-is UV = some-number (each 0 (cellCount mv) (λ k. stood (delay UV (working h)) (nexts k .uv))) ∙ rw count-is (ap someOf (each-same n _ _ uv-is))
   stands-is OT = no-delay (hot x) (sampleOf x mv) (stretch (holds OT (working h) 0) (since h)) ∙ sym (or-false (stoodDelay OT 0 after))
 
   lets-is : (f : Fault) → board.letsGo (working h) swept currents x f ≡ letsGo n f (working h) (sampleOf x mv)

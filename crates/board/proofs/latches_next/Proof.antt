@@ -48,20 +48,20 @@ returns : tie.Need-returns
 unfolding latchesNext
 returns c =
     let c1 = c .before in
-    let c2 = c1 .before in
-    let c3 = c2 .before in
-    let c4 = c3 .before in
-    let c7 = c4 .before .before .before in
-    let c8 = c7 .before in
-    let c9 = c8 .before in
+    let c3 = c1 .before .before in
+    let c5 = c3 .before .before in
+    let c6 = c5 .before in
+    let c9 = c6 .before .before .before in
     let c10 = c9 .before in
-    let c12 = c10 .before .before in
-    let c13 = c12 .before in
-    let c14 = c13 .before in
+    let c11 = c10 .before in
+    let c12 = c11 .before in
+    let c14 = c12 .before .before in
     let c15 = c14 .before in
     let c16 = c15 .before in
-    let back = toZ-ofZ {w = w32} {z = c16 .before .args .x .shunt} (record { sfits = c8 .struct-told2 .given .1 .0 .1 }) in
-    rw (c .latch-next5 .ensures, c1 .latch-next4 .ensures, c2 .latch-next3 .ensures, c3 .latch-next2 .ensures, c4 .latch-next .ensures, c7 .shunt-above2 .ensures, c9 .ocd-level .ensures, c10 .shunt-above .ensures, c12 .scd-level .ensures, c13 .has-stood2 .ensures, c14 .ocd-delay .ensures, c15 .has-stood .ensures, c16 .scd-delay .ensures, back)
+    let c17 = c16 .before in
+    let c18 = c17 .before in
+    let back = toZ-ofZ {w = w32} {z = c18 .before .args .x .shunt} (record { sfits = c10 .struct-told2 .given .1 .0 .1 }) in
+    rw (c .latch-next5 .ensures, c1 .latch-next4 .ensures, c3 .latch-next3 .ensures, c5 .latch-next2 .ensures, c6 .latch-next .ensures, c9 .shunt-above2 .ensures, c11 .ocd-level .ensures, c12 .shunt-above .ensures, c14 .scd-level .ensures, c15 .has-stood2 .ensures, c16 .ocd-delay .ensures, c17 .has-stood .ensures, c18 .scd-delay .ensures, back)
 
 pub latches-next-spec : {M : Type 1} → statement M
 latches-next-spec =

@@ -4,16 +4,16 @@ use mathlib.Core.Path.{_≡_, ap, _∙_}
 use borrow.Author.Needs.{needs}
 use lib.ListN.{length}
 use Rattle.cells.specs.Cells.{cellCount, Limits, limitsOf, sweepBy}
-use Rattle.cells.proofs.Gather.{Gathered, nothing, turn, few-standing, few-lower, two-sets, done}
+use Rattle.cells.proofs.Gather.{Gathered, nothing, turn, few-ov, few-uv, few-lower, two-sets, done}
 use Rattle.cells.proofs.sweep.Statement.{statement}
 use Rattle.cells.proofs.sweep.Tie as tie
 
 abbrev Inv-loop : tie.InvT-loop
-Inv-loop elapsed flags mv ov ov-release ov-delay uv uv-release uv-delay next₀ stood₀ low₀ ov-lets-go₀ uv-stood₀ uv-lets-go₀ n i₀ next stood low ov-lets-go uv-stood uv-lets-go i =
-    (i ≤ n) × (n ≡ cellCount mv) × (length next₀ ≡ 10) × Gathered (record { ov = ov; ovRelease = ov-release; ovDelay = ov-delay; uv = uv; uvRelease = uv-release; uvDelay = uv-delay }) elapsed next₀ flags mv n i next stood low ov-lets-go uv-stood uv-lets-go
+Inv-loop elapsed flags mv ov ov-release ov-delay uv uv-release uv-delay next₀ ov-stood₀ uv-stood₀ low₀ ov-lets-go₀ uv-lets-go₀ n i₀ next ov-stood uv-stood low ov-lets-go uv-lets-go i =
+    (i ≤ n) × (n ≡ cellCount mv) × (length next₀ ≡ 10) × Gathered (record { ov = ov; ovRelease = ov-release; ovDelay = ov-delay; uv = uv; uvRelease = uv-release; uvDelay = uv-delay }) elapsed next₀ flags mv n i next ov-stood uv-stood low ov-lets-go uv-lets-go
 
 abbrev μ-loop : tie.MeasureT-loop
-μ-loop elapsed flags mv ov ov-release ov-delay uv uv-release uv-delay next₀ stood₀ low₀ ov-lets-go₀ uv-stood₀ uv-lets-go₀ n i₀ next stood low ov-lets-go uv-stood uv-lets-go i = i
+μ-loop elapsed flags mv ov ov-release ov-delay uv uv-release uv-delay next₀ ov-stood₀ uv-stood₀ low₀ ov-lets-go₀ uv-lets-go₀ n i₀ next ov-stood uv-stood low ov-lets-go uv-lets-go i = i
 
 ov-level-requires : tie.Need-ov-level-requires Inv-loop μ-loop
 ov-level-requires c κs = search needs
@@ -88,15 +88,20 @@ has-stood-requires c κs = search needs
 mark-next-requires : tie.Need-mark-next-requires Inv-loop μ-loop
 mark-next-requires c κs =
     let h = c .before .before .before .before .before .before .before in
-    few-standing _ _ _ _ _ _ (h .loop .inv .3) (omega arith)
-
-mark-next-requires-2 : tie.Need-mark-next-requires-2 Inv-loop μ-loop
-mark-next-requires-2 c κs =
-    let h = c .before .before .before .before .before .before .before .before in
-    few-lower _ _ _ _ _ _ (h .loop .inv .3) (omega arith)
+    few-ov _ _ _ _ _ _ (h .loop .inv .3) (omega arith)
 
 has-stood-requires-2 : tie.Need-has-stood-requires-2 Inv-loop μ-loop
 has-stood-requires-2 c κs = search needs
+
+mark-next-requires-2 : tie.Need-mark-next-requires-2 Inv-loop μ-loop
+mark-next-requires-2 c κs =
+    let h = c .before .before .before .before .before .before .before .before .before in
+    few-uv _ _ _ _ _ _ (h .loop .inv .3) (omega arith)
+
+mark-next-requires-3 : tie.Need-mark-next-requires-3 Inv-loop μ-loop
+mark-next-requires-3 c κs =
+    let h = c .before .before .before .before .before .before .before .before .before .before in
+    few-lower _ _ _ _ _ _ (h .loop .inv .3) (omega arith)
 
 loop-less : tie.Need-loop-less Inv-loop μ-loop
 loop-less c = search needs
@@ -106,10 +111,11 @@ loop-again c =
     let c1 = c .before in
     let c2 = c1 .before in
     let c3 = c2 .before in
-    let c6 = c3 .before .before .before in
-    let c7 = c6 .before in
-    let h = c7 .before .before .before in
-    (search needs, h .loop .inv .1, h .loop .inv .2, rw (c2 .mark-next .ensures, c1 .mark-next2 .ensures) (turn _ _ _ _ _ _ _ _ _ _ (h .loop .inv .3) (c7 .advance .ensures) (c6 .advance2 .ensures) (c3 .has-stood .ensures) (c .has-stood2 .ensures) (omega arith) (omega arith) (omega arith)))
+    let c4 = c3 .before in
+    let c7 = c4 .before .before .before in
+    let c8 = c7 .before in
+    let h = c8 .before .before .before in
+    (search needs, h .loop .inv .1, h .loop .inv .2, rw (c3 .mark-next .ensures, c1 .mark-next2 .ensures, c .mark-next3 .ensures) (turn _ _ _ _ _ _ _ _ _ _ (h .loop .inv .3) (c8 .advance .ensures) (c7 .advance2 .ensures) (c4 .has-stood .ensures) (c2 .has-stood2 .ensures) (omega arith) (omega arith) (omega arith)))
 
 flags-next-requires : tie.Need-flags-next-requires Inv-loop μ-loop
 flags-next-requires c κs =
@@ -163,8 +169,9 @@ sweep-spec =
     way-write-given-next-2
     has-stood-requires
     mark-next-requires
-    mark-next-requires-2
     has-stood-requires-2
+    mark-next-requires-2
+    mark-next-requires-3
     loop-less
     loop-again
     flags-next-requires
