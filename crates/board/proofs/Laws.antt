@@ -2,16 +2,21 @@
 -- Assumes nothing.
 use Prim.Native.Nat.{ℕ}
 use mathlib.Core.Path.{_≡_, refl}
-use mathlib.Core.Bool.{Bool}
+use mathlib.Core.Bool.{Bool, not}
 use mathlib.Core.List.{List}
+use lib.Dec.{ltb, leb}
+use borrow.Author.Tests.{le-leb, lt-leb, ltb-true, ltb-false}
+use Rattle.lists.proofs.Split.{split}
 use Rattle.refusal.proofs.Laws.{said-refused}
 use Rattle.settings.specs.Faults.{Fault, SCD, OCD, OV, UV, OT}
+use Rattle.cells.specs.Ends.{highOf, spanOf}
+use Rattle.cells.proofs.Ends.{every-within}
 use Rattle.board.specs.declared.Board.{Board}
 use Rattle.board.specs.declared.Readings.{Readings}
 use Rattle.board.specs.declared.Answer.{Answer}
 use Rattle.board.specs.declared.Answer.the-variants.{Sampled, Refused}
 use Rattle.latches.specs.Latches.{latch, latches, latchNext, latchesOf}
-use Rattle.board.specs.Sample.{answerSaid, answerSaying, sweptAt, latchesAfter, latchesNext, boardNext, currentsNext, stands, letsGo}
+use Rattle.board.specs.Sample.{answerSaid, answerSaying, sweptAt, latchesAfter, latchesNext, boardNext, currentsNext, stands, letsGo, outOfRange, outOfRangeBy}
 use Rattle.latches.proofs.Packed.{latches-kept}
 
 -- an answer is determined by the number and the values that it says
@@ -30,7 +35,14 @@ latch-of OT on = refl
 -- at an accepted sample an unlatched fault latches exactly if its condition has stood its delay, and a latched one unlatches exactly if it lets go
 pub latch-after : (f : Fault) (b : Board) (x : Readings) (mv : List ℕ)
     → latch f (latchesOf (boardNext b x mv .latches))
-    ≡ latchNext (latch f (latchesOf (b .latches))) (stands (b .working) (sweptAt b x mv) (currentsNext (b .working) (b .currents) x) x f)
-    (letsGo (b .working) (sweptAt b x mv) (currentsNext (b .working) (b .currents) x) x f)
+    ≡ latchNext (latch f (latchesOf (b .latches))) (stands (b .working) (sweptAt b x mv) (spanOf mv) (currentsNext (b .working) (b .currents) x) x f)
+    (letsGo (b .working) (sweptAt b x mv) (spanOf mv) (currentsNext (b .working) (b .currents) x) x f)
 unfolding boardNext latchesNext
 latch-after f b x mv = rw (latches-kept (latchesAfter b x mv), latch-of f)
+
+-- a cell reads above 5,000 mV exactly if the highest does
+above-not-within : (most v : ℕ) → ltb most v ≡ not (leb v most)
+above-not-within most v = split (ltb most v) (λ e. rw (e, lt-leb v most (ltb-true most v e))) (λ e. rw (e, le-leb v most (ltb-false most v e)))
+
+pub range-by : (x : Readings) (mv : List ℕ) → outOfRangeBy x (spanOf mv) ≡ outOfRange x mv
+range-by x mv = rw (every-within 5000 mv, above-not-within 5000 (highOf mv))

@@ -6,6 +6,7 @@ use mathlib.Core.Bool.{Bool, true, false, cond, not, _&&_}
 use mathlib.Core.List.{List}
 use lib.Dec.{T as Holds, eqb}
 use Rattle.refusal.specs.Said.{accepts, refuses, first}
+use Rattle.cells.specs.Ends.{spanOf}
 use Rattle.board.specs.declared.Board.{Board}
 use Rattle.board.specs.declared.Readings.{Readings}
 use Rattle.board.specs.declared.Answer.{Answer}
@@ -25,7 +26,7 @@ module _ (b : Board) (x : Readings) (mv : List ℕ) where
   abbrev after : Bool → Board
   after accepted = cond accepted (boardNext b x mv) b
 
-  enough : (accepted quiet : Bool) → quietOf b x mv ≡ quiet → let found = cond (accepted && not quiet) Changes (Stays (answer accepted)) in Holds (staysOf found) → (answerOf found ≡ answer accepted) × (b ≡ after accepted)
+  enough : (accepted quiet : Bool) → quietOf b x (spanOf mv) ≡ quiet → let found = cond (accepted && not quiet) Changes (Stays (answer accepted)) in Holds (staysOf found) → (answerOf found ≡ answer accepted) × (b ≡ after accepted)
   enough true true q so = (refl, sym (same-board b x mv q))
   enough true false q so = absurd so
   enough false quiet q so = (refl, refl)
@@ -37,8 +38,8 @@ module _ (b : Board) (x : Readings) (mv : List ℕ) where
 
   pub look-enough : Holds (staysOf (lookOf b x mv)) → (answerOf (lookOf b x mv) ≡ sampleOf b x mv .answer) × (b ≡ sampleOf b x mv .board)
   unfolding lookOf sampleOf
-  look-enough = enough (eqb refusal 0) (quietOf b x mv) refl
+  look-enough = enough (eqb refusal 0) (quietOf b x (spanOf mv)) refl
 
   pub look-goes-on : Holds (not (staysOf (lookOf b x mv))) → (acceptedOf b x mv .answer ≡ sampleOf b x mv .answer) × (acceptedOf b x mv .board ≡ sampleOf b x mv .board)
   unfolding lookOf sampleOf acceptedOf
-  look-goes-on = goes-on (eqb refusal 0) (quietOf b x mv)
+  look-goes-on = goes-on (eqb refusal 0) (quietOf b x (spanOf mv))

@@ -14,6 +14,7 @@ use Rattle.settings.specs.Faults.{SCD, OCD, delay}
 use Rattle.runs.specs.Kept.{runNext, stood}
 use Rattle.marks.specs.Marks.{number}
 use Rattle.cells.specs.declared.Swept.{Swept}
+use Rattle.cells.specs.Ends.{spanOf}
 use Rattle.cells.specs.Cells.{calmOf}
 use Rattle.cells.proofs.Stays.{calm-readable, calm-sweep}
 use Rattle.latches.specs.Latches.{latches, latchesByte, register0}
@@ -25,10 +26,10 @@ use Rattle.board.specs.Shunt.{shuntAbove, shuntOutside}
 use Rattle.board.specs.Sample.{currentsNext, latchesNext, hot, sweptAt, latchesAfter, boardNext, outside, badBoard, outOfRange, sampleOf, clear, idle, currentsBelow, warm, quietOf}
 use Rattle.board.specs.Look.{lookOf}
 
-module _ (b : Board) (x : Readings) (mv : List ℕ) (q : quietOf b x mv ≡ true) where
+module _ (b : Board) (x : Readings) (mv : List ℕ) (q : quietOf b x (spanOf mv) ≡ true) where
   -- its parts
   abbrev calmly : Bool
-  calmly = calmOf (b .working) (b .cells) mv
+  calmly = calmOf (b .working) (b .cells) (spanOf mv)
 
   abbrev after₄ : Bool
   after₄ = not (shuntOutside (x .shunt)) && not (ltb 1 (x .load))
@@ -99,7 +100,7 @@ module _ (b : Board) (x : Readings) (mv : List ℕ) (q : quietOf b x mv ≡ true
   a-flag = not-yes (ltb 1 (x .load)) (both (not (shuntOutside (x .shunt))) (not (ltb 1 (x .load))) rest₄ .1)
 
   -- what the sample makes of the board
-  swept : sweptAt b x mv ≡ record { cells = b .cells; flags = 0; bled = 0; «ov_stood» = 0; «uv_stood» = 0; «ov_lets_go» = true; «uv_lets_go» = true }
+  swept : sweptAt b x mv ≡ record { cells = b .cells; flags = 0; bled = 0; «ov_stood» = 0; «uv_stood» = 0 }
   swept = rw no-flag (calm-sweep (b .working) (x .elapsed) (b .cells) mv calm)
 
   unlatched : latchesAfter b x mv ≡ latches (λ _. false)

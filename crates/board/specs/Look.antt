@@ -6,6 +6,7 @@ use mathlib.Core.List.{List}
 use lib.Dec.{eqb}
 use Rattle.refusal.specs.declared.Refusal.the-variants.{Malformed}
 use Rattle.refusal.specs.Said.{first}
+use Rattle.cells.specs.Ends.{spanOf}
 use Rattle.board.specs.declared.Board.{Board}
 use Rattle.board.specs.declared.Readings.{Readings}
 use Rattle.board.specs.declared.Answer.{Answer}
@@ -16,7 +17,7 @@ use Rattle.board.specs.Sample.{sampleBars, sampleOf, quietOf}
 
 -- an accepted sample that is not quiet
 abbrev pub changes : Board → Readings → List ℕ → Bool
-changes b x mv = eqb (first (sampleBars b x mv)) 0 && not (quietOf b x mv)
+changes b x mv = eqb (first (sampleBars b x mv)) 0 && not (quietOf b x (spanOf mv))
 
 unfoldable pub lookOf : Board → Readings → List ℕ → Found
 lookOf b x mv = cond (changes b x mv) Changes (Stays (sampleOf b x mv .answer))

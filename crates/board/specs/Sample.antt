@@ -8,10 +8,12 @@ use lib.ListN.{length}
 use Rattle.refusal.specs.Refusals.{numberOf, numbered}
 use Rattle.refusal.specs.Said.{Said, refuses, accepts, value, Bar, bar, judged, kept}
 use Rattle.settings.specs.declared.Settings.{Settings}
-use Rattle.settings.specs.Levels.{factory, ocdLevel, scdLevel}
+use Rattle.settings.specs.Levels.{factory, ovRelease, uvRelease, ocdLevel, scdLevel}
 use Rattle.settings.specs.Faults.{Fault, SCD, OCD, OV, UV, OT, delay}
 use Rattle.runs.specs.Kept.{runNext, stood}
+use Rattle.cells.specs.declared.Span.{Span}
 use Rattle.cells.specs.declared.Swept.{Swept}
+use Rattle.cells.specs.Ends.{spanOf}
 use Rattle.cells.specs.Cells.{sweepOf, noCells, readable, calmOf}
 use Rattle.board.specs.declared.Board.{Board}
 use Rattle.board.specs.declared.Currents.{Currents}
@@ -53,7 +55,7 @@ hot x = ltb (x .thermistor) 975
 abbrev pub attached : Readings → Bool
 attached x = eqb (x .load) 1
 
-module _ (s : Settings) (swept : Swept) (runs : Currents) (x : Readings) where
+module _ (s : Settings) (swept : Swept) (span : Span) (runs : Currents) (x : Readings) where
   -- the condition has stood its delay, for some one cell with OV and UV; overtemperature has no delay
   abbrev pub stands : Fault → Bool
   stands SCD = stood (delay SCD s) (runs .scd)
@@ -62,12 +64,12 @@ module _ (s : Settings) (swept : Swept) (runs : Currents) (x : Readings) where
   stands UV = not (eqb (swept .«uv_stood») 0)
   stands OT = hot x
 
-  -- the table's last column
+  -- the table's last column; all cells are below a level exactly if the highest is, and above one exactly if the lowest is
   abbrev pub letsGo : Fault → Bool
   letsGo SCD = not (attached x) && not (shuntAbove (scdLevel s) (x .shunt))
   letsGo OCD = not (attached x) && not (shuntAbove (ocdLevel s) (x .shunt))
-  letsGo OV = swept .«ov_lets_go»
-  letsGo UV = swept .«uv_lets_go»
+  letsGo OV = ltb (span .high) (ovRelease s)
+  letsGo UV = ltb (uvRelease s) (span .low)
   letsGo OT = not (hot x)
 
   unfoldable pub latchesNext : Latches → Latches
@@ -79,7 +81,7 @@ sweptAt b x mv = sweepOf (b .working) (x .elapsed) (b .cells) (b .flags) mv
 
 abbrev pub latchesAfter : Board → Readings → List ℕ → Latches
 latchesAfter b x mv =
-    latchesNext (b .working) (sweptAt b x mv) (currentsNext (b .working) (b .currents) x) x (latchesOf (b .latches))
+    latchesNext (b .working) (sweptAt b x mv) (spanOf mv) (currentsNext (b .working) (b .currents) x) x (latchesOf (b .latches))
 
 -- the board after an accepted sample: settings and cycles stay
 unfoldable pub boardNext : Board → Readings → List ℕ → Board
@@ -141,7 +143,11 @@ sampleOf b x mv =
       answer = answerSaying (judged (sampleBars b x mv) (sampleValues b x mv));
     }
 
--- ---- on the way: a sample that finds nothing, on a board that has nothing on record (the law quiet-sample: it changes nothing)
+-- ---- on the way: refusal 5 by the highest cell (the law range-by)
+abbrev pub outOfRangeBy : Readings → Span → Bool
+outOfRangeBy x span = ltb 5000 (span .high) || ltb 5000 (x .thermistor) || shuntOutside (x .shunt) || ltb 1 (x .load)
+
+-- ---- and a sample that finds nothing, on a board that has nothing on record (the law quiet-sample: it changes nothing)
 -- no latch and no flag
 abbrev pub clear : Board → Bool
 clear b = eqb (b .latches) 0 && eqb (b .flags) 0
@@ -158,6 +164,6 @@ currentsBelow b x = not (shuntAbove (ocdLevel (b .working)) (x .shunt)) && not (
 abbrev pub warm : Readings → Bool
 warm x = not (hot x) && not (ltb 5000 (x .thermistor))
 
--- and every cell without a run and where OV and UV let go
-unfoldable pub quietOf : Board → Readings → List ℕ → Bool
-quietOf b x mv = (clear b && idle b) && (calmOf (b .working) (b .cells) mv && (currentsBelow b x && (warm x && (not (shuntOutside (x .shunt)) && not (ltb 1 (x .load))))))
+-- and every cell without a run, the lowest and the highest where UV and OV let go
+unfoldable pub quietOf : Board → Readings → Span → Bool
+quietOf b x span = (clear b && idle b) && (calmOf (b .working) (b .cells) span && (currentsBelow b x && (warm x && (not (shuntOutside (x .shunt)) && not (ltb 1 (x .load))))))

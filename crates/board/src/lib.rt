@@ -1,9 +1,10 @@
 // One board by value: its record, and a sample of it (01, The stack and its readings; When a fault latches and lets go).
 ghost use mathlib.Core.Path.{_≡_};
 ghost use Rattle.board.specs.Shunt.{shuntAbove, shuntOutside};
-ghost use Rattle.board.specs.Sample.{fresh, currentsNext, latchesNext, acceptedOf, outOfRange, quietOf};
+ghost use Rattle.board.specs.Sample.{fresh, currentsNext, latchesNext, acceptedOf, outOfRangeBy, quietOf};
 ghost use Rattle.board.specs.Look.{lookOf, staysOf, answerOf};
 use cells::Cell;
+use cells::Span;
 use cells::Swept;
 use latches::Latches;
 use refusal::Refusal;
@@ -99,20 +100,29 @@ fn currents_next(s: Settings, runs: Currents, x: Readings) -> Currents
     }
 }
 
-fn latches_next(s: Settings, swept: Swept, runs: Currents, x: Readings, old: Latches) -> Latches
-    ensures { λ r. ⌜ r ≡ latchesNext s swept runs x old ⌝ }
+fn latches_next(
+    s: Settings,
+    swept: Swept,
+    span: Span,
+    runs: Currents,
+    x: Readings,
+    old: Latches,
+) -> Latches
+    ensures { λ r. ⌜ r ≡ latchesNext s swept span runs x old ⌝ }
 {
     let scd_stood = runs::has_stood(s.scd_delay(), runs.scd);
     let ocd_stood = runs::has_stood(s.ocd_delay(), runs.ocd);
     let over_scd = shunt_above(x.shunt, s.scd_level());
     let over_ocd = shunt_above(x.shunt, s.ocd_level());
+    let ov_lets_go = span.high < s.ov_release();
+    let uv_lets_go = s.uv_release() < span.low;
     let attached = x.load == 1;
     let hot = x.thermistor < 975;
     Latches {
         scd: latches::latch_next(old.scd, scd_stood, !attached & !over_scd),
         ocd: latches::latch_next(old.ocd, ocd_stood, !attached & !over_ocd),
-        ov: latches::latch_next(old.ov, swept.ov_stood != 0, swept.ov_lets_go),
-        uv: latches::latch_next(old.uv, swept.uv_stood != 0, swept.uv_lets_go),
+        ov: latches::latch_next(old.ov, swept.ov_stood != 0, ov_lets_go),
+        uv: latches::latch_next(old.uv, swept.uv_stood != 0, uv_lets_go),
         ot: latches::latch_next(old.ot, hot, !hot),
     }
 }
@@ -127,6 +137,7 @@ pub fn accept(b: Board, x: Readings, mv: &[u32]) -> Stepped
     let latches = latches_next(
         b.working,
         swept,
+        cells::span_of(mv),
         currents,
         x,
         latches::latches_of(b.latches),
@@ -147,23 +158,22 @@ pub fn accept(b: Board, x: Readings, mv: &[u32]) -> Stepped
     }
 }
 
-fn out_of_range(x: Readings, mv: &[u32]) -> bool
-    ensures { λ r. ⌜ r ≡ outOfRange x (now (mv .entry)) ⌝ }
+fn out_of_range(x: Readings, span: Span) -> bool
+    ensures { λ r. ⌜ r ≡ outOfRangeBy x span ⌝ }
 {
-    let readable = cells::all_readable(mv);
     let outside = shunt_outside(x.shunt);
-    !readable | (5000 < x.thermistor) | outside | (1 < x.load)
+    (5000 < span.high) | (5000 < x.thermistor) | outside | (1 < x.load)
 }
 
 // A sample that finds nothing, on a board that has nothing on record: it changes nothing. The record is looked at first.
-fn quiet(b: Board, x: Readings, mv: &[u32]) -> bool
-    ensures { λ r. ⌜ r ≡ quietOf b x (now (mv .entry)) ⌝ }
+fn quiet(b: Board, x: Readings, span: Span) -> bool
+    ensures { λ r. ⌜ r ≡ quietOf b x span ⌝ }
 {
     let clear = (b.latches == 0) & (b.flags == 0);
     let idle = (b.currents.ocd == 0) & (b.currents.scd == 0);
     if clear & idle {
         let cells = b.cells;
-        let calm = cells::calm(b.working, cells, mv);
+        let calm = cells::calm(b.working, cells, span);
         let over_ocd = shunt_above(x.shunt, b.working.ocd_level());
         let over_scd = shunt_above(x.shunt, b.working.scd_level());
         let outside = shunt_outside(x.shunt);
@@ -193,13 +203,14 @@ pub fn look(b: Board, x: Readings, mv: &[u32]) -> Found
     if (x.elapsed < 1) | (100000 < x.elapsed) {
         return refused(Refusal::Elapsed);
     }
-    if quiet(b, x, mv) {
+    let span = cells::span_of(mv);
+    if quiet(b, x, span) {
         return Found::Stays(Answer::Sampled {
             status: 192,
             bled: 0,
         });
     }
-    if out_of_range(x, mv) {
+    if out_of_range(x, span) {
         return refused(Refusal::OutOfRange);
     }
     Found::Changes

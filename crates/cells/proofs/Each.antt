@@ -4,9 +4,12 @@ use Prim.Native.Nat.{ℕ, zero, suc, _+_, _-_, _<_, _≤_}
 use native.Mathlib.Nat.{not-suc-le-zero, le-of-suc-le-suc}
 use native.Mathlib.Omega.{arith}
 use mathlib.Core.Path.{_≡_, refl, ap, _∙_}
+use mathlib.Core.Bool.{Bool}
 use mathlib.Core.List.{List, [], _∷_, _++_}
-use lib.ListN.{length, getD, take, set}
-use Rattle.cells.specs.Each.{each}
+use lib.ListN.{length, getD, take, drop, set, drop-of-length-le}
+use lib.Seq.{drop-cons}
+use Rattle.lists.specs.Every.{every}
+use Rattle.cells.specs.Each.{each, all}
 
 module _ {A : Type 0} (f : ℕ → A) where
   pub each-length : (i n : ℕ) → length (each i n f) ≡ n
@@ -47,3 +50,12 @@ pub each-same : {A : Type 0} (f g : ℕ → A) (i n : ℕ) → ((k : ℕ) → k 
 unfolding each
 each-same f g i zero h = refl
 each-same {A} f g i (suc n) h = (λ j. h i (omega arith) j ∷ each (suc i) n f) ∙ ap (λ (l : List A). g i ∷ l) (each-same f g (suc i) n (λ k p. h k (omega arith)))
+
+-- a test of the entry at each place is that of every entry
+all-from : {A : Type 0} (test : A → Bool) (xs : List A) (d : A) (i n : ℕ) → i + n ≡ length xs → all (each i n (λ k. test (getD xs k d))) ≡ every test (drop i xs)
+unfolding each every
+all-from test xs d i zero e = rw (drop-of-length-le xs {i = i} (omega arith))
+all-from test xs d i (suc n) e = rw (drop-cons xs i d (omega arith), all-from test xs d (suc i) n (omega arith))
+
+pub all-places : {A : Type 0} (test : A → Bool) (xs : List A) (d : A) (n : ℕ) → n ≡ length xs → all (each 0 n (λ k. test (getD xs k d))) ≡ every test xs
+all-places test xs d n e = all-from test xs d 0 n (omega arith)

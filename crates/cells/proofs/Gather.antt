@@ -4,7 +4,7 @@ use Prim.Native.Nat.{ℕ, zero, suc, _-_, _^_, _<_, _≤_}
 use native.Mathlib.Nat.{not-suc-le-zero, le-of-suc-le-suc}
 use native.Mathlib.Omega.{arith}
 use mathlib.Core.Path.{_≡_, refl, ap, sym, _∙_}
-use mathlib.Core.Bool.{Bool, true, false, _&&_}
+use mathlib.Core.Bool.{Bool}
 use mathlib.Core.List.{List, [], _∷_, _++_}
 use lib.Dec.{ltb}
 use lib.ListN.{length, take, drop, set, take-append-drop, length-append, length-take, length-drop, List·getD-append}
@@ -13,7 +13,7 @@ use Rattle.runs.specs.Kept.{runNext, stood}
 use Rattle.marks.specs.Marks.{number, marked, marks}
 use Rattle.marks.proofs.Laws.{number-below, marks-number}
 use Rattle.cells.specs.declared.Cell.{Cell}
-use Rattle.cells.specs.Each.{each, all}
+use Rattle.cells.specs.Each.{each}
 use Rattle.cells.specs.Bleed.{bled, markNext}
 use Rattle.cells.specs.Cells.{cellBy, cellAt, readingAt, cellCount, flagAt, Limits, nextAt, ovStoodAt, uvStoodAt, flaggedAt, sweepBy}
 use Rattle.cells.proofs.Each.{each-length, each-down, each-none, each-same, set-front}
@@ -31,16 +31,14 @@ stored-cell (c ∷ cells) (suc k) ov uv p = ap (λ (l : List Cell). c ∷ l) (st
 
 module _ (l : Limits) (elapsed : ℕ) (cells : List Cell) (flags : ℕ) (mv : List ℕ) (n : ℕ) where
   -- what the pass holds with the cells from place i up behind it
-  pub record Gathered (i : ℕ) (next : List Cell) (ovStood uvStood lower : ℕ) (ovLets uvLets : Bool) : Type 0 where
+  pub record Gathered (i : ℕ) (next : List Cell) (ovStood uvStood lower : ℕ) : Type 0 where
     pub in-cells : next ≡ take i cells ++ (each i (n - i) (nextAt l elapsed cells flags mv) ++ drop n cells)
     pub in-ov : ovStood ≡ number (each i (n - i) (ovStoodAt l elapsed cells flags mv))
     pub in-uv : uvStood ≡ number (each i (n - i) (uvStoodAt l elapsed cells flags mv))
     pub in-low : lower ≡ number (each i (n - i) (λ k. ltb (readingAt mv k) (l .ovRelease)))
-    pub in-ov-lets : ovLets ≡ all (each i (n - i) (λ k. ltb (readingAt mv k) (l .ovRelease)))
-    pub in-uv-lets : uvLets ≡ all (each i (n - i) (λ k. ltb (l .uvRelease) (readingAt mv k)))
 
   -- nothing yet
-  pub nothing : n ≤ length cells → Gathered n cells 0 0 0 true true
+  pub nothing : n ≤ length cells → Gathered n cells 0 0 0
   unfolding number
   nothing h =
       record {
@@ -48,20 +46,18 @@ module _ (l : Limits) (elapsed : ℕ) (cells : List Cell) (flags : ℕ) (mv : Li
         in-ov = rw (each-none (ovStoodAt l elapsed cells flags mv) n);
         in-uv = rw (each-none (uvStoodAt l elapsed cells flags mv) n);
         in-low = rw (each-none (λ k. ltb (readingAt mv k) (l .ovRelease)) n);
-        in-ov-lets = rw (each-none (λ k. ltb (readingAt mv k) (l .ovRelease)) n);
-        in-uv-lets = rw (each-none (λ k. ltb (l .uvRelease) (readingAt mv k)) n);
       }
 
   -- the cell at place i - 1 is still the one that was handed in
-  waits : {i : ℕ} {next : List Cell} {ovStood uvStood lower : ℕ} {ovLets uvLets : Bool}
-      → Gathered i next ovStood uvStood lower ovLets uvLets → 0 < i → i ≤ n → n ≤ length cells → cellAt next (i - 1) ≡ cellAt cells (i - 1)
+  waits : {i : ℕ} {next : List Cell} {ovStood uvStood lower : ℕ}
+      → Gathered i next ovStood uvStood lower → 0 < i → i ≤ n → n ≤ length cells → cellAt next (i - 1) ≡ cellAt cells (i - 1)
   waits {i} g p q h =
       let rest = each i (n - i) (nextAt l elapsed cells flags mv) ++ drop n cells in
       rw (g .in-cells, List·getD-append (take i cells) rest (record { ov = 0; uv = 0 }) (i - 1) (rw (length-take i cells) (omega arith)), getD-take i cells (i - 1) (record { ov = 0; uv = 0 }) (omega arith))
 
   -- no cell is lost
-  as-long : {i : ℕ} {next : List Cell} {ovStood uvStood lower : ℕ} {ovLets uvLets : Bool}
-      → Gathered i next ovStood uvStood lower ovLets uvLets → i ≤ n → n ≤ length cells → length next ≡ length cells
+  as-long : {i : ℕ} {next : List Cell} {ovStood uvStood lower : ℕ}
+      → Gathered i next ovStood uvStood lower → i ≤ n → n ≤ length cells → length next ≡ length cells
   as-long {i} g q h =
       let N = nextAt l elapsed cells flags mv in
       rw (g .in-cells, length-append (take i cells) (each i (n - i) N ++ drop n cells), length-append (each i (n - i) N) (drop n cells), length-take i cells, each-length N i (n - i), length-drop n cells) (omega arith)
@@ -73,13 +69,12 @@ module _ (l : Limits) (elapsed : ℕ) (cells : List Cell) (flags : ℕ) (mv : Li
   two-runs k c ov uv ec eo eu = rw (eo, eu, ec)
 
   -- the runs at place i - 1, what was found of them, and all before
-  pub turn : {i : ℕ} {next : List Cell} {ovStood uvStood lower : ℕ} {ovLets uvLets : Bool} (ov uv : ℕ) (high low : Bool)
-      → Gathered i next ovStood uvStood lower ovLets uvLets
+  pub turn : {i : ℕ} {next : List Cell} {ovStood uvStood lower : ℕ} (ov uv : ℕ) (high low : Bool)
+      → Gathered i next ovStood uvStood lower
       → ov ≡ runNext (cellAt next (i - 1) .ov) (ltb (l .ov) (readingAt mv (i - 1))) elapsed
       → uv ≡ runNext (cellAt next (i - 1) .uv) (ltb (readingAt mv (i - 1)) (l .uv)) elapsed
       → high ≡ stood (l .ovDelay) ov → low ≡ stood (l .uvDelay) uv → 0 < i → i ≤ n → n ≤ length cells
       → Gathered (i - 1) (stored next (i - 1) ov uv) (markNext high ovStood) (markNext low uvStood) (markNext (ltb (readingAt mv (i - 1)) (l .ovRelease)) lower)
-      (ltb (readingAt mv (i - 1)) (l .ovRelease) && ovLets) (ltb (l .uvRelease) (readingAt mv (i - 1)) && uvLets)
   turn {i = zero} ov uv high low g eo eu eh el p q h = absurd (not-suc-le-zero p)
   turn {i = suc j} {next} ov uv high low g eo eu eh el p q h =
       let N = nextAt l elapsed cells flags mv in
@@ -96,28 +91,26 @@ module _ (l : Limits) (elapsed : ℕ) (cells : List Cell) (flags : ℕ) (mv : Li
         in-ov = rw (each-down H (suc j) n p q, is-high, g .in-ov) (mark-turn (H (suc j - 1)) (each (suc j) (n - suc j) H));
         in-uv = rw (each-down L (suc j) n p q, is-low, g .in-uv) (mark-turn (L (suc j - 1)) (each (suc j) (n - suc j) L));
         in-low = rw (each-down U (suc j) n p q, g .in-low) (mark-turn (U (suc j - 1)) (each (suc j) (n - suc j) U));
-        in-ov-lets = rw (each-down U (suc j) n p q, g .in-ov-lets);
-        in-uv-lets = rw (each-down (λ k. ltb (l .uvRelease) (readingAt mv k)) (suc j) n p q, g .in-uv-lets);
       }
 
   -- the number of up to ten cells is below 1,024
   few : (f : ℕ → Bool) (i : ℕ) → n ≤ 10 → number (each i (n - i) f) < 1024
   few f i h = below-ten (each i (n - i) f) (rw (each-length f i (n - i)) (omega arith))
 
-  pub few-ov : {i : ℕ} {next : List Cell} {ovStood uvStood lower : ℕ} {ovLets uvLets : Bool}
-      → Gathered i next ovStood uvStood lower ovLets uvLets → n ≤ 10 → ovStood < 1024
+  pub few-ov : {i : ℕ} {next : List Cell} {ovStood uvStood lower : ℕ}
+      → Gathered i next ovStood uvStood lower → n ≤ 10 → ovStood < 1024
   few-ov {i} g h = rw (g .in-ov) (few (ovStoodAt l elapsed cells flags mv) i h)
 
-  pub few-uv : {i : ℕ} {next : List Cell} {ovStood uvStood lower : ℕ} {ovLets uvLets : Bool}
-      → Gathered i next ovStood uvStood lower ovLets uvLets → n ≤ 10 → uvStood < 1024
+  pub few-uv : {i : ℕ} {next : List Cell} {ovStood uvStood lower : ℕ}
+      → Gathered i next ovStood uvStood lower → n ≤ 10 → uvStood < 1024
   few-uv {i} g h = rw (g .in-uv) (few (uvStoodAt l elapsed cells flags mv) i h)
 
-  pub few-lower : {i : ℕ} {next : List Cell} {ovStood uvStood lower : ℕ} {ovLets uvLets : Bool}
-      → Gathered i next ovStood uvStood lower ovLets uvLets → n ≤ 10 → lower < 1024
+  pub few-lower : {i : ℕ} {next : List Cell} {ovStood uvStood lower : ℕ}
+      → Gathered i next ovStood uvStood lower → n ≤ 10 → lower < 1024
   few-lower {i} g h = rw (g .in-low) (few (λ k. ltb (readingAt mv k) (l .ovRelease)) i h)
 
 -- with every cell behind it the pass has what is asked
-module _ (l : Limits) (elapsed : ℕ) (cells : List Cell) (flags : ℕ) (mv : List ℕ) {n i : ℕ} {next : List Cell} {ovStood uvStood lower : ℕ} {ovLets uvLets : Bool} (g : Gathered l elapsed cells flags mv n i next ovStood uvStood lower ovLets uvLets) (z : i ≡ 0) where
+module _ (l : Limits) (elapsed : ℕ) (cells : List Cell) (flags : ℕ) (mv : List ℕ) {n i : ℕ} {next : List Cell} {ovStood uvStood lower : ℕ} (g : Gathered l elapsed cells flags mv n i next ovStood uvStood lower) (z : i ≡ 0) where
   abbrev H : ℕ → Bool
   H = ovStoodAt l elapsed cells flags mv
 
@@ -157,10 +150,10 @@ module _ (l : Limits) (elapsed : ℕ) (cells : List Cell) (flags : ℕ) (mv : Li
   by-sets = each-same (flagAt ovStood lower flags) F 0 n (λ k p. rw (own H ovStood all-ov k (omega arith), own U lower all-lower k (omega arith)))
 
   pub done : (flagged bleed : ℕ) → n ≡ cellCount mv → flagged ≡ number (each 0 n (flagAt ovStood lower flags)) → bleed ≡ number (bled (marks n flagged))
-      → record { cells = next; flags = flagged; bled = bleed; «ov_stood» = ovStood; «uv_stood» = uvStood; «ov_lets_go» = ovLets; «uv_lets_go» = uvLets } ≡ sweepBy l elapsed cells flags mv
+      → record { cells = next; flags = flagged; bled = bleed; «ov_stood» = ovStood; «uv_stood» = uvStood } ≡ sweepBy l elapsed cells flags mv
   unfolding sweepBy
   done flagged bleed en ef eb =
       let is-flagged : flagged ≡ number (each 0 n F) = ef ∙ ap number by-sets in
       let back : marks n (number (each 0 n F)) ≡ each 0 n F = ap (λ (m : ℕ). marks m (number (each 0 n F))) (sym (each-length F 0 n)) ∙ marks-number (each 0 n F) in
       let is-bled : bleed ≡ number (bled (each 0 n F)) = eb ∙ rw (is-flagged, back) in
-      rw (is-flagged, is-bled, all-ov, all-uv, g .in-cells, g .in-ov-lets, g .in-uv-lets, all-behind, z, en)
+      rw (is-flagged, is-bled, all-ov, all-uv, g .in-cells, all-behind, z, en)

@@ -1,6 +1,7 @@
 pub mod Each
 pub mod Bleed
 pub mod Sets
+pub mod Ends
 pub mod Gather
 pub mod Laws
 pub mod Stays

@@ -1,15 +1,14 @@
--- Calm cells stay as they are: a pass over them finds no run, no flag and nothing to bleed, and OV and UV let go.
+-- Calm cells stay as they are: a pass over them finds no run, no flag and nothing to bleed.
 -- Assumes nothing.
 use Prim.Native.Nat.{ℕ, zero, suc, _+_, _<_, _≤_}
 use native.Mathlib.Omega.{arith}
 use mathlib.Core.Path.{_≡_, refl, sym, ap, _∙_}
 use mathlib.Core.Bool.{Bool, true, false, _&&_}
 use mathlib.Core.List.{List, [], _∷_, _++_}
-use lib.Dec.{ltb, leb, eqb}
+use lib.Dec.{ltb, eqb}
 use lib.ListN.{length, getD, drop}
 use lib.Seq.{drop-cons}
-use borrow.Author.Tests.{ltb-true, lt-ltb, le-ltb, eqb-true, le-leb}
-use Rattle.lists.specs.Every.{every}
+use borrow.Author.Tests.{ltb-true, le-ltb, eqb-true, le-leb}
 use Rattle.lists.proofs.Split.{both}
 use Rattle.lists.proofs.Every.{every-at}
 use Rattle.settings.specs.declared.Settings.{Settings}
@@ -18,10 +17,12 @@ use Rattle.runs.specs.Kept.{runNext, stood}
 use Rattle.marks.specs.Marks.{number}
 use Rattle.marks.proofs.Laws.{marked-above}
 use Rattle.cells.specs.declared.Cell.{Cell}
-use Rattle.cells.specs.Each.{each, all}
+use Rattle.cells.specs.Each.{each}
 use Rattle.cells.specs.Bleed.{bled}
-use Rattle.cells.specs.Cells.{cellBy, cellAt, readingAt, cellCount, limitsOf, nextAt, ovStoodAt, uvStoodAt, flaggedAt, sweepBy, sweepOf, readable, noRun, noRuns, between, allBetween, calmOf}
+use Rattle.cells.specs.Cells.{cellBy, cellAt, readingAt, cellCount, limitsOf, nextAt, ovStoodAt, uvStoodAt, flaggedAt, sweepBy, sweepOf, readable, noRun, noRuns, calmOf}
+use Rattle.cells.specs.Ends.{lowOf, highOf, spanOf}
 use Rattle.cells.proofs.Each.{each-same}
+use Rattle.cells.proofs.Ends.{every-within, all-below-release, all-above-release}
 
 -- ---- lists by places
 each-getD : {A : Type 0} (xs : List A) (d : A) (i n : ℕ) → i + n ≤ length xs → each i n (λ k. getD xs k d) ++ drop (i + n) xs ≡ drop i xs
@@ -41,36 +42,10 @@ unfolding each bled
 none-bled i zero = refl
 none-bled i (suc n) = rw (none-bled (suc i) n)
 
-all-all : (i n : ℕ) → all (each i n (λ _. true)) ≡ true
-unfolding each
-all-all i zero = refl
-all-all i (suc n) = all-all (suc i) n
-
-every-so : {A : Type 0} (p q : A → Bool) → ((x : A) → p x ≡ true → q x ≡ true) → (xs : List A) → every p xs ≡ true → every q xs ≡ true
-unfolding every
-every-so p q so [] e = refl
-every-so p q so (x ∷ xs) e = let h = both (p x) (every p xs) e in rw (so x (h .0), every-so p q so xs (h .1))
-
--- ---- the levels: a cell that reads between the release levels is neither above the OV level nor below the UV level
-module _ (s : Settings) (v : ℕ) (e : between (uvRelease s) (ovRelease s) v ≡ true) where
-  above-release : uvRelease s < v
-  above-release = ltb-true (uvRelease s) v (both (ltb (uvRelease s) v) (ltb v (ovRelease s)) e .0)
-
-  below-release : v < ovRelease s
-  below-release = ltb-true v (ovRelease s) (both (ltb (uvRelease s) v) (ltb v (ovRelease s)) e .1)
-
-  not-over : ltb (ovLevel s) v ≡ false
-  not-over = le-ltb (ovLevel s) v (omega (arith, below-release))
-
-  not-under : ltb v (uvLevel s) ≡ false
-  not-under = le-ltb v (uvLevel s) (omega (arith, above-release))
-
-  is-readable : leb v 5000 ≡ true
-  is-readable = le-leb v 5000 (omega (arith, below-release))
-
-module _ (s : Settings) (cells : List Cell) (mv : List ℕ) (calm : calmOf s cells mv ≡ true) where
+-- ---- the readings: with the lowest and the highest where UV and OV let go, no cell is above the OV level nor below the UV level
+module _ (s : Settings) (cells : List Cell) (mv : List ℕ) (calm : calmOf s cells (spanOf mv) ≡ true) where
   abbrev they-read : Bool
-  they-read = allBetween (uvRelease s) (ovRelease s) mv
+  they-read = ltb (uvRelease s) (lowOf mv) && ltb (highOf mv) (ovRelease s)
 
   ten : length cells ≡ 10
   unfolding calmOf
@@ -80,16 +55,35 @@ module _ (s : Settings) (cells : List Cell) (mv : List ℕ) (calm : calmOf s cel
   unfolding calmOf
   two-parts = both (noRuns cells) they-read (both (eqb (length cells) 10) (noRuns cells && they-read) calm .1)
 
+  above-release : ltb (uvRelease s) (lowOf mv) ≡ true
+  above-release = both (ltb (uvRelease s) (lowOf mv)) (ltb (highOf mv) (ovRelease s)) (two-parts .1) .0
+
+  below-release : ltb (highOf mv) (ovRelease s) ≡ true
+  below-release = both (ltb (uvRelease s) (lowOf mv)) (ltb (highOf mv) (ovRelease s)) (two-parts .1) .1
+
+  not-over : (k : ℕ) → k < length mv → ltb (ovLevel s) (readingAt mv k) ≡ false
+  not-over k p =
+      let below = ltb-true (readingAt mv k) (ovRelease s) (every-at (λ v. ltb v (ovRelease s)) mv k 0 (all-below-release s mv ∙ below-release) p) in
+      le-ltb (ovLevel s) (readingAt mv k) (omega (arith, below))
+
+  not-under : (k : ℕ) → k < length mv → ltb (readingAt mv k) (uvLevel s) ≡ false
+  not-under k p =
+      let above = ltb-true (uvRelease s) (readingAt mv k) (every-at (λ v. ltb (uvRelease s) v) mv k 0 (all-above-release s mv ∙ above-release) p) in
+      le-ltb (readingAt mv k) (uvLevel s) (omega (arith, above))
+
   pub calm-readable : readable mv ≡ true
-  calm-readable = every-so (between (uvRelease s) (ovRelease s)) (λ v. leb v 5000) (is-readable s) mv (two-parts .1)
+  calm-readable = let below = ltb-true (highOf mv) (ovRelease s) below-release in every-within 5000 mv ∙ le-leb (highOf mv) 5000 (omega (arith, below))
 
 -- ---- the pass
-module _ (s : Settings) (elapsed : ℕ) (cells : List Cell) (mv : List ℕ) (calm : calmOf s cells mv ≡ true) where
+module _ (s : Settings) (elapsed : ℕ) (cells : List Cell) (mv : List ℕ) (calm : calmOf s cells (spanOf mv) ≡ true) where
   long : length cells ≡ 10
   long = ten s cells mv calm
 
-  reads : (k : ℕ) → k < cellCount mv → between (uvRelease s) (ovRelease s) (readingAt mv k) ≡ true
-  reads k p = every-at (between (uvRelease s) (ovRelease s)) mv k 0 (two-parts s cells mv calm .1) (omega arith)
+  over : (k : ℕ) → k < cellCount mv → ltb (ovLevel s) (readingAt mv k) ≡ false
+  over k p = not-over s cells mv calm k (omega arith)
+
+  under : (k : ℕ) → k < cellCount mv → ltb (readingAt mv k) (uvLevel s) ≡ false
+  under k p = not-under s cells mv calm k (omega arith)
 
   runs : (k : ℕ) → k < cellCount mv → noRun (cellAt cells k) ≡ true
   runs k p = every-at noRun cells k (record { ov = 0; uv = 0 }) (two-parts s cells mv calm .0) (omega (arith, long))
@@ -101,20 +95,20 @@ module _ (s : Settings) (elapsed : ℕ) (cells : List Cell) (mv : List ℕ) (cal
       let none = both (eqb (c .ov) 0) (eqb (c .uv) 0) (runs k p) in
       let ov = eqb-true (c .ov) 0 (none .0) in
       let uv = eqb-true (c .uv) 0 (none .1) in
-      rw (not-over s (readingAt mv k) (reads k p), not-under s (readingAt mv k) (reads k p)) (λ i. record { ov = sym ov i; uv = sym uv i })
+      rw (over k p, under k p) (λ i. record { ov = sym ov i; uv = sym uv i })
 
   no-ov : (k : ℕ) → k < cellCount mv → ovStoodAt (limitsOf s) elapsed cells 0 mv k ≡ false
   unfolding cellBy runNext stood
-  no-ov k p = rw (not-over s (readingAt mv k) (reads k p)) (le-ltb (limitsOf s .ovDelay) 0 (omega arith))
+  no-ov k p = rw (over k p) (le-ltb (limitsOf s .ovDelay) 0 (omega arith))
 
   no-uv : (k : ℕ) → k < cellCount mv → uvStoodAt (limitsOf s) elapsed cells 0 mv k ≡ false
   unfolding cellBy runNext stood
-  no-uv k p = rw (not-under s (readingAt mv k) (reads k p)) (le-ltb (limitsOf s .uvDelay) 0 (omega arith))
+  no-uv k p = rw (under k p) (le-ltb (limitsOf s .uvDelay) 0 (omega arith))
 
   no-flag : (k : ℕ) → k < cellCount mv → flaggedAt (limitsOf s) elapsed cells 0 mv k ≡ false
   no-flag k p = rw (no-ov k p, marked-above 0 0 k (omega arith) (omega arith))
 
-  pub calm-sweep : sweepOf s elapsed cells 0 mv ≡ record { cells = cells; flags = 0; bled = 0; «ov_stood» = 0; «uv_stood» = 0; «ov_lets_go» = true; «uv_lets_go» = true }
+  pub calm-sweep : sweepOf s elapsed cells 0 mv ≡ record { cells = cells; flags = 0; bled = 0; «ov_stood» = 0; «uv_stood» = 0 }
   unfolding sweepBy
   calm-sweep =
       let n = cellCount mv in
@@ -123,8 +117,6 @@ module _ (s : Settings) (elapsed : ℕ) (cells : List Cell) (mv : List ℕ) (cal
       let flags = each-same (flaggedAt (limitsOf s) elapsed cells 0 mv) (λ _. false) 0 n (λ k p. no-flag k (omega arith)) in
       let ov = each-same (ovStoodAt (limitsOf s) elapsed cells 0 mv) (λ _. false) 0 n (λ k p. no-ov k (omega arith)) in
       let uv = each-same (uvStoodAt (limitsOf s) elapsed cells 0 mv) (λ _. false) 0 n (λ k p. no-uv k (omega arith)) in
-      let below = each-same (λ k. ltb (readingAt mv k) (ovRelease s)) (λ _. true) 0 n (λ k p. lt-ltb (readingAt mv k) (ovRelease s) (below-release s (readingAt mv k) (reads k (omega arith)))) in
-      let above = each-same (λ k. ltb (uvRelease s) (readingAt mv k)) (λ _. true) 0 n (λ k p. lt-ltb (uvRelease s) (readingAt mv k) (above-release s (readingAt mv k) (reads k (omega arith)))) in
       let all-of : 0 + n ≡ n = omega arith in
       let there : 0 + n ≤ length cells = omega (arith, long) in
       let kept = ap (λ (l : List Cell). l ++ drop n cells) same ∙ ap (λ (m : ℕ). each 0 n (λ k. getD cells k none) ++ drop m cells) (sym all-of) ∙ each-getD cells none 0 n there in
@@ -132,6 +124,4 @@ module _ (s : Settings) (elapsed : ℕ) (cells : List Cell) (mv : List ℕ) (cal
       let unbled = ap (λ (l : List Bool). number (bled l)) flags ∙ ap number (none-bled 0 n) ∙ none-number 0 n in
       let no-ov-yet = ap number ov ∙ none-number 0 n in
       let no-uv-yet = ap number uv ∙ none-number 0 n in
-      let ov-goes = ap all below ∙ all-all 0 n in
-      let uv-goes = ap all above ∙ all-all 0 n in
-      λ i. record { cells = kept i; flags = unflagged i; bled = unbled i; «ov_stood» = no-ov-yet i; «uv_stood» = no-uv-yet i; «ov_lets_go» = ov-goes i; «uv_lets_go» = uv-goes i }
+      λ i. record { cells = kept i; flags = unflagged i; bled = unbled i; «ov_stood» = no-ov-yet i; «uv_stood» = no-uv-yet i }

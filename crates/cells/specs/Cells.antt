@@ -11,8 +11,9 @@ use Rattle.settings.specs.Levels.{ovLevel, ovRelease, ovDelay, uvLevel, uvRelea
 use Rattle.runs.specs.Kept.{runNext, stood}
 use Rattle.marks.specs.Marks.{number, marked}
 use Rattle.cells.specs.declared.Cell.{Cell}
+use Rattle.cells.specs.declared.Span.{Span}
 use Rattle.cells.specs.declared.Swept.{Swept}
-use Rattle.cells.specs.Each.{each, all}
+use Rattle.cells.specs.Each.{each}
 use Rattle.cells.specs.Bleed.{bled}
 
 -- OV is a cell above its level, UV a cell below its level; a cell keeps a run of each
@@ -51,12 +52,10 @@ pub record Limits : Type 0 where
   pub ovRelease : ℕ
   pub ovDelay : ℕ
   pub uv : ℕ
-  pub uvRelease : ℕ
   pub uvDelay : ℕ
 
 abbrev pub limitsOf : Settings → Limits
-limitsOf s =
-    record { ov = ovLevel s; ovRelease = ovRelease s; ovDelay = ovDelay s; uv = uvLevel s; uvRelease = uvRelease s; uvDelay = uvDelay s }
+limitsOf s = record { ov = ovLevel s; ovRelease = ovRelease s; ovDelay = ovDelay s; uv = uvLevel s; uvDelay = uvDelay s }
 
 module _ (l : Limits) (elapsed : ℕ) (cells : List Cell) (flags : ℕ) (mv : List ℕ) where
   -- of the cell at a place: the cell after the sample, whether it has stood its delays, and whether it is flagged
@@ -72,8 +71,8 @@ module _ (l : Limits) (elapsed : ℕ) (cells : List Cell) (flags : ℕ) (mv : Li
   abbrev pub flaggedAt : ℕ → Bool
   flaggedAt k = flagBy (l .ovRelease) (ovStoodAt k) (marked flags k) (readingAt mv k)
 
-  -- of all cells: those after the sample, the flagged and the bled ones, and those whose OV run and whose UV run has stood;
-  -- all cells are where OV and UV let go. What a board keeps past its cells stays
+  -- of all cells: those after the sample, the flagged and the bled ones, and those whose OV run and whose UV run has stood.
+  -- What a board keeps past its cells stays
   unfoldable pub sweepBy : Swept
   sweepBy =
       record {
@@ -82,8 +81,6 @@ module _ (l : Limits) (elapsed : ℕ) (cells : List Cell) (flags : ℕ) (mv : Li
         bled = number (bled (each 0 (cellCount mv) flaggedAt));
         «ov_stood» = number (each 0 (cellCount mv) ovStoodAt);
         «uv_stood» = number (each 0 (cellCount mv) uvStoodAt);
-        «ov_lets_go» = all (each 0 (cellCount mv) (λ k. ltb (readingAt mv k) (l .ovRelease)));
-        «uv_lets_go» = all (each 0 (cellCount mv) (λ k. ltb (l .uvRelease) (readingAt mv k)));
       }
 
 abbrev pub sweepOf : Settings → ℕ → List Cell → ℕ → List ℕ → Swept
@@ -97,18 +94,12 @@ noCells = replicate 10 (record { ov = 0; uv = 0 })
 abbrev pub readable : List ℕ → Bool
 readable mv = every (λ v. leb v 5000) mv
 
--- nothing is the matter with the ten cells that a board keeps, nor was before: no run, and each reading where OV and UV let go
+-- nothing is the matter with the ten cells that a board keeps, nor was before: no run, and the lowest and the highest where UV and OV let go
 abbrev pub noRun : Cell → Bool
 noRun c = eqb (c .ov) 0 && eqb (c .uv) 0
 
 abbrev pub noRuns : List Cell → Bool
 noRuns cells = every noRun cells
 
-abbrev pub between : ℕ → ℕ → ℕ → Bool
-between low high v = ltb low v && ltb v high
-
-abbrev pub allBetween : ℕ → ℕ → List ℕ → Bool
-allBetween low high mv = every (between low high) mv
-
-unfoldable pub calmOf : Settings → List Cell → List ℕ → Bool
-calmOf s cells mv = eqb (length cells) 10 && (noRuns cells && allBetween (uvRelease s) (ovRelease s) mv)
+unfoldable pub calmOf : Settings → List Cell → Span → Bool
+calmOf s cells span = eqb (length cells) 10 && (noRuns cells && (ltb (uvRelease s) (span .low) && ltb (span .high) (ovRelease s)))

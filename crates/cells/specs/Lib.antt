@@ -1,3 +1,4 @@
 pub mod Each
 pub mod Bleed
+pub mod Ends
 pub mod Cells

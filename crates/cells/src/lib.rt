@@ -1,13 +1,14 @@
 // The cells of one board: their runs and flags, what they say of OV and UV, and bleeding
 // (01, When a fault latches and lets go; Bleeding).
 ghost use mathlib.Core.Path.{_≡_};
-ghost use Prim.Native.Nat.{min, _^_, _<_, _≤_};
+ghost use Prim.Native.Nat.{min, max, _^_, _<_, _≤_};
 ghost use mathlib.Core.Bool.{cond};
 ghost use lib.Dec.{eqb};
 ghost use Rattle.marks.specs.Marks.{number, marks};
-ghost use Rattle.cells.specs.Cells.{flagAt, sweepOf, noCells, readable, noRuns, allBetween, calmOf};
+ghost use Rattle.cells.specs.Cells.{flagAt, sweepOf, noCells, noRuns, calmOf};
 ghost use Rattle.cells.specs.Each.{each};
 ghost use Rattle.cells.specs.Bleed.{bled, markNext};
+ghost use Rattle.cells.specs.Ends.{spanOf};
 use settings::Settings;
 
 // What a board keeps of one cell: the runs of its OV and UV conditions.
@@ -24,8 +25,50 @@ pub struct Swept {
     pub bled: u16,
     pub ov_stood: u16,
     pub uv_stood: u16,
-    pub ov_lets_go: bool,
-    pub uv_lets_go: bool,
+}
+
+// The lowest and the highest of some readings: what is asked of all of them is asked of these two.
+pub struct Span {
+    pub low: u32,
+    pub high: u32,
+}
+
+// A reading, of 32 bits, in 64.
+fn wide(v: u32) -> u64
+    ensures { λ r. ⌜ (r ≡ v) × (v ≤ 4294967295) ⌝ }
+{
+    v as u64
+}
+
+fn lower(a: u64, b: u64) -> u64
+    ensures { λ r. ⌜ r ≡ min a b ⌝ }
+{
+    if a < b { a } else { b }
+}
+
+fn higher(a: u64, b: u64) -> u64
+    ensures { λ r. ⌜ r ≡ max a b ⌝ }
+{
+    if a < b { b } else { a }
+}
+
+// In 64 bits, which the compiler keeps in two registers: of 32 it makes lanes, and folding these costs more than ten cells.
+pub fn span_of(mv: &[u32]) -> Span
+    ensures { λ r. ⌜ r ≡ spanOf (now (mv .entry)) ⌝ }
+{
+    let mut low = 4294967295;
+    let mut high = 0;
+    let mut i = 0;
+    while i < mv.len() {
+        let v = wide(mv[i]);
+        low = lower(v, low);
+        high = higher(v, high);
+        i += 1;
+    }
+    Span {
+        low: low as u32,
+        high: high as u32,
+    }
 }
 
 // A number of cells with one more cell below them.
@@ -84,15 +127,12 @@ pub fn sweep(s: Settings, elapsed: u32, cells: [Cell; 10], flags: u16, mv: &[u32
     let ov_release = s.ov_release();
     let ov_delay = s.ov_delay();
     let uv = s.uv_level();
-    let uv_release = s.uv_release();
     let uv_delay = s.uv_delay();
     let mut next = cells;
     // the cells whose OV run and whose UV run has stood, and those that read lower than where OV lets go, as numbers
     let mut ov_stood = 0;
     let mut uv_stood = 0;
     let mut low = 0;
-    let mut ov_lets_go = true;
-    let mut uv_lets_go = true;
     let n = cell_count(mv.len());
     let mut i = n;
     while 0 < i {
@@ -104,10 +144,7 @@ pub fn sweep(s: Settings, elapsed: u32, cells: [Cell; 10], flags: u16, mv: &[u32
         next[i].uv = uv_run;
         ov_stood = mark_next(runs::has_stood(ov_delay, ov_run), ov_stood);
         uv_stood = mark_next(runs::has_stood(uv_delay, uv_run), uv_stood);
-        let under = v < ov_release;
-        low = mark_next(under, low);
-        ov_lets_go = under & ov_lets_go;
-        uv_lets_go = (uv_release < v) & uv_lets_go;
+        low = mark_next(v < ov_release, low);
     }
     let flagged = flags_next(ov_stood, low, flags, n);
     Swept {
@@ -117,8 +154,6 @@ pub fn sweep(s: Settings, elapsed: u32, cells: [Cell; 10], flags: u16, mv: &[u32
         bled: bled_of(flagged, n),
         ov_stood: ov_stood,
         uv_stood: uv_stood,
-        ov_lets_go: ov_lets_go,
-        uv_lets_go: uv_lets_go,
     }
 }
 
@@ -136,38 +171,11 @@ fn no_runs(cells: [Cell; 10]) -> bool
     none
 }
 
-// Every cell reads where OV and UV let go.
-fn all_let_go(low: u32, high: u32, mv: &[u32]) -> bool
-    ensures { λ r. ⌜ r ≡ allBetween low high (now (mv .entry)) ⌝ }
-{
-    let mut good = true;
-    let mut i = 0;
-    while i < mv.len() {
-        let v = mv[i];
-        good = good & ((low < v) & (v < high));
-        i += 1;
-    }
-    good
-}
-
 // Nothing is the matter with the cells, nor was before: a sample of unflagged ones would find them as they are.
-pub fn calm(s: Settings, cells: [Cell; 10], mv: &[u32]) -> bool
-    ensures { λ r. ⌜ r ≡ calmOf s cells (now (mv .entry)) ⌝ }
+pub fn calm(s: Settings, cells: [Cell; 10], span: Span) -> bool
+    ensures { λ r. ⌜ r ≡ calmOf s cells span ⌝ }
 {
-    no_runs(cells) & all_let_go(s.uv_release(), s.ov_release(), mv)
-}
-
-// No cell reads above the most that a sample may hold.
-pub fn all_readable(mv: &[u32]) -> bool
-    ensures { λ r. ⌜ r ≡ readable (now (mv .entry)) ⌝ }
-{
-    let mut good = true;
-    let mut i = 0;
-    while i < mv.len() {
-        good = good & (mv[i] <= 5000);
-        i += 1;
-    }
-    good
+    no_runs(cells) & ((s.uv_release() < span.low) & (span.high < s.ov_release()))
 }
 
 // Every run at its start.

@@ -5,11 +5,11 @@ use native.Mathlib.Omega.{arith}
 use mathlib.Core.Path.{_≡_, refl, ap, ap₂, sym, _∙_}
 use mathlib.Core.Bool.{Bool, true, false, true≢false, cond, _&&_, or-false}
 use mathlib.Core.List.{List, [], _∷_, _++_, dropLast}
-use lib.Dec.{leb, eqb, leb·zero}
+use lib.Dec.{leb, ltb, eqb, leb·zero}
 use lib.ListN.{length, drop}
 use borrow.Author.Tests.{eqb-true, ne-eqb}
 use Rattle.lists.proofs.Split.{split}
-use Rattle.settings.specs.Levels.{ovRelease}
+use Rattle.settings.specs.Levels.{ovRelease, uvRelease}
 use Rattle.settings.specs.declared.Settings.{Settings}
 use Rattle.settings.specs.Bytes.{withByte, same}
 use Rattle.settings.specs.Faults.{Fault, SCD, OCD, OV, UV, OT, delay}
@@ -20,7 +20,10 @@ use Rattle.runs.proofs.Laws.{kept-run, stood-delay}
 use Rattle.cells.specs.declared.Cell.{Cell}
 use Rattle.cells.specs.declared.Swept.{Swept}
 use Rattle.cells.specs.Each.{each, some as someOf}
+use Rattle.cells.specs.Ends.{spanOf}
+use Rattle.cells.proofs.Each.{all-places}
 use Rattle.cells.proofs.Sets.{some-number, set-at}
+use Rattle.cells.proofs.Ends.{all-below-release, all-above-release}
 use Rattle.cells.specs.Bleed.{bled}
 use Rattle.cells.specs.Cells.{cellBy, cellAt, readingAt, cellCount, noCells, limitsOf, nextAt, flaggedAt, flagBy, sweepBy}
 use Rattle.latches.specs.Latches.{latches, latchNext, latchesByte}
@@ -109,7 +112,7 @@ module _ (n : ℕ) (few : n ≤ 10) (h : History) (x : Readings) (mv : List ℕ)
   abbrev currents : Currents
   currents = currentsNext (working h) (given n h .currents) x
 
-  stands-is : (f : Fault) → board.stands (working h) swept currents x f ≡ stands n f after
+  stands-is : (f : Fault) → board.stands (working h) swept (spanOf mv) currents x f ≡ stands n f after
   unfolding sweepBy currentsNext each
   stands-is SCD = stood-after SCD 0 ∙ sym (or-false (stoodDelay SCD 0 after))
   stands-is OCD = stood-after OCD 0 ∙ sym (or-false (stoodDelay OCD 0 after))
@@ -117,23 +120,22 @@ module _ (n : ℕ) (few : n ≤ 10) (h : History) (x : Readings) (mv : List ℕ)
   stands-is UV = some-number (each 0 (cellCount mv) (λ k. stood (delay UV (working h)) (nexts k .uv))) ∙ rw count-is (ap someOf (each-same n _ _ uv-is))
   stands-is OT = no-delay (hot x) (sampleOf x mv) (stretch (holds OT (working h) 0) (since h)) ∙ sym (or-false (stoodDelay OT 0 after))
 
-  lets-is : (f : Fault) → board.letsGo (working h) swept currents x f ≡ letsGo n f (working h) (sampleOf x mv)
-  unfolding sweepBy
+  lets-is : (f : Fault) → board.letsGo (working h) swept (spanOf mv) currents x f ≡ letsGo n f (working h) (sampleOf x mv)
   lets-is SCD = refl
   lets-is OCD = refl
-  lets-is OV = rw count-is
-  lets-is UV = rw count-is
+  lets-is OV = sym (all-places (λ v. ltb v (ovRelease (working h))) mv 0 n (sym long) ∙ all-below-release (working h) mv)
+  lets-is UV = sym (all-places (λ v. ltb (uvRelease (working h)) v) mv 0 n (sym long) ∙ all-above-release (working h) mv)
   lets-is OT = refl
 
-  latch-is : (f : Fault) → latchNext (latched n f h) (board.stands (working h) swept currents x f) (board.letsGo (working h) swept currents x f) ≡ latched n f after
+  latch-is : (f : Fault) → latchNext (latched n f h) (board.stands (working h) swept (spanOf mv) currents x f) (board.letsGo (working h) swept (spanOf mv) currents x f) ≡ latched n f after
   latch-is f = ap₂ (latchNext (latched n f h)) (stands-is f) (lets-is f)
 
-  latches-next : latchesNext (working h) swept currents x (latchesAt n h) ≡ latchesAt n after
+  latches-next : latchesNext (working h) swept (spanOf mv) currents x (latchesAt n h) ≡ latchesAt n after
   unfolding latchesNext
   latches-next = λ i. record { scd = latch-is SCD i; ocd = latch-is OCD i; ov = latch-is OV i; uv = latch-is UV i; ot = latch-is OT i }
 
   pub latches-are : latchesAfter (given n h) x mv ≡ latchesAt n after
-  latches-are = ap (latchesNext (working h) swept currents x) (latches-kept (latchesAt n h)) ∙ latches-next
+  latches-are = ap (latchesNext (working h) swept (spanOf mv) currents x) (latches-kept (latchesAt n h)) ∙ latches-next
 
   pub bled-are : sweptAt (given n h) x mv .bled ≡ number (bled (flagsAt n after))
   unfolding sweepBy

@@ -43,7 +43,7 @@ use Rattle.marks.proofs.mark_at.Reads as marks-mark-at
 use Rattle.runs.proofs.advance.Reads as runs-advance
 use Rattle.runs.proofs.has_stood.Reads as runs-has-stood
 use Rattle.cells.proofs.sweep.Reads as cells-sweep
-use Rattle.cells.proofs.all_readable.Reads as cells-all-readable
+use Rattle.cells.proofs.span_of.Reads as cells-span-of
 use Rattle.cells.proofs.calm.Reads as cells-calm
 use Rattle.cells.proofs.fresh_cells.Reads as cells-fresh-cells
 use Rattle.latches.proofs.latches_of.Reads as latches-latches-of
@@ -171,8 +171,8 @@ runs-has-stood-one κs a r t s u = agree
 pub cells-sweep-one : (κs : _) (a : _) (r t : _) (s u : _) → cells-sweep.Learnt κs a r s → cells-sweep.Learnt κs a t u → r ≡ t
 cells-sweep-one κs a r t s u = agree
 
-pub cells-all-readable-one : (κs : _) (a : _) (r t : _) (s u : _) → cells-all-readable.Learnt κs a r s → cells-all-readable.Learnt κs a t u → r ≡ t
-cells-all-readable-one κs a r t s u = agree
+pub cells-span-of-one : (κs : _) (a : _) (r t : _) (s u : _) → cells-span-of.Learnt κs a r s → cells-span-of.Learnt κs a t u → r ≡ t
+cells-span-of-one κs a r t s u = agree
 
 pub cells-calm-one : (κs : _) (a : _) (r t : _) (s u : _) → cells-calm.Learnt κs a r s → cells-calm.Learnt κs a t u → r ≡ t
 cells-calm-one κs a r t s u = agree

@@ -10,6 +10,9 @@ sweep-requires c κs = search needs
 currents-next-requires : tie.Need-currents-next-requires
 currents-next-requires c κs = search needs
 
+span-of-requires : tie.Need-span-of-requires
+span-of-requires c κs = search needs
+
 latches-of-requires : tie.Need-latches-of-requires
 latches-of-requires c κs = search needs
 
@@ -30,8 +33,9 @@ returns c =
     let c4 = c3 .before in
     let c5 = c4 .before in
     let c6 = c5 .before in
-    let a = c6 .before .before .before .args in
-    rw (c .status-of .ensures, c2 .byte-of .ensures, c3 .latches-next .ensures, c4 .latches-of .ensures, c5 .currents-next .ensures, c6 .sweep .ensures, latches-kept (latchesAfter (a .b) (a .x) (a .mv .now)))
+    let c7 = c6 .before in
+    let a = c7 .before .before .before .args in
+    rw (c .status-of .ensures, c2 .byte-of .ensures, c3 .latches-next .ensures, c4 .latches-of .ensures, c5 .span-of .ensures, c6 .currents-next .ensures, c7 .sweep .ensures, latches-kept (latchesAfter (a .b) (a .x) (a .mv .now)))
 
 pub accept-spec : {M : Type 1} → statement M
 accept-spec =
@@ -39,6 +43,7 @@ accept-spec =
     (tie.spec
     sweep-requires
     currents-next-requires
+    span-of-requires
     latches-of-requires
     latches-next-requires
     byte-of-requires

@@ -29,6 +29,12 @@ ocd-level-requires c κs = search needs
 shunt-above-requires-2 : tie.Need-shunt-above-requires-2
 shunt-above-requires-2 c κs = search needs
 
+ov-release-requires : tie.Need-ov-release-requires
+ov-release-requires c κs = search needs
+
+uv-release-requires : tie.Need-uv-release-requires
+uv-release-requires c κs = search needs
+
 latch-next-requires : tie.Need-latch-next-requires
 latch-next-requires c κs = search needs
 
@@ -51,17 +57,19 @@ returns c =
     let c3 = c1 .before .before in
     let c5 = c3 .before .before in
     let c6 = c5 .before in
-    let c9 = c6 .before .before .before in
-    let c10 = c9 .before in
-    let c11 = c10 .before in
-    let c12 = c11 .before in
-    let c14 = c12 .before .before in
+    let c10 = c6 .before .before .before .before in
+    let c12 = c10 .before .before in
+    let c13 = c12 .before in
+    let c14 = c13 .before in
     let c15 = c14 .before in
     let c16 = c15 .before in
-    let c17 = c16 .before in
-    let c18 = c17 .before in
-    let back = toZ-ofZ {w = w32} {z = c18 .before .args .x .shunt} (record { sfits = c10 .struct-told2 .given .1 .0 .1 }) in
-    rw (c .latch-next5 .ensures, c1 .latch-next4 .ensures, c3 .latch-next3 .ensures, c5 .latch-next2 .ensures, c6 .latch-next .ensures, c9 .shunt-above2 .ensures, c11 .ocd-level .ensures, c12 .shunt-above .ensures, c14 .scd-level .ensures, c15 .has-stood2 .ensures, c16 .ocd-delay .ensures, c17 .has-stood .ensures, c18 .scd-delay .ensures, back)
+    let c18 = c16 .before .before in
+    let c19 = c18 .before in
+    let c20 = c19 .before in
+    let c21 = c20 .before in
+    let c22 = c21 .before in
+    let back = toZ-ofZ {w = w32} {z = c22 .before .args .x .shunt} (record { sfits = c14 .struct-told2 .given .1 .0 .1 }) in
+    rw (c .latch-next5 .ensures, c1 .latch-next4 .ensures, c3 .latch-next3 .ensures, c5 .latch-next2 .ensures, c6 .latch-next .ensures, c10 .uv-release .ensures, c12 .ov-release .ensures, c13 .shunt-above2 .ensures, c15 .ocd-level .ensures, c16 .shunt-above .ensures, c18 .scd-level .ensures, c19 .has-stood2 .ensures, c20 .ocd-delay .ensures, c21 .has-stood .ensures, c22 .scd-delay .ensures, back)
 
 pub latches-next-spec : {M : Type 1} → statement M
 latches-next-spec =
@@ -75,6 +83,8 @@ latches-next-spec =
     shunt-above-requires
     ocd-level-requires
     shunt-above-requires-2
+    ov-release-requires
+    uv-release-requires
     latch-next-requires
     latch-next-requires-2
     latch-next-requires-3

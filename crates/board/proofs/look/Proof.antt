@@ -3,6 +3,7 @@ use borrow.Author.Tests.{eq-eqb, ne-eqb}
 use borrow.Author.Needs.{needs}
 use Rattle.board.specs.Sample.{sampleOf}
 use Rattle.board.specs.Look.{lookOf}
+use Rattle.board.proofs.Laws.{range-by}
 use Rattle.board.proofs.Unmoved.{quiet-look}
 use Rattle.board.proofs.look.Statement.{statement}
 use Rattle.board.proofs.look.Tie as tie
@@ -33,6 +34,9 @@ returns-3 c =
     let c4 = c .before .before .before .before in
     rw (c .refused3 .ensures, c4 .before .if1 .left, eq-eqb _ _ (c4 .if2 .left), c .before .if3 .taken)
 
+span-of-requires : tie.Need-span-of-requires
+span-of-requires c κs = search needs
+
 quiet-requires : tie.Need-quiet-requires
 quiet-requires c κs = search needs
 
@@ -40,9 +44,11 @@ returns-4 : tie.Need-returns-4
 returns-4 c =
     let c1 = c .before in
     let c2 = c1 .before in
-    let c5 = c2 .before .before .before in
-    let a = c5 .before .before .before .args in
-    quiet-look (a .b) (a .x) (a .mv .now) (sym (c1 .quiet .ensures) ∙ c .if4 .taken) (c5 .before .if1 .left) (eq-eqb _ _ (c5 .if2 .left)) (c2 .if3 .left)
+    let c3 = c2 .before in
+    let c6 = c3 .before .before .before in
+    let a = c6 .before .before .before .args in
+    let is-quiet = rw (c2 .span-of .ensures) at (sym (c1 .quiet .ensures) ∙ c .if4 .taken) in
+    quiet-look (a .b) (a .x) (a .mv .now) is-quiet (c6 .before .if1 .left) (eq-eqb _ _ (c6 .if2 .left)) (c3 .if3 .left)
 
 out-of-range-requires : tie.Need-out-of-range-requires
 out-of-range-requires c κs = search needs
@@ -55,16 +61,24 @@ unfolding lookOf sampleOf
 returns-5 c =
     let c2 = c .before .before in
     let c5 = c2 .before .before .before in
-    let c8 = c5 .before .before .before in
-    rw (c .refused4 .ensures, c8 .before .if1 .left, eq-eqb _ _ (c8 .if2 .left), c5 .if3 .left, ← (c2 .out-of-range .ensures), c .before .if5 .taken)
+    let c6 = c5 .before in
+    let c9 = c6 .before .before .before in
+    let a = c9 .before .before .before .args in
+    let broken = sym (range-by (a .x) (a .mv .now)) ∙ (rw (c5 .span-of .ensures) at (sym (c2 .out-of-range .ensures) ∙ c .before .if5 .taken)) in
+    rw (c .refused4 .ensures, c9 .before .if1 .left, eq-eqb _ _ (c9 .if2 .left), c6 .if3 .left, broken)
 
 returns-6 : tie.Need-returns-6
 unfolding lookOf
 returns-6 c =
     let c1 = c .before in
-    let c4 = c1 .before .before .before in
-    let c7 = c4 .before .before .before in
-    rw (c7 .before .if1 .left, eq-eqb _ _ (c7 .if2 .left), c4 .if3 .left, ← (c1 .out-of-range .ensures), c .if5 .left, sym (c1 .before .before .quiet .ensures) ∙ c1 .before .if4 .left)
+    let c3 = c1 .before .before in
+    let c4 = c3 .before in
+    let c5 = c4 .before in
+    let c8 = c5 .before .before .before in
+    let a = c8 .before .before .before .args in
+    let kept = sym (range-by (a .x) (a .mv .now)) ∙ (rw (c4 .span-of .ensures) at (sym (c1 .out-of-range .ensures) ∙ c .if5 .left)) in
+    let loud = rw (c4 .span-of .ensures) at (sym (c3 .quiet .ensures) ∙ c1 .before .if4 .left) in
+    rw (c8 .before .if1 .left, eq-eqb _ _ (c8 .if2 .left), c5 .if3 .left, kept, loud)
 
 pub look-spec : {M : Type 1} → statement M
 look-spec =
@@ -77,6 +91,7 @@ look-spec =
     returns-2
     refused-requires-3
     returns-3
+    span-of-requires
     quiet-requires
     returns-4
     out-of-range-requires

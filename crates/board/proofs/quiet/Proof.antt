@@ -34,7 +34,7 @@ returns c =
     let c10 = c9 .before in
     let c11 = c10 .before in
     let c13 = c11 .before .before in
-    let a = c13 .before .before .before .before .before .before .args in
+    let a = c13 .before .before .before .before .before .args in
     let back = toZ-ofZ {w = w32} {z = a .x .shunt} (record { sfits = c9 .struct-told .given .1 .0 .1 }) in
     rw (c13 .if1 .taken, c11 .calm .ensures, c8 .shunt-above .ensures, c10 .ocd-level .ensures, c5 .shunt-above2 .ensures, c7 .scd-level .ensures, c3 .shunt-outside .ensures, back)
 

@@ -15,17 +15,13 @@ uv-release-requires c κs = search needs
 ov-release-requires : tie.Need-ov-release-requires
 ov-release-requires c κs = search needs
 
-all-let-go-requires : tie.Need-all-let-go-requires
-all-let-go-requires c κs = search needs
-
 returns : tie.Need-returns
 unfolding calmOf
 returns c =
-    let a = c .before .before .before .before .before .args in
+    let c3 = c .before .before .before in
+    let a = c3 .before .before .args in
     let ten : length (a .cells) ≡ 10 = search needs in
-    rw (eq-eqb _ _ ten, c .before .before .before .no-runs .ensures, c .all-let-go .ensures, c .before .ov-release .ensures, c .before .before .uv-release .ensures)
+    rw (eq-eqb _ _ ten, c3 .before .no-runs .ensures, c3 .uv-release .ensures, c .before .ov-release .ensures)
 
 pub calm-spec : {M : Type 1} → statement M
-calm-spec =
-    tie.close
-    (tie.spec no-runs-requires uv-release-requires ov-release-requires all-let-go-requires returns)
+calm-spec = tie.close (tie.spec no-runs-requires uv-release-requires ov-release-requires returns)

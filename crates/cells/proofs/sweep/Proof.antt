@@ -9,11 +9,11 @@ use Rattle.cells.proofs.sweep.Statement.{statement}
 use Rattle.cells.proofs.sweep.Tie as tie
 
 abbrev Inv-loop : tie.InvT-loop
-Inv-loop elapsed flags mv ov ov-release ov-delay uv uv-release uv-delay next₀ ov-stood₀ uv-stood₀ low₀ ov-lets-go₀ uv-lets-go₀ n i₀ next ov-stood uv-stood low ov-lets-go uv-lets-go i =
-    (i ≤ n) × (n ≡ cellCount mv) × (length next₀ ≡ 10) × Gathered (record { ov = ov; ovRelease = ov-release; ovDelay = ov-delay; uv = uv; uvRelease = uv-release; uvDelay = uv-delay }) elapsed next₀ flags mv n i next ov-stood uv-stood low ov-lets-go uv-lets-go
+Inv-loop elapsed flags mv ov ov-release ov-delay uv uv-delay next₀ ov-stood₀ uv-stood₀ low₀ n i₀ next ov-stood uv-stood low i =
+    (i ≤ n) × (n ≡ cellCount mv) × (length next₀ ≡ 10) × Gathered (record { ov = ov; ovRelease = ov-release; ovDelay = ov-delay; uv = uv; uvDelay = uv-delay }) elapsed next₀ flags mv n i next ov-stood uv-stood low
 
 abbrev μ-loop : tie.MeasureT-loop
-μ-loop elapsed flags mv ov ov-release ov-delay uv uv-release uv-delay next₀ ov-stood₀ uv-stood₀ low₀ ov-lets-go₀ uv-lets-go₀ n i₀ next ov-stood uv-stood low ov-lets-go uv-lets-go i = i
+μ-loop elapsed flags mv ov ov-release ov-delay uv uv-delay next₀ ov-stood₀ uv-stood₀ low₀ n i₀ next ov-stood uv-stood low i = i
 
 ov-level-requires : tie.Need-ov-level-requires Inv-loop μ-loop
 ov-level-requires c κs = search needs
@@ -27,9 +27,6 @@ ov-delay-requires c κs = search needs
 uv-level-requires : tie.Need-uv-level-requires Inv-loop μ-loop
 uv-level-requires c κs = search needs
 
-uv-release-requires : tie.Need-uv-release-requires Inv-loop μ-loop
-uv-release-requires c κs = search needs
-
 uv-delay-requires : tie.Need-uv-delay-requires Inv-loop μ-loop
 uv-delay-requires c κs = search needs
 
@@ -38,7 +35,7 @@ cell-count-requires c κs = search needs
 
 loop-holds : tie.Need-loop-holds Inv-loop μ-loop
 loop-holds c =
-    let a = c .before .before .before .before .before .before .before .before .args in
+    let a = c .before .before .before .before .before .before .before .args in
     let count = c .cell-count .ensures in
     let long : length (a .cells) ≡ 10 = search needs in
     (search needs, count, long, nothing _ (a .elapsed) (a .cells) (a .flags) (a .mv .now) (c .cell-count .result) (omega (arith, long, count)))
@@ -134,10 +131,9 @@ returns c =
     let b3 = b2 .before in
     let b4 = b3 .before in
     let b5 = b4 .before in
-    let b6 = b5 .before in
-    let a = b6 .before .before .args in
-    let same : _≡_ {A = Limits} (record { ov = b6 .ov-level .result; ovRelease = b5 .ov-release .result; ovDelay = b4 .ov-delay .result; uv = b3 .uv-level .result; uvRelease = b2 .uv-release .result; uvDelay = b1 .uv-delay .result }) (limitsOf (a .s)) =
-    λ i. record { ov = b6 .ov-level .ensures i; ovRelease = b5 .ov-release .ensures i; ovDelay = b4 .ov-delay .ensures i; uv = b3 .uv-level .ensures i; uvRelease = b2 .uv-release .ensures i; uvDelay = b1 .uv-delay .ensures i } in
+    let a = b5 .before .before .args in
+    let same : _≡_ {A = Limits} (record { ov = b5 .ov-level .result; ovRelease = b4 .ov-release .result; ovDelay = b3 .ov-delay .result; uv = b2 .uv-level .result; uvDelay = b1 .uv-delay .result }) (limitsOf (a .s)) =
+    λ i. record { ov = b5 .ov-level .ensures i; ovRelease = b4 .ov-release .ensures i; ovDelay = b3 .ov-delay .ensures i; uv = b2 .uv-level .ensures i; uvDelay = b1 .uv-delay .ensures i } in
     done _ (a .elapsed) (a .cells) (a .flags) (a .mv .now) (h .loop .inv .3) (omega arith) _ _ (h .loop .inv .1) (c1 .flags-next .ensures) (c .bled-of .ensures) ∙ ap (λ (l : Limits). sweepBy l (a .elapsed) (a .cells) (a .flags) (a .mv .now)) same
 
 pub sweep-spec : {M : Type 1} → statement M
@@ -150,7 +146,6 @@ sweep-spec =
     ov-release-requires
     ov-delay-requires
     uv-level-requires
-    uv-release-requires
     uv-delay-requires
     cell-count-requires
     loop-holds
