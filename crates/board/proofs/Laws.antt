@@ -16,7 +16,8 @@ use Rattle.board.specs.declared.Readings.{Readings}
 use Rattle.board.specs.declared.Answer.{Answer}
 use Rattle.board.specs.declared.Answer.the-variants.{Sampled, Refused}
 use Rattle.latches.specs.Latches.{latch, latches, latchNext, latchesOf}
-use Rattle.board.specs.Sample.{answerSaid, answerSaying, sweptAt, latchesAfter, latchesNext, boardNext, currentsNext, stands, letsGo, outOfRange, outOfRangeBy}
+use Rattle.board.specs.Sample.{answerSaid, answerSaying, sweptAt, latchesAfter, latchesNext, boardBy, boardNext, currentsNext, stands, letsGo, outOfRange}
+use Rattle.board.specs.Way.{outOfRangeBy}
 use Rattle.latches.proofs.Packed.{latches-kept}
 
 -- an answer is determined by the number and the values that it says
@@ -37,7 +38,7 @@ pub latch-after : (f : Fault) (b : Board) (x : Readings) (mv : List ℕ)
     → latch f (latchesOf (boardNext b x mv .latches))
     ≡ latchNext (latch f (latchesOf (b .latches))) (stands (b .working) (sweptAt b x mv) (spanOf mv) (currentsNext (b .working) (b .currents) x) x f)
     (letsGo (b .working) (sweptAt b x mv) (spanOf mv) (currentsNext (b .working) (b .currents) x) x f)
-unfolding boardNext latchesNext
+unfolding boardBy latchesNext
 latch-after f b x mv = rw (latches-kept (latchesAfter b x mv), latch-of f)
 
 -- a cell reads above 5,000 mV exactly if the highest does

@@ -1,45 +1,61 @@
--- Where a look at a sample is enough, it told the sample's answer and the sample leaves the board; else the sample is accepted.
+-- What comes of a look at a sample is the sample: a refused one has its answer, a quiet one is answered from the record, and any other is stepped.
 -- Assumes nothing.
 use Prim.Native.Nat.{ℕ}
-use mathlib.Core.Path.{_≡_, refl, sym}
-use mathlib.Core.Bool.{Bool, true, false, cond, not, _&&_}
+use mathlib.Core.Path.{_≡_, refl}
+use mathlib.Core.Bool.{Bool, true, false, cond, not}
 use mathlib.Core.List.{List}
 use lib.Dec.{T as Holds, eqb}
+use Rattle.refusal.specs.Refusals.{numbered}
 use Rattle.refusal.specs.Said.{accepts, refuses, first}
 use Rattle.cells.specs.Ends.{spanOf}
 use Rattle.board.specs.declared.Board.{Board}
 use Rattle.board.specs.declared.Readings.{Readings}
 use Rattle.board.specs.declared.Answer.{Answer}
-use Rattle.board.specs.declared.Found.the-variants.{Stays, Changes}
-use Rattle.board.specs.Sample.{answerSaying, sampleValues, sampleBars, boardNext, acceptedOf, sampleOf, quietOf}
-use Rattle.board.specs.Look.{lookOf, staysOf, answerOf}
-use Rattle.board.proofs.Unmoved.{same-board}
+use Rattle.board.specs.declared.Found.{Found}
+use Rattle.board.specs.declared.Found.the-variants.{Refused, Quiet, Changes}
+use Rattle.board.specs.Sample.{answerSaying, sampleValues, sampleBars, boardNext, sampleOf}
+use Rattle.board.specs.Way.{quietOf, lookOf, isRefused, isQuiet, answerOf, spanFound, restedOf, acceptedBy}
+use Rattle.board.proofs.Unmoved.{rested}
 
--- by whether the sample is accepted, and whether it is quiet
 module _ (b : Board) (x : Readings) (mv : List ℕ) where
   abbrev refusal : ℕ
   refusal = first (sampleBars b x mv)
 
-  abbrev answer : Bool → Answer
-  answer accepted = answerSaying (cond accepted (accepts (sampleValues b x mv)) (refuses refusal))
+  -- what a sample says, and what is found, by whether it is accepted and whether it is quiet
+  abbrev Says : Bool → Answer → Board → Type 0
+  Says accepted a c = (a ≡ answerSaying (cond accepted (accepts (sampleValues b x mv)) (refuses refusal))) × (c ≡ cond accepted (boardNext b x mv) b)
 
-  abbrev after : Bool → Board
-  after accepted = cond accepted (boardNext b x mv) b
+  abbrev found : Bool → Bool → Found
+  found accepted quiet = cond accepted (cond quiet (Quiet (spanOf mv)) (Changes (spanOf mv))) (Refused (numbered refusal))
 
-  enough : (accepted quiet : Bool) → quietOf b x (spanOf mv) ≡ quiet → let found = cond (accepted && not quiet) Changes (Stays (answer accepted)) in Holds (staysOf found) → (answerOf found ≡ answer accepted) × (b ≡ after accepted)
-  enough true true q so = (refl, sym (same-board b x mv q))
-  enough true false q so = absurd so
-  enough false quiet q so = (refl, refl)
+  at-refused : (accepted quiet : Bool) → eqb refusal 0 ≡ accepted → Holds (isRefused (found accepted quiet)) → Says accepted (answerOf (found accepted quiet)) b
+  at-refused true true e so = absurd so
+  at-refused true false e so = absurd so
+  at-refused false quiet e so = (rw e, refl)
 
-  goes-on : (accepted quiet : Bool) → let found = cond (accepted && not quiet) Changes (Stays (answer accepted)) in Holds (not (staysOf found)) → (answerSaying (accepts (sampleValues b x mv)) ≡ answer accepted) × (boardNext b x mv ≡ after accepted)
-  goes-on true true so = absurd so
-  goes-on true false so = (refl, refl)
-  goes-on false quiet so = absurd so
+  at-quiet : (accepted quiet : Bool) → quietOf b x (spanOf mv) ≡ quiet → Holds (isQuiet (found accepted quiet)) → Says accepted (restedOf b .answer) (restedOf b .board)
+  at-quiet true true q so = rested b x mv q
+  at-quiet true false q so = absurd so
+  at-quiet false quiet q so = absurd so
 
-  pub look-enough : Holds (staysOf (lookOf b x mv)) → (answerOf (lookOf b x mv) ≡ sampleOf b x mv .answer) × (b ≡ sampleOf b x mv .board)
+  at-changes : (accepted quiet : Bool) → Holds (not (isRefused (found accepted quiet))) → Holds (not (isQuiet (found accepted quiet)))
+      → let s = acceptedBy b x (spanFound (found accepted quiet)) mv in Says accepted (s .answer) (s .board)
+  unfolding acceptedBy
+  at-changes true true so or = absurd or
+  at-changes true false so or = (refl, refl)
+  at-changes false quiet so or = absurd so
+
+  abbrev Told : Answer → Board → Type 0
+  Told a c = (a ≡ sampleOf b x mv .answer) × (c ≡ sampleOf b x mv .board)
+
+  pub look-refused : Holds (isRefused (lookOf b x mv)) → Told (answerOf (lookOf b x mv)) b
   unfolding lookOf sampleOf
-  look-enough = enough (eqb refusal 0) (quietOf b x (spanOf mv)) refl
+  look-refused = at-refused (eqb refusal 0) (quietOf b x (spanOf mv)) refl
 
-  pub look-goes-on : Holds (not (staysOf (lookOf b x mv))) → (acceptedOf b x mv .answer ≡ sampleOf b x mv .answer) × (acceptedOf b x mv .board ≡ sampleOf b x mv .board)
-  unfolding lookOf sampleOf acceptedOf
-  look-goes-on = goes-on (eqb refusal 0) (quietOf b x (spanOf mv))
+  pub look-quiet : Holds (isQuiet (lookOf b x mv)) → Told (restedOf b .answer) (restedOf b .board)
+  unfolding lookOf sampleOf
+  look-quiet = at-quiet (eqb refusal 0) (quietOf b x (spanOf mv)) refl
+
+  pub look-changes : Holds (not (isRefused (lookOf b x mv))) → Holds (not (isQuiet (lookOf b x mv))) → let s = acceptedBy b x (spanFound (lookOf b x mv)) mv in Told (s .answer) (s .board)
+  unfolding lookOf sampleOf
+  look-changes = at-changes (eqb refusal 0) (quietOf b x (spanOf mv))

@@ -1,4 +1,4 @@
--- A quiet sample leaves the board as it is, with both switches on and no cell bled: a look tells that.
+-- A quiet sample is in range, leaves the board as it is and bleeds no cell: it is answered from the record.
 -- Assumes nothing.
 use Prim.Native.Nat.{ℕ}
 use native.Mathlib.Omega.{arith}
@@ -9,6 +9,7 @@ use lib.Dec.{ltb, eqb}
 use lib.ListN.{length}
 use borrow.Author.Tests.{le-ltb, eqb-true}
 use Rattle.lists.proofs.Split.{both, not-yes}
+use Rattle.refusal.specs.Said.{accepts}
 use Rattle.settings.specs.Levels.{ocdLevel, scdLevel}
 use Rattle.settings.specs.Faults.{SCD, OCD, delay}
 use Rattle.runs.specs.Kept.{runNext, stood}
@@ -20,11 +21,9 @@ use Rattle.cells.proofs.Stays.{calm-readable, calm-sweep}
 use Rattle.latches.specs.Latches.{latches, latchesByte, register0}
 use Rattle.board.specs.declared.Board.{Board}
 use Rattle.board.specs.declared.Readings.{Readings}
-use Rattle.board.specs.declared.Answer.the-variants.{Sampled}
-use Rattle.board.specs.declared.Found.the-variants.{Stays}
 use Rattle.board.specs.Shunt.{shuntAbove, shuntOutside}
-use Rattle.board.specs.Sample.{currentsNext, latchesNext, hot, sweptAt, latchesAfter, boardNext, outside, badBoard, outOfRange, sampleOf, clear, idle, currentsBelow, warm, quietOf}
-use Rattle.board.specs.Look.{lookOf}
+use Rattle.board.specs.Sample.{currentsNext, latchesNext, hot, sweptAt, latchesAfter, boardBy, boardNext, sampleValues, answerSaying, outOfRange}
+use Rattle.board.specs.Way.{clear, idle, currentsBelow, warm, quietOf, restedOf}
 
 module _ (b : Board) (x : Readings) (mv : List ℕ) (q : quietOf b x (spanOf mv) ≡ true) where
   -- its parts
@@ -111,17 +110,18 @@ module _ (b : Board) (x : Readings) (mv : List ℕ) (q : quietOf b x (spanOf mv)
   unfolding currentsNext runNext
   same-currents = rw (no-ocd, no-scd) (λ i. record { ocd = sym no-ocd-run i; scd = sym no-scd-run i })
 
-  pub same-board : boardNext b x mv ≡ b
-  unfolding boardNext latchesByte number
+  same-board : boardNext b x mv ≡ b
+  unfolding boardBy latchesByte number
   same-board =
       let byte = ap latchesByte unlatched ∙ sym no-latch in
       let flags = ap (λ (w : Swept). w .flags) swept ∙ sym no-flag in
       let cells = ap (λ (w : Swept). w .cells) swept in
       λ i. record { count = b .count; latches = byte i; cycles = b .cycles; flags = flags i; working = b .working; staged = b .staged; currents = same-currents i; cells = cells i }
 
-  in-range : outOfRange x mv ≡ false
+  pub in-range : outOfRange x mv ≡ false
   in-range = rw (calm-readable (b .working) (b .cells) mv calm, not-high, inside, a-flag)
 
-  pub quiet-look : badBoard b ≡ false → eqb (length mv) (b .count) ≡ true → outside 1 100000 (x .elapsed) ≡ false → Stays (Sampled 192 0) ≡ lookOf b x mv
-  unfolding lookOf sampleOf register0 number
-  quiet-look e₁ e₃ e₄ = rw (e₁, e₃, e₄, in-range, q, unlatched, ap (λ (w : Swept). w .bled) swept)
+  -- so it is answered from the record
+  pub rested : (restedOf b .answer ≡ answerSaying (accepts (sampleValues b x mv))) × (restedOf b .board ≡ boardNext b x mv)
+  unfolding restedOf register0 number
+  rested = (rw (unlatched, no-latch, ap (λ (w : Swept). w .bled) swept), sym same-board)

@@ -1,3 +1,3 @@
 pub mod Shunt
 pub mod Sample
-pub mod Look
+pub mod Way

@@ -14,7 +14,7 @@ use Rattle.runs.specs.Kept.{runNext, stood}
 use Rattle.cells.specs.declared.Span.{Span}
 use Rattle.cells.specs.declared.Swept.{Swept}
 use Rattle.cells.specs.Ends.{spanOf}
-use Rattle.cells.specs.Cells.{sweepOf, noCells, readable, calmOf}
+use Rattle.cells.specs.Cells.{sweepOf, noCells, readable}
 use Rattle.board.specs.declared.Board.{Board}
 use Rattle.board.specs.declared.Currents.{Currents}
 use Rattle.latches.specs.declared.Latches.{Latches}
@@ -79,16 +79,16 @@ module _ (s : Settings) (swept : Swept) (span : Span) (runs : Currents) (x : Rea
 abbrev pub sweptAt : Board → Readings → List ℕ → Swept
 sweptAt b x mv = sweepOf (b .working) (x .elapsed) (b .cells) (b .flags) mv
 
-abbrev pub latchesAfter : Board → Readings → List ℕ → Latches
-latchesAfter b x mv =
-    latchesNext (b .working) (sweptAt b x mv) (spanOf mv) (currentsNext (b .working) (b .currents) x) x (latchesOf (b .latches))
+abbrev pub latchesBy : Board → Readings → Span → List ℕ → Latches
+latchesBy b x span mv =
+    latchesNext (b .working) (sweptAt b x mv) span (currentsNext (b .working) (b .currents) x) x (latchesOf (b .latches))
 
 -- the board after an accepted sample: settings and cycles stay
-unfoldable pub boardNext : Board → Readings → List ℕ → Board
-boardNext b x mv =
+unfoldable pub boardBy : Board → Readings → Span → List ℕ → Board
+boardBy b x span mv =
     record {
       count = b .count;
-      latches = latchesByte (latchesAfter b x mv);
+      latches = latchesByte (latchesBy b x span mv);
       cycles = b .cycles;
       flags = sweptAt b x mv .flags;
       working = b .working;
@@ -96,6 +96,13 @@ boardNext b x mv =
       currents = currentsNext (b .working) (b .currents) x;
       cells = sweptAt b x mv .cells;
     }
+
+-- both by the lowest and the highest of the cells
+abbrev pub latchesAfter : Board → Readings → List ℕ → Latches
+latchesAfter b x mv = latchesBy b x (spanOf mv) mv
+
+abbrev pub boardNext : Board → Readings → List ℕ → Board
+boardNext b x mv = boardBy b x (spanOf mv) mv
 
 -- an accepted sample answers with register 0's value and the bled cells
 abbrev pub sampleValues : Board → Readings → List ℕ → List ℕ
@@ -109,9 +116,6 @@ answerSaid (Refused why) = refuses (numberOf why)
 -- the case that says them
 abbrev pub answerSaying : Said → Answer
 answerSaying s = cond (eqb (s .number) 0) (Sampled (value 0 s) (value 1 s)) (Refused (numbered (s .number)))
-
-unfoldable pub acceptedOf : Board → Readings → List ℕ → Stepped
-acceptedOf b x mv = record { board = boardNext b x mv; answer = answerSaying (accepts (sampleValues b x mv)) }
 
 abbrev pub outside : ℕ → ℕ → ℕ → Bool
 outside low high n = ltb n low || ltb high n
@@ -142,28 +146,3 @@ sampleOf b x mv =
       board = kept (sampleBars b x mv) b (boardNext b x mv);
       answer = answerSaying (judged (sampleBars b x mv) (sampleValues b x mv));
     }
-
--- ---- on the way: refusal 5 by the highest cell (the law range-by)
-abbrev pub outOfRangeBy : Readings → Span → Bool
-outOfRangeBy x span = ltb 5000 (span .high) || ltb 5000 (x .thermistor) || shuntOutside (x .shunt) || ltb 1 (x .load)
-
--- ---- and a sample that finds nothing, on a board that has nothing on record (the law quiet-sample: it changes nothing)
--- no latch and no flag
-abbrev pub clear : Board → Bool
-clear b = eqb (b .latches) 0 && eqb (b .flags) 0
-
--- no run of a current condition
-abbrev pub idle : Board → Bool
-idle b = eqb (b .currents .ocd) 0 && eqb (b .currents .scd) 0
-
--- the shunt is not above the level of OCD, nor of SCD
-abbrev pub currentsBelow : Board → Readings → Bool
-currentsBelow b x = not (shuntAbove (ocdLevel (b .working)) (x .shunt)) && not (shuntAbove (scdLevel (b .working)) (x .shunt))
-
--- not hot, and in range
-abbrev pub warm : Readings → Bool
-warm x = not (hot x) && not (ltb 5000 (x .thermistor))
-
--- and every cell without a run, the lowest and the highest where UV and OV let go
-unfoldable pub quietOf : Board → Readings → Span → Bool
-quietOf b x span = (clear b && idle b) && (calmOf (b .working) (b .cells) span && (currentsBelow b x && (warm x && (not (shuntOutside (x .shunt)) && not (ltb 1 (x .load))))))

@@ -1,8 +1,8 @@
 // One board by value: its record, and a sample of it (01, The stack and its readings; When a fault latches and lets go).
 ghost use mathlib.Core.Path.{_≡_};
 ghost use Rattle.board.specs.Shunt.{shuntAbove, shuntOutside};
-ghost use Rattle.board.specs.Sample.{fresh, currentsNext, latchesNext, acceptedOf, outOfRangeBy, quietOf};
-ghost use Rattle.board.specs.Look.{lookOf, staysOf, answerOf};
+ghost use Rattle.board.specs.Sample.{fresh, currentsNext, latchesNext};
+ghost use Rattle.board.specs.Way.{outOfRangeBy, quietOf, lookOf, isRefused, isQuiet, answerOf, spanFound, restedOf, acceptedBy};
 use cells::Cell;
 use cells::Span;
 use cells::Swept;
@@ -44,10 +44,11 @@ pub enum Answer {
     Refused(Refusal),
 }
 
-// What a look at a sample finds: its answer, where the board stays as it is, or that the board may change.
+// What a look at a sample finds: it is refused, or it is quiet, or it may change the board. The lowest and the highest cell are handed on.
 pub enum Found {
-    Stays(Answer),
-    Changes,
+    Refused(Refusal),
+    Quiet(Span),
+    Changes(Span),
 }
 
 pub struct Stepped {
@@ -127,9 +128,22 @@ fn latches_next(
     }
 }
 
-// An accepted sample.
-pub fn accept(b: Board, x: Readings, mv: &[u32]) -> Stepped
-    ensures { λ r. ⌜ r ≡ acceptedOf b x (now (mv .entry)) ⌝ }
+// A quiet sample. It stores nothing yet, and answers from the record.
+pub fn rest(b: Board, x: Readings, span: Span, mv: &[u32]) -> Stepped
+    ensures { λ r. ⌜ r ≡ restedOf b ⌝ }
+{
+    Stepped {
+        board: b,
+        answer: Answer::Sampled {
+            status: latches::status_of(b.latches),
+            bled: 0,
+        },
+    }
+}
+
+// Any other accepted sample.
+pub fn accept(b: Board, x: Readings, span: Span, mv: &[u32]) -> Stepped
+    ensures { λ r. ⌜ r ≡ acceptedBy b x span (now (mv .entry)) ⌝ }
 {
     let old = b.cells;
     let swept = cells::sweep(b.working, x.elapsed, old, b.flags, mv);
@@ -137,7 +151,7 @@ pub fn accept(b: Board, x: Readings, mv: &[u32]) -> Stepped
     let latches = latches_next(
         b.working,
         swept,
-        cells::span_of(mv),
+        span,
         currents,
         x,
         latches::latches_of(b.latches),
@@ -183,55 +197,68 @@ fn quiet(b: Board, x: Readings, span: Span) -> bool
     false
 }
 
-fn refused(why: Refusal) -> Found
-    ensures { λ r. ⌜ r ≡ Found.Stays (Answer.Refused why) ⌝ }
-{
-    Found::Stays(Answer::Refused(why))
-}
-
-// A look at a sample of one board: a refused one and a quiet one have their answer, and leave the board.
+// A look at a sample of one board. The lowest and the highest cell are found once, for all that is asked of every cell.
 pub fn look(b: Board, x: Readings, mv: &[u32]) -> Found
     ensures { λ r. ⌜ r ≡ lookOf b x (now (mv .entry)) ⌝ }
 {
     let count = b.count;
     if (count < 5) | (10 < count) {
-        return refused(Refusal::BadRow);
+        return Found::Refused(Refusal::BadRow);
     }
     if mv.len() != count as usize {
-        return refused(Refusal::CellList);
+        return Found::Refused(Refusal::CellList);
     }
     if (x.elapsed < 1) | (100000 < x.elapsed) {
-        return refused(Refusal::Elapsed);
+        return Found::Refused(Refusal::Elapsed);
     }
     let span = cells::span_of(mv);
     if quiet(b, x, span) {
-        return Found::Stays(Answer::Sampled {
-            status: 192,
-            bled: 0,
-        });
+        return Found::Quiet(span);
     }
     if out_of_range(x, span) {
-        return refused(Refusal::OutOfRange);
+        return Found::Refused(Refusal::OutOfRange);
     }
-    Found::Changes
+    Found::Changes(span)
 }
 
-// Whether the look was enough.
-pub fn stays(found: Found) -> bool
-    ensures { λ r. ⌜ r ≡ staysOf found ⌝ }
+pub fn is_refused(found: Found) -> bool
+    ensures { λ r. ⌜ r ≡ isRefused found ⌝ }
 {
     match found {
-        Found::Stays(_) => true,
-        Found::Changes => false,
+        Found::Refused(_) => true,
+        Found::Quiet(_) => false,
+        Found::Changes(_) => false,
     }
 }
 
-// The answer that the look gave; for a sample that changes the board, the refusal that no sample is given.
+pub fn is_quiet(found: Found) -> bool
+    ensures { λ r. ⌜ r ≡ isQuiet found ⌝ }
+{
+    match found {
+        Found::Refused(_) => false,
+        Found::Quiet(_) => true,
+        Found::Changes(_) => false,
+    }
+}
+
+// The answer of a refused sample; for any other, the refusal that no sample is given.
 pub fn answer_of(found: Found) -> Answer
     ensures { λ r. ⌜ r ≡ answerOf found ⌝ }
 {
     match found {
-        Found::Stays(answer) => answer,
-        Found::Changes => Answer::Refused(Refusal::Malformed),
+        Found::Refused(why) => Answer::Refused(why),
+        Found::Quiet(_) => Answer::Refused(Refusal::Malformed),
+        Found::Changes(_) => Answer::Refused(Refusal::Malformed),
+    }
+}
+
+// The lowest and the highest cell that were found; for a refused sample, none.
+pub fn span_found(found: Found) -> Span
+    ensures { λ r. ⌜ r ≡ spanFound found ⌝ }
+{
+    match found {
+        Found::Refused(_) => Span { low: 0, high: 0 },
+        Found::Quiet(span) => span,
+        Found::Changes(span) => span,
     }
 }

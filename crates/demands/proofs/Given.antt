@@ -32,7 +32,7 @@ use Rattle.board.specs.declared.Board.{Board}
 use Rattle.board.specs.declared.Currents.{Currents}
 use Rattle.board.specs.declared.Readings.{Readings}
 use Rattle.board.specs.Sample as board
-use Rattle.board.specs.Sample.{fresh, hot, currentsNext, latchesNext, sweptAt, latchesAfter, boardNext}
+use Rattle.board.specs.Sample.{fresh, hot, currentsNext, latchesNext, sweptAt, latchesAfter, boardBy, boardNext}
 use Rattle.frame.specs.Frame.{writes}
 use Rattle.registers.specs.Registers as registers
 use Rattle.registers.specs.Registers.{staging, boardAfter}
@@ -146,7 +146,7 @@ module _ (n : ℕ) (few : n ≤ 10) (h : History) (x : Readings) (mv : List ℕ)
   marks-are = rw (count-is, flags-are)
 
   pub given-sampled : boardNext (given n h) x mv ≡ given n after
-  unfolding boardNext currentsNext
+  unfolding boardBy currentsNext
   given-sampled = λ i. record {
     count = n;
     latches = latchesByte (latches-are i);

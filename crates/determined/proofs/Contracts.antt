@@ -55,7 +55,10 @@ use Rattle.latches.proofs.status_of.Reads as latches-status-of
 use Rattle.latches.proofs.latch_next.Reads as latches-latch-next
 use Rattle.board.proofs.fresh_board.Reads as board-fresh-board
 use Rattle.board.proofs.look.Reads as board-look
-use Rattle.board.proofs.stays.Reads as board-stays
+use Rattle.board.proofs.is_refused.Reads as board-is-refused
+use Rattle.board.proofs.is_quiet.Reads as board-is-quiet
+use Rattle.board.proofs.span_found.Reads as board-span-found
+use Rattle.board.proofs.rest.Reads as board-rest
 use Rattle.board.proofs.answer_of.Reads as board-answer-of
 use Rattle.board.proofs.accept.Reads as board-accept
 use Rattle.frame.proofs.check_all.Reads as frame-check-all
@@ -209,8 +212,17 @@ board-fresh-board-one κs a r t s u = agree
 pub board-look-one : (κs : _) (a : _) (r t : _) (s u : _) → board-look.Learnt κs a r s → board-look.Learnt κs a t u → r ≡ t
 board-look-one κs a r t s u = agree
 
-pub board-stays-one : (κs : _) (a : _) (r t : _) (s u : _) → board-stays.Learnt κs a r s → board-stays.Learnt κs a t u → r ≡ t
-board-stays-one κs a r t s u = agree
+pub board-is-refused-one : (κs : _) (a : _) (r t : _) (s u : _) → board-is-refused.Learnt κs a r s → board-is-refused.Learnt κs a t u → r ≡ t
+board-is-refused-one κs a r t s u = agree
+
+pub board-is-quiet-one : (κs : _) (a : _) (r t : _) (s u : _) → board-is-quiet.Learnt κs a r s → board-is-quiet.Learnt κs a t u → r ≡ t
+board-is-quiet-one κs a r t s u = agree
+
+pub board-span-found-one : (κs : _) (a : _) (r t : _) (s u : _) → board-span-found.Learnt κs a r s → board-span-found.Learnt κs a t u → r ≡ t
+board-span-found-one κs a r t s u = agree
+
+pub board-rest-one : (κs : _) (a : _) (r t : _) (s u : _) → board-rest.Learnt κs a r s → board-rest.Learnt κs a t u → r ≡ t
+board-rest-one κs a r t s u = agree
 
 pub board-answer-of-one : (κs : _) (a : _) (r t : _) (s u : _) → board-answer-of.Learnt κs a r s → board-answer-of.Learnt κs a t u → r ≡ t
 board-answer-of-one κs a r t s u = agree

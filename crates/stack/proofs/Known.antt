@@ -9,6 +9,8 @@ use types.Kit.{Given}
 use denote.Builtin.{u32}
 use denote.Struct.Laws as LL
 use Rattle.walks.proofs.Plain.{PlainType, PlainPair, uint, struct, enumeration}
+use Rattle.cells.proofs.Span as Span
+use Rattle.cells.proofs.Span.Laws as Span′
 use Rattle.board.proofs.Board as Board
 use Rattle.board.proofs.Board.Laws as Board′
 use Rattle.board.proofs.Readings as Readings
@@ -45,6 +47,9 @@ module _ {M : Type 1} (𝓤 : URA M) (H : Heap 𝓤) (A : Atoms 𝓤) (W : Given
 
   abbrev pub readings : PlainType 𝓤 H A Readings.the-row
   readings = struct 𝓤 H A W Readings.the-type Readings′.the-laws Readings′.the-plain Readings′.the-copy
+
+  abbrev pub span : PlainType 𝓤 H A Span.the-row
+  span = struct 𝓤 H A W Span.the-type Span′.the-laws Span′.the-plain Span′.the-copy
 
   abbrev pub answer : PlainType 𝓤 H A Answer.the-row
   answer = enumeration 𝓤 H A W Answer.the-type Answer′.the-laws Answer′.the-plain Answer′.the-copy tt

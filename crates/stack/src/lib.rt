@@ -4,7 +4,8 @@ ghost use mathlib.Core.Path.{_≡_};
 ghost use mathlib.Core.Bool.{true, not};
 ghost use Prim.Native.Nat.{_≤_};
 ghost use lib.ListN.{length};
-ghost use Rattle.board.specs.Sample.{sampleOf, acceptedOf, badBoard};
+ghost use Rattle.board.specs.Sample.{sampleOf, badBoard};
+ghost use Rattle.board.specs.Way.{restedOf, acceptedBy};
 ghost use Rattle.registers.specs.Registers.{obeyedOf, toldOf, keptOf, spentBy, stagedBy, programmedBy, setBy, writtenBy};
 ghost use Rattle.stack.specs.Row.{badCount, goodRow, placeOf};
 ghost use Rattle.stack.specs.Open.{goodCounts, freshRow, noStack, openOf};
@@ -16,6 +17,7 @@ ghost use Rattle.stack.specs.Read.{seenRow, placeAt, firstFrom, lookOf, 
 use board::Answer;
 use board::Board;
 use board::Readings;
+use cells::Span;
 use frame::Outcome;
 use frame::Reply;
 use frame::Request;
@@ -161,24 +163,36 @@ pub fn open_stack(counts: &[u32]) -> Start
 
 // ---- a sample
 
-// An accepted sample: the record is taken apart, stepped by value and stored back.
-fn accept_board(b: &mut Board, x: Readings, mv: &[u32]) -> Answer
-    ensures { λ r. ⌜ (r ≡ acceptedOf (now (b .entry)) x (now (mv .entry)) .answer) × (now (b .exit) ≡ acceptedOf (now (b .entry)) x (now (mv .entry)) .board) ⌝ }
+// The ways of an accepted sample: the record is taken apart, stepped by value and stored back.
+fn rest_board(b: &mut Board, x: Readings, span: Span, mv: &[u32]) -> Answer
+    ensures { λ r. ⌜ (r ≡ restedOf (now (b .entry)) .answer) × (now (b .exit) ≡ restedOf (now (b .entry)) .board) ⌝ }
 {
-    let s = board::accept(*b, x, mv);
+    let s = board::rest(*b, x, span, mv);
     *b = s.board;
     s.answer
 }
 
-// A sample of one board. One that is refused or quiet stores nothing.
+fn accept_board(b: &mut Board, x: Readings, span: Span, mv: &[u32]) -> Answer
+    ensures { λ r. ⌜ (r ≡ acceptedBy (now (b .entry)) x span (now (mv .entry)) .answer) × (now (b .exit) ≡ acceptedBy (now (b .entry)) x span (now (mv .entry)) .board) ⌝ }
+{
+    let s = board::accept(*b, x, span, mv);
+    *b = s.board;
+    s.answer
+}
+
+// A sample of one board: refused, with its answer; quiet; or it may change the board.
 pub fn sample_board(b: &mut Board, x: Readings, mv: &[u32]) -> Answer
     ensures { λ r. ⌜ (r ≡ sampleOf (now (b .entry)) x (now (mv .entry)) .answer) × (now (b .exit) ≡ sampleOf (now (b .entry)) x (now (mv .entry)) .board) ⌝ }
 {
     let found = board::look(*b, x, mv);
-    if board::stays(found) {
+    if board::is_refused(found) {
         return board::answer_of(found);
     }
-    accept_board(b, x, mv)
+    let span = board::span_found(found);
+    if board::is_quiet(found) {
+        return rest_board(b, x, span, mv);
+    }
+    accept_board(b, x, span, mv)
 }
 
 fn no_sample() -> Answer

@@ -5,6 +5,7 @@
 --     of-two           fn h(x: X, y: Y) -> O                                               says r ≡ F x y
 --     on-one           fn f(b: &mut R, x: X) -> O                                          says OneTold: (r ≡ F b x) × (b' ≡ G b x)
 --     on-record        fn f(b: &mut R, x: X, cells: &[E]) -> O                             says RecordTold: (r ≡ F b x cells) × (b' ≡ G b x cells)
+--     on-found         fn f(b: &mut R, x: X, z: Z, cells: &[E]) -> O                       says FoundTold: (r ≡ F b x z cells) × (b' ≡ G b x z cells)
 --     of-slice         fn f(row: &[R]) -> O                                                says r ≡ F row
 --     on-row           fn f(row: &mut [R], x: X) -> O                                      says Told: (r ≡ F row x) × (row' ≡ B row x)
 --     on-cells         fn f(row: &mut [R], n: N, x: X, cells: &[E]) -> O                   says CellsTold: (r ≡ F row n x cells) × (row' ≡ B row n x cells)
@@ -54,6 +55,13 @@ OfRecord B X E O = B → X → List E → O
 abbrev pub RecordTold : {B X E O : Type 0} → OfRecord B X E O → OfRecord B X E B → B → X → List E → O → B → Type 0
 RecordTold F G b x cs r c = (r ≡ F b x cs) × (c ≡ G b x cs)
 
+-- and something that was found of them
+abbrev pub OfFound : Type 0 → Type 0 → Type 0 → Type 0 → Type 0 → Type 0
+OfFound B X Z E O = B → X → Z → List E → O
+
+abbrev pub FoundTold : {B X Z E O : Type 0} → OfFound B X Z E O → OfFound B X Z E B → B → X → Z → List E → O → B → Type 0
+FoundTold F G b x z cs r c = (r ≡ F b x z cs) × (c ≡ G b x z cs)
+
 -- beside a number, an argument and cells
 abbrev pub OfCells : Type 0 → Type 0 → Type 0 → Type 0 → Type 0 → Type 0
 OfCells Y N X E O = List Y → N → X → List E → O
@@ -91,6 +99,14 @@ module _ (O : RattleType) where
 
     abbrev pub on-record : (X E : RattleType) → OfRecord (R .Denot) (X .Denot) (E .Denot) (O .Denot) → OfRecord (R .Denot) (X .Denot) (E .Denot) (R .Denot) → Form
     on-record X E F G = record { lifetimes = 2; params = behind 0 tt R ∷ value X ∷ shown 1 tt E ∷ []; result = O; says-of = λ κs a r e. RecordTold F G (now (a .0)) (a .1 .0) (now (a .1 .1 .0)) r (now (e .0)) }
+
+    abbrev pub on-found : (X Z E : RattleType) → OfFound (R .Denot) (X .Denot) (Z .Denot) (E .Denot) (O .Denot) → OfFound (R .Denot) (X .Denot) (Z .Denot) (E .Denot) (R .Denot) → Form
+    on-found X Z E F G = record {
+      lifetimes = 2;
+      params = behind 0 tt R ∷ value X ∷ value Z ∷ shown 1 tt E ∷ [];
+      result = O;
+      says-of = λ κs a r e. FoundTold F G (now (a .0)) (a .1 .0) (a .1 .1 .0) (now (a .1 .1 .1 .0)) r (now (e .0));
+    }
 
     abbrev pub of-slice : (List (R .Denot) → O .Denot) → Form
     of-slice F = record { lifetimes = 1; params = shown 0 tt R ∷ []; result = O; says-of = λ κs a r e. r ≡ F (now (a .0)) }

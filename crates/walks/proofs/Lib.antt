@@ -8,6 +8,7 @@ pub mod LendArray
 pub mod OverRow
 pub mod Through
 pub mod Beside
+pub mod BesideTwo
 pub mod Asked
 pub mod TwoWays
 pub mod EitherOne

@@ -13,14 +13,17 @@
 //                 f: r ≡ F b x                  g: (r ≡ F b x .answer) × (b' ≡ F b x .board)
 // Beside          fn g(b: &mut T, x: X, cells: &[E]) -> O { let s = f(*b, x, cells); *b = s.board; s.answer }
 //                 f: r ≡ F b x cells            g: (r ≡ F b x cells .answer) × (b' ≡ F b x cells .board)
+// BesideTwo       fn g(b: &mut T, x: X, z: Z, cells: &[E]) -> O { let s = f(*b, x, z, cells); *b = s.board; s.answer }
+//                 f: r ≡ F b x z cells          g: (r ≡ F b x z cells .answer) × (b' ≡ F b x z cells .board)
 // Asked           fn g(b: &mut T, x: X) -> O { f(*b, x) }
 //                 f: r ≡ F b x                  g: (r ≡ F b x) × (b' ≡ b)
 // EitherOne       fn g(b: &mut T, x: X) -> O { if test(x) { return f(b, x); } h(b, x) }
 //                 test: r ≡ is-so x             f and h: (r ≡ A b x) × (b' ≡ C b x)          g as f
 // Chosen          fn g(b: &mut T, x: X) -> O { if test(*b) { return f(b, x); } h(b, x) }
 //                 test: r ≡ is-so b             f and h: (r ≡ A b x) × (b' ≡ C b x)          g as f
-// Looked          fn g(b: &mut T, x: X, cells: &[E]) -> O { let d = look(*b, x, cells); if done(d) { return told(d); } f(b, x, cells) }
-//                 look: r ≡ F b x cells         done: r ≡ is-done d      told: r ≡ tells d   f: (r ≡ A b x cells) × (b' ≡ C b x cells)          g as f
+// Looked          fn g(b: &mut T, x: X, cells: &[E]) -> O { let d = look(*b, x, cells); if done(d) { return told(d); } let z = part(d); if calm(d) { return f(b, x, z, cells); } h(b, x, z, cells) }
+//                 look: r ≡ F b x cells         done: r ≡ is-done d      told: r ≡ tells d   part: r ≡ part-of d     calm: r ≡ is-calm d
+//                 f and h as g of BesideTwo     g: (r ≡ A b x cells) × (b' ≡ C b x cells)
 // LendAtPlain     fn g(row: &mut [T], x: X) -> O { let at = place(x); if at < row.len() { return f(&mut row[at], x); } no() }
 //                 place: r ≡ P x                f as g of EitherOne      no: r ≡ none        g: (r ≡ A row x) × (row' ≡ R row x)
 // LendAt          fn g(row: &mut [T], n: N, x: X, cells: &[E]) -> O { let at = place(n); if at < row.len() { return f(&mut row[at], x, cells); } no() }

@@ -1,5 +1,6 @@
 use Rattle.latches.proofs.Packed.{latches-kept}
-use Rattle.board.specs.Sample.{acceptedOf, latchesAfter, boardNext}
+use Rattle.board.specs.Sample.{latchesBy, boardBy}
+use Rattle.board.specs.Way.{acceptedBy}
 use borrow.Author.Needs.{needs}
 use Rattle.board.proofs.accept.Statement.{statement}
 use Rattle.board.proofs.accept.Tie as tie
@@ -9,9 +10,6 @@ sweep-requires c κs = search needs
 
 currents-next-requires : tie.Need-currents-next-requires
 currents-next-requires c κs = search needs
-
-span-of-requires : tie.Need-span-of-requires
-span-of-requires c κs = search needs
 
 latches-of-requires : tie.Need-latches-of-requires
 latches-of-requires c κs = search needs
@@ -26,16 +24,15 @@ status-of-requires : tie.Need-status-of-requires
 status-of-requires c κs = search needs
 
 returns : tie.Need-returns
-unfolding acceptedOf boardNext
+unfolding acceptedBy boardBy
 returns c =
     let c2 = c .before .before in
     let c3 = c2 .before in
     let c4 = c3 .before in
     let c5 = c4 .before in
     let c6 = c5 .before in
-    let c7 = c6 .before in
-    let a = c7 .before .before .before .args in
-    rw (c .status-of .ensures, c2 .byte-of .ensures, c3 .latches-next .ensures, c4 .latches-of .ensures, c5 .span-of .ensures, c6 .currents-next .ensures, c7 .sweep .ensures, latches-kept (latchesAfter (a .b) (a .x) (a .mv .now)))
+    let a = c6 .before .before .before .args in
+    rw (c .status-of .ensures, c2 .byte-of .ensures, c3 .latches-next .ensures, c4 .latches-of .ensures, c5 .currents-next .ensures, c6 .sweep .ensures, latches-kept (latchesBy (a .b) (a .x) (a .span) (a .mv .now)))
 
 pub accept-spec : {M : Type 1} → statement M
 accept-spec =
@@ -43,7 +40,6 @@ accept-spec =
     (tie.spec
     sweep-requires
     currents-next-requires
-    span-of-requires
     latches-of-requires
     latches-next-requires
     byte-of-requires

@@ -1,14 +1,4 @@
-use Prim.Native.Nat.{ℕ}
-use native.Mathlib.Omega.{arith}
-use mathlib.Core.Path.{_≡_, refl}
 use borrow.Author.Needs.{needs}
-use denote.Enum.Declared.{tagOf}
-use Rattle.refusal.specs.declared.Refusal.the-variants.{Malformed}
-use Rattle.board.specs.declared.Answer.the-variants.{Refused}
-use Rattle.board.specs.declared.Found.{Found}
-use Rattle.board.specs.declared.Found.the-variants.{Stays, Changes}
-use Rattle.board.specs.Look.{answerOf}
-use Rattle.board.proofs.Found.{the-type}
 use Rattle.board.proofs.answer_of.Statement.{statement}
 use Rattle.board.proofs.answer_of.Tie as tie
 
@@ -18,15 +8,18 @@ enum-known-found c = search needs
 enum-told : tie.Need-enum-told
 enum-told c = search needs
 
-returns : tie.Need-returns
-returns c = search needs
+enum-told-2 : tie.Need-enum-told-2
+enum-told-2 c = search needs
 
-at-changes : (f : Found) → tagOf the-type f ≡ 1 → Refused Malformed ≡ answerOf f
-at-changes (Stays a) e = let n : _≡_ {A = ℕ} 0 1 = e in absurd (omega arith)
-at-changes Changes e = refl
+returns : tie.Need-returns
+returns c = rw (c .before .found .given .1)
 
 returns-2 : tie.Need-returns-2
-returns-2 c = at-changes (c .before .before .args .found) (c .before .match .keys2)
+returns-2 c = rw (c .enum-told .given .1)
+
+returns-3 : tie.Need-returns-3
+returns-3 c = rw (c .enum-told2 .given .1)
 
 pub answer-of-spec : {M : Type 1} → statement M
-answer-of-spec = tie.close (tie.spec enum-known-found enum-told returns returns-2)
+answer-of-spec =
+    tie.close (tie.spec enum-known-found enum-told enum-told-2 returns returns-2 returns-3)

@@ -1,38 +1,28 @@
 use mathlib.Core.Path.{sym, _∙_}
 use borrow.Author.Tests.{eq-eqb, ne-eqb}
 use borrow.Author.Needs.{needs}
-use Rattle.board.specs.Sample.{sampleOf}
-use Rattle.board.specs.Look.{lookOf}
+use Rattle.board.specs.Way.{lookOf}
 use Rattle.board.proofs.Laws.{range-by}
-use Rattle.board.proofs.Unmoved.{quiet-look}
+use Rattle.board.proofs.Unmoved.{in-range}
 use Rattle.board.proofs.look.Statement.{statement}
 use Rattle.board.proofs.look.Tie as tie
 
-refused-requires : tie.Need-refused-requires
-refused-requires c κs = search needs
-
 returns : tie.Need-returns
-unfolding lookOf sampleOf
-returns c = rw (c .refused .ensures, c .before .if1 .taken)
+unfolding lookOf
+returns c = rw (c .if1 .taken)
 
 cast-if2 : tie.Need-cast-if2
 cast-if2 c = search needs
 
-refused-requires-2 : tie.Need-refused-requires-2
-refused-requires-2 c κs = search needs
-
 returns-2 : tie.Need-returns-2
-unfolding lookOf sampleOf
-returns-2 c = rw (c .refused2 .ensures, c .before .before .if1 .left, ne-eqb _ _ (c .before .if2 .taken))
-
-refused-requires-3 : tie.Need-refused-requires-3
-refused-requires-3 c κs = search needs
+unfolding lookOf
+returns-2 c = rw (c .before .if1 .left, ne-eqb _ _ (c .if2 .taken))
 
 returns-3 : tie.Need-returns-3
-unfolding lookOf sampleOf
+unfolding lookOf
 returns-3 c =
-    let c4 = c .before .before .before .before in
-    rw (c .refused3 .ensures, c4 .before .if1 .left, eq-eqb _ _ (c4 .if2 .left), c .before .if3 .taken)
+    let c3 = c .before .before .before in
+    rw (c3 .before .if1 .left, eq-eqb _ _ (c3 .if2 .left), c .if3 .taken)
 
 span-of-requires : tie.Need-span-of-requires
 span-of-requires c κs = search needs
@@ -41,60 +31,51 @@ quiet-requires : tie.Need-quiet-requires
 quiet-requires c κs = search needs
 
 returns-4 : tie.Need-returns-4
+unfolding lookOf
 returns-4 c =
-    let c1 = c .before in
-    let c2 = c1 .before in
+    let c2 = c .before .before in
     let c3 = c2 .before in
     let c6 = c3 .before .before .before in
     let a = c6 .before .before .before .args in
-    let is-quiet = rw (c2 .span-of .ensures) at (sym (c1 .quiet .ensures) ∙ c .if4 .taken) in
-    quiet-look (a .b) (a .x) (a .mv .now) is-quiet (c6 .before .if1 .left) (eq-eqb _ _ (c6 .if2 .left)) (c3 .if3 .left)
+    let is-quiet = rw (c2 .span-of .ensures) at (sym (c .before .quiet .ensures) ∙ c .if4 .taken) in
+    rw (c2 .span-of .ensures, c6 .before .if1 .left, eq-eqb _ _ (c6 .if2 .left), c3 .if3 .left, in-range (a .b) (a .x) (a .mv .now) is-quiet, is-quiet)
 
 out-of-range-requires : tie.Need-out-of-range-requires
 out-of-range-requires c κs = search needs
 
-refused-requires-4 : tie.Need-refused-requires-4
-refused-requires-4 c κs = search needs
-
 returns-5 : tie.Need-returns-5
-unfolding lookOf sampleOf
+unfolding lookOf
 returns-5 c =
-    let c2 = c .before .before in
-    let c5 = c2 .before .before .before in
-    let c6 = c5 .before in
-    let c9 = c6 .before .before .before in
-    let a = c9 .before .before .before .args in
-    let broken = sym (range-by (a .x) (a .mv .now)) ∙ (rw (c5 .span-of .ensures) at (sym (c2 .out-of-range .ensures) ∙ c .before .if5 .taken)) in
-    rw (c .refused4 .ensures, c9 .before .if1 .left, eq-eqb _ _ (c9 .if2 .left), c6 .if3 .left, broken)
+    let c4 = c .before .before .before .before in
+    let c5 = c4 .before in
+    let c8 = c5 .before .before .before in
+    let a = c8 .before .before .before .args in
+    let broken = sym (range-by (a .x) (a .mv .now)) ∙ (rw (c4 .span-of .ensures) at (sym (c .before .out-of-range .ensures) ∙ c .if5 .taken)) in
+    rw (c8 .before .if1 .left, eq-eqb _ _ (c8 .if2 .left), c5 .if3 .left, broken)
 
 returns-6 : tie.Need-returns-6
 unfolding lookOf
 returns-6 c =
-    let c1 = c .before in
-    let c3 = c1 .before .before in
+    let c3 = c .before .before .before in
     let c4 = c3 .before in
     let c5 = c4 .before in
     let c8 = c5 .before .before .before in
     let a = c8 .before .before .before .args in
-    let kept = sym (range-by (a .x) (a .mv .now)) ∙ (rw (c4 .span-of .ensures) at (sym (c1 .out-of-range .ensures) ∙ c .if5 .left)) in
-    let loud = rw (c4 .span-of .ensures) at (sym (c3 .quiet .ensures) ∙ c1 .before .if4 .left) in
-    rw (c8 .before .if1 .left, eq-eqb _ _ (c8 .if2 .left), c5 .if3 .left, kept, loud)
+    let kept = sym (range-by (a .x) (a .mv .now)) ∙ (rw (c4 .span-of .ensures) at (sym (c .before .out-of-range .ensures) ∙ c .if5 .left)) in
+    let loud = rw (c4 .span-of .ensures) at (sym (c3 .quiet .ensures) ∙ c .before .before .if4 .left) in
+    rw (c4 .span-of .ensures, c8 .before .if1 .left, eq-eqb _ _ (c8 .if2 .left), c5 .if3 .left, kept, loud)
 
 pub look-spec : {M : Type 1} → statement M
 look-spec =
     tie.close
     (tie.spec
-    refused-requires
     returns
     cast-if2
-    refused-requires-2
     returns-2
-    refused-requires-3
     returns-3
     span-of-requires
     quiet-requires
     returns-4
     out-of-range-requires
-    refused-requires-4
     returns-5
     returns-6)

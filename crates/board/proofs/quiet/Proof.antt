@@ -1,6 +1,6 @@
 use mir.Facts.{toZ-ofZ}
 use mir.Syntax.{w32}
-use Rattle.board.specs.Sample.{quietOf}
+use Rattle.board.specs.Way.{quietOf}
 use borrow.Author.Needs.{needs}
 use Rattle.board.proofs.quiet.Statement.{statement}
 use Rattle.board.proofs.quiet.Tie as tie

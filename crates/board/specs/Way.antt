@@ -1,0 +1,85 @@
+-- On the way: a sample is looked at before the board is changed. What the look finds, and what comes of each finding, together are the sample (the laws look-refused, look-quiet, look-changes).
+-- Assumes nothing.
+use Prim.Native.Nat.{ℕ}
+use mathlib.Core.Bool.{Bool, true, false, cond, not, _&&_, _||_}
+use mathlib.Core.List.{List}
+use lib.Dec.{ltb, eqb}
+use Rattle.refusal.specs.declared.Refusal.the-variants.{Malformed}
+use Rattle.refusal.specs.Refusals.{numbered}
+use Rattle.refusal.specs.Said.{first}
+use Rattle.settings.specs.Levels.{ocdLevel, scdLevel}
+use Rattle.cells.specs.declared.Span.{Span}
+use Rattle.cells.specs.Ends.{spanOf}
+use Rattle.cells.specs.Cells.{calmOf}
+use Rattle.latches.specs.Latches.{latchesOf, register0}
+use Rattle.board.specs.declared.Board.{Board}
+use Rattle.board.specs.declared.Readings.{Readings}
+use Rattle.board.specs.declared.Answer.{Answer}
+use Rattle.board.specs.declared.Answer.the-variants as answer
+use Rattle.board.specs.declared.Stepped.{Stepped}
+use Rattle.board.specs.declared.Found.{Found}
+use Rattle.board.specs.declared.Found.the-variants.{Refused, Quiet, Changes}
+use Rattle.board.specs.Shunt.{shuntAbove, shuntOutside}
+use Rattle.board.specs.Sample.{hot, sweptAt, latchesBy, boardBy, sampleBars}
+
+-- refusal 5 by the highest cell (the law range-by)
+abbrev pub outOfRangeBy : Readings → Span → Bool
+outOfRangeBy x span = ltb 5000 (span .high) || ltb 5000 (x .thermistor) || shuntOutside (x .shunt) || ltb 1 (x .load)
+
+-- ---- a quiet sample: it finds nothing, on a board that has nothing on record
+-- no latch and no flag
+abbrev pub clear : Board → Bool
+clear b = eqb (b .latches) 0 && eqb (b .flags) 0
+
+-- no run of a current condition
+abbrev pub idle : Board → Bool
+idle b = eqb (b .currents .ocd) 0 && eqb (b .currents .scd) 0
+
+-- the shunt is not above the level of OCD, nor of SCD
+abbrev pub currentsBelow : Board → Readings → Bool
+currentsBelow b x = not (shuntAbove (ocdLevel (b .working)) (x .shunt)) && not (shuntAbove (scdLevel (b .working)) (x .shunt))
+
+-- not hot, and in range
+abbrev pub warm : Readings → Bool
+warm x = not (hot x) && not (ltb 5000 (x .thermistor))
+
+-- and every cell without a run, the lowest and the highest where UV and OV let go
+unfoldable pub quietOf : Board → Readings → Span → Bool
+quietOf b x span = (clear b && idle b) && (calmOf (b .working) (b .cells) span && (currentsBelow b x && (warm x && (not (shuntOutside (x .shunt)) && not (ltb 1 (x .load))))))
+
+-- ---- what the look finds: refused, or else quiet or not
+unfoldable pub lookOf : Board → Readings → List ℕ → Found
+lookOf b x mv =
+    cond (eqb (first (sampleBars b x mv)) 0)
+    (cond (quietOf b x (spanOf mv)) (Quiet (spanOf mv)) (Changes (spanOf mv)))
+    (Refused (numbered (first (sampleBars b x mv))))
+
+abbrev pub isRefused : Found → Bool
+isRefused (Refused why) = true
+isRefused (Quiet span) = false
+isRefused (Changes span) = false
+
+abbrev pub isQuiet : Found → Bool
+isQuiet (Refused why) = false
+isQuiet (Quiet span) = true
+isQuiet (Changes span) = false
+
+-- the answer of a refused sample; no sample is Malformed, which stands for having no answer yet
+abbrev pub answerOf : Found → Answer
+answerOf (Refused why) = answer.Refused why
+answerOf (Quiet span) = answer.Refused Malformed
+answerOf (Changes span) = answer.Refused Malformed
+
+-- the lowest and the highest cell; of a refused sample none are handed on
+abbrev pub spanFound : Found → Span
+spanFound (Refused why) = record { low = 0; high = 0 }
+spanFound (Quiet span) = span
+spanFound (Changes span) = span
+
+-- ---- what comes of it: a quiet sample answers with register 0 of the record and no cell bled, and stores nothing yet; any other is stepped
+unfoldable pub restedOf : Board → Stepped
+restedOf b = record { board = b; answer = answer.Sampled (register0 (latchesOf (b .latches))) 0 }
+
+unfoldable pub acceptedBy : Board → Readings → Span → List ℕ → Stepped
+acceptedBy b x span mv =
+    record { board = boardBy b x span mv; answer = answer.Sampled (register0 (latchesBy b x span mv)) (sweptAt b x mv .bled) }
