@@ -276,7 +276,7 @@ pub extern "C" fn adomvik_sample_board(
 ) -> u8
     ensures { λ r. ⌜ (r ≡ boardNumber (now (b .entry)) x (now (cells .entry))) × ((now (b .exit) ≡ sampleOf (now (b .entry)) x (now (cells .entry)) .board) × (now (out .exit) ≡ boardOut (now (b .entry)) x (now (cells .entry)) (now (out .entry)))) ⌝ }
 {
-    let a = stack::sample_board(b, x, cells);
+    let a = board::sample_board(b, x, cells);
     tell_sample(out, a)
 }
 

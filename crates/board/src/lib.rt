@@ -1,7 +1,7 @@
-// One board by value: its record, and a sample of it (01, The stack and its readings; When a fault latches and lets go).
+// One board: its record, and a sample of it, by value and then where the record lies (01, The stack and its readings; When a fault latches and lets go).
 ghost use mathlib.Core.Path.{_≡_};
 ghost use Rattle.board.specs.Shunt.{shuntAbove, shuntOutside};
-ghost use Rattle.board.specs.Sample.{fresh, currentsNext, latchesNext};
+ghost use Rattle.board.specs.Sample.{fresh, currentsNext, latchesNext, sampleOf};
 ghost use Rattle.board.specs.Way.{outOfRangeBy, quietOf, lookOf, isRefused, isQuiet, answerOf, spanFound, restedOf, acceptedBy};
 use cells::Cell;
 use cells::Span;
@@ -45,7 +45,7 @@ pub enum Answer {
 }
 
 // What a look at a sample finds: it is refused, or it is quiet, or it may change the board. The lowest and the highest cell are handed on.
-pub enum Found {
+enum Found {
     Refused(Refusal),
     Quiet(Span),
     Changes(Span),
@@ -129,7 +129,7 @@ fn latches_next(
 }
 
 // A quiet sample. It stores nothing yet, and answers from the record.
-pub fn rest(b: Board, x: Readings, span: Span, mv: &[u32]) -> Stepped
+fn rest(b: Board, x: Readings, span: Span, mv: &[u32]) -> Stepped
     ensures { λ r. ⌜ r ≡ restedOf b ⌝ }
 {
     Stepped {
@@ -142,7 +142,7 @@ pub fn rest(b: Board, x: Readings, span: Span, mv: &[u32]) -> Stepped
 }
 
 // Any other accepted sample.
-pub fn accept(b: Board, x: Readings, span: Span, mv: &[u32]) -> Stepped
+fn accept(b: Board, x: Readings, span: Span, mv: &[u32]) -> Stepped
     ensures { λ r. ⌜ r ≡ acceptedBy b x span (now (mv .entry)) ⌝ }
 {
     let old = b.cells;
@@ -198,7 +198,7 @@ fn quiet(b: Board, x: Readings, span: Span) -> bool
 }
 
 // A look at a sample of one board. The lowest and the highest cell are found once, for all that is asked of every cell.
-pub fn look(b: Board, x: Readings, mv: &[u32]) -> Found
+fn look(b: Board, x: Readings, mv: &[u32]) -> Found
     ensures { λ r. ⌜ r ≡ lookOf b x (now (mv .entry)) ⌝ }
 {
     let count = b.count;
@@ -221,7 +221,7 @@ pub fn look(b: Board, x: Readings, mv: &[u32]) -> Found
     Found::Changes(span)
 }
 
-pub fn is_refused(found: Found) -> bool
+fn is_refused(found: Found) -> bool
     ensures { λ r. ⌜ r ≡ isRefused found ⌝ }
 {
     match found {
@@ -231,7 +231,7 @@ pub fn is_refused(found: Found) -> bool
     }
 }
 
-pub fn is_quiet(found: Found) -> bool
+fn is_quiet(found: Found) -> bool
     ensures { λ r. ⌜ r ≡ isQuiet found ⌝ }
 {
     match found {
@@ -242,7 +242,7 @@ pub fn is_quiet(found: Found) -> bool
 }
 
 // The answer of a refused sample; for any other, the refusal that no sample is given.
-pub fn answer_of(found: Found) -> Answer
+fn answer_of(found: Found) -> Answer
     ensures { λ r. ⌜ r ≡ answerOf found ⌝ }
 {
     match found {
@@ -253,7 +253,7 @@ pub fn answer_of(found: Found) -> Answer
 }
 
 // The lowest and the highest cell that were found; for a refused sample, none.
-pub fn span_found(found: Found) -> Span
+fn span_found(found: Found) -> Span
     ensures { λ r. ⌜ r ≡ spanFound found ⌝ }
 {
     match found {
@@ -261,4 +261,38 @@ pub fn span_found(found: Found) -> Span
         Found::Quiet(span) => span,
         Found::Changes(span) => span,
     }
+}
+
+// ---- the record behind a reference, by shapes of crate walks
+
+// The ways of an accepted sample: the record is taken apart, stepped by value and stored back.
+fn rest_board(b: &mut Board, x: Readings, span: Span, mv: &[u32]) -> Answer
+    ensures { λ r. ⌜ (r ≡ restedOf (now (b .entry)) .answer) × (now (b .exit) ≡ restedOf (now (b .entry)) .board) ⌝ }
+{
+    let s = rest(*b, x, span, mv);
+    *b = s.board;
+    s.answer
+}
+
+fn accept_board(b: &mut Board, x: Readings, span: Span, mv: &[u32]) -> Answer
+    ensures { λ r. ⌜ (r ≡ acceptedBy (now (b .entry)) x span (now (mv .entry)) .answer) × (now (b .exit) ≡ acceptedBy (now (b .entry)) x span (now (mv .entry)) .board) ⌝ }
+{
+    let s = accept(*b, x, span, mv);
+    *b = s.board;
+    s.answer
+}
+
+// A sample of one board: refused, with its answer; quiet; or it may change the board.
+pub fn sample_board(b: &mut Board, x: Readings, mv: &[u32]) -> Answer
+    ensures { λ r. ⌜ (r ≡ sampleOf (now (b .entry)) x (now (mv .entry)) .answer) × (now (b .exit) ≡ sampleOf (now (b .entry)) x (now (mv .entry)) .board) ⌝ }
+{
+    let found = look(*b, x, mv);
+    if is_refused(found) {
+        return answer_of(found);
+    }
+    let span = span_found(found);
+    if is_quiet(found) {
+        return rest_board(b, x, span, mv);
+    }
+    accept_board(b, x, span, mv)
 }

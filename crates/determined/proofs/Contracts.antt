@@ -54,13 +54,6 @@ use Rattle.latches.proofs.byte_of.Reads as latches-byte-of
 use Rattle.latches.proofs.status_of.Reads as latches-status-of
 use Rattle.latches.proofs.latch_next.Reads as latches-latch-next
 use Rattle.board.proofs.fresh_board.Reads as board-fresh-board
-use Rattle.board.proofs.look.Reads as board-look
-use Rattle.board.proofs.is_refused.Reads as board-is-refused
-use Rattle.board.proofs.is_quiet.Reads as board-is-quiet
-use Rattle.board.proofs.span_found.Reads as board-span-found
-use Rattle.board.proofs.rest.Reads as board-rest
-use Rattle.board.proofs.answer_of.Reads as board-answer-of
-use Rattle.board.proofs.accept.Reads as board-accept
 use Rattle.frame.proofs.check_all.Reads as frame-check-all
 use Rattle.frame.proofs.check_byte.Reads as frame-check-byte
 use Rattle.frame.proofs.take_apart.Reads as frame-take-apart
@@ -209,27 +202,6 @@ latches-latch-next-one κs a r t s u = agree
 pub board-fresh-board-one : (κs : _) (a : _) (r t : _) (s u : _) → board-fresh-board.Learnt κs a r s → board-fresh-board.Learnt κs a t u → r ≡ t
 board-fresh-board-one κs a r t s u = agree
 
-pub board-look-one : (κs : _) (a : _) (r t : _) (s u : _) → board-look.Learnt κs a r s → board-look.Learnt κs a t u → r ≡ t
-board-look-one κs a r t s u = agree
-
-pub board-is-refused-one : (κs : _) (a : _) (r t : _) (s u : _) → board-is-refused.Learnt κs a r s → board-is-refused.Learnt κs a t u → r ≡ t
-board-is-refused-one κs a r t s u = agree
-
-pub board-is-quiet-one : (κs : _) (a : _) (r t : _) (s u : _) → board-is-quiet.Learnt κs a r s → board-is-quiet.Learnt κs a t u → r ≡ t
-board-is-quiet-one κs a r t s u = agree
-
-pub board-span-found-one : (κs : _) (a : _) (r t : _) (s u : _) → board-span-found.Learnt κs a r s → board-span-found.Learnt κs a t u → r ≡ t
-board-span-found-one κs a r t s u = agree
-
-pub board-rest-one : (κs : _) (a : _) (r t : _) (s u : _) → board-rest.Learnt κs a r s → board-rest.Learnt κs a t u → r ≡ t
-board-rest-one κs a r t s u = agree
-
-pub board-answer-of-one : (κs : _) (a : _) (r t : _) (s u : _) → board-answer-of.Learnt κs a r s → board-answer-of.Learnt κs a t u → r ≡ t
-board-answer-of-one κs a r t s u = agree
-
-pub board-accept-one : (κs : _) (a : _) (r t : _) (s u : _) → board-accept.Learnt κs a r s → board-accept.Learnt κs a t u → r ≡ t
-board-accept-one κs a r t s u = agree
-
 -- ---- frame
 pub frame-check-all-one : (κs : _) (a : _) (r t : _) (s u : _) → frame-check-all.Learnt κs a r s → frame-check-all.Learnt κs a t u → r ≡ t
 frame-check-all-one κs a r t s u = agree
@@ -336,8 +308,8 @@ pub frame-put-two : (buffer : List ℕ) (t : Taken) (made : Outcome) → Determi
 frame-put-two buffer t made = two (replyOf t made) (putOf buffer (replyOf t made))
 
 -- the answer, and the record
-pub stack-sample-board-two : (b : Board) (x : Readings) (mv : List ℕ) → Determined (λ (o : Answer × Board). (o .0 ≡ sampleOf b x mv .answer) × (o .1 ≡ sampleOf b x mv .board))
-stack-sample-board-two b x mv = two (sampleOf b x mv .answer) (sampleOf b x mv .board)
+pub board-sample-board-two : (b : Board) (x : Readings) (mv : List ℕ) → Determined (λ (o : Answer × Board). (o .0 ≡ sampleOf b x mv .answer) × (o .1 ≡ sampleOf b x mv .board))
+board-sample-board-two b x mv = two (sampleOf b x mv .answer) (sampleOf b x mv .board)
 
 -- the answer, and the row
 pub stack-sample-stack-two : (row : List Board) (n : ℕ) (x : Readings) (mv : List ℕ) → Determined (λ (o : Answer × List Board). (o .0 ≡ sampleAnswer row n x mv) × (o .1 ≡ sampleRow row n x mv))

@@ -9,18 +9,10 @@ use types.Kit.{Given}
 use denote.Builtin.{u32}
 use denote.Struct.Laws as LL
 use Rattle.walks.proofs.Plain.{PlainType, PlainPair, uint, struct, enumeration}
-use Rattle.cells.proofs.Span as Span
-use Rattle.cells.proofs.Span.Laws as Span′
+use Rattle.board.proofs.Known as one
 use Rattle.board.proofs.Board as Board
-use Rattle.board.proofs.Board.Laws as Board′
 use Rattle.board.proofs.Readings as Readings
-use Rattle.board.proofs.Readings.Laws as Readings′
-use Rattle.board.proofs.Found as Found
-use Rattle.board.proofs.Found.Laws as Found′
 use Rattle.board.proofs.Answer as Answer
-use Rattle.board.proofs.Answer.Laws as Answer′
-use Rattle.board.proofs.Stepped as Stepped
-use Rattle.board.proofs.Stepped.Laws as Stepped′
 use Rattle.frame.proofs.Taken as Taken
 use Rattle.frame.proofs.Taken.Laws as Taken′
 use Rattle.frame.proofs.Request as Request
@@ -43,19 +35,13 @@ module _ {M : Type 1} (𝓤 : URA M) (H : Heap 𝓤) (A : Atoms 𝓤) (W : Given
   number = uint 𝓤 H A W w32
 
   abbrev pub board : PlainType 𝓤 H A Board.the-row
-  board = struct 𝓤 H A W Board.the-type Board′.the-laws Board′.the-plain Board′.the-copy
+  board = one.board 𝓤 H A W
 
   abbrev pub readings : PlainType 𝓤 H A Readings.the-row
-  readings = struct 𝓤 H A W Readings.the-type Readings′.the-laws Readings′.the-plain Readings′.the-copy
-
-  abbrev pub span : PlainType 𝓤 H A Span.the-row
-  span = struct 𝓤 H A W Span.the-type Span′.the-laws Span′.the-plain Span′.the-copy
+  readings = one.readings 𝓤 H A W
 
   abbrev pub answer : PlainType 𝓤 H A Answer.the-row
-  answer = enumeration 𝓤 H A W Answer.the-type Answer′.the-laws Answer′.the-plain Answer′.the-copy tt
-
-  abbrev pub found : PlainType 𝓤 H A Found.the-row
-  found = enumeration 𝓤 H A W Found.the-type Found′.the-laws Found′.the-plain Found′.the-copy tt
+  answer = one.answer 𝓤 H A W
 
   abbrev pub taken : PlainType 𝓤 H A Taken.the-row
   taken = enumeration 𝓤 H A W Taken.the-type Taken′.the-laws Taken′.the-plain Taken′.the-copy tt
@@ -79,17 +65,6 @@ module _ {M : Type 1} (𝓤 : URA M) (H : Heap 𝓤) (A : Atoms 𝓤) (W : Given
   view = enumeration 𝓤 H A W View.the-type View′.the-laws View′.the-plain View′.the-copy tt
 
   -- what the functions by value return
-  abbrev pub stepped : PlainPair 𝓤 H A Stepped.the-type Board.the-row Answer.the-row (λ z. z .board) (λ z. z .answer)
-  stepped =
-      record {
-        both = struct 𝓤 H A W Stepped.the-type Stepped′.the-laws Stepped′.the-plain Stepped′.the-copy;
-        first = board;
-        second = answer;
-        laid-out = refl;
-        spelled = λ z. refl;
-        owed = λ z is. (LL.owed Stepped.the-type Stepped′.the-laws z _ is .0, LL.owed Stepped.the-type Stepped′.the-laws z _ is .1 .0);
-      }
-
   abbrev pub obeyed : PlainPair 𝓤 H A Obeyed.the-type Board.the-row Outcome.the-row (λ z. z .board) (λ z. z .outcome)
   obeyed =
       record {

@@ -5,7 +5,6 @@ ghost use mathlib.Core.Bool.{true, not};
 ghost use Prim.Native.Nat.{_≤_};
 ghost use lib.ListN.{length};
 ghost use Rattle.board.specs.Sample.{sampleOf, badBoard};
-ghost use Rattle.board.specs.Way.{restedOf, acceptedBy};
 ghost use Rattle.registers.specs.Registers.{obeyedOf, toldOf, keptOf, spentBy, stagedBy, programmedBy, setBy, writtenBy};
 ghost use Rattle.stack.specs.Row.{badCount, goodRow, placeOf};
 ghost use Rattle.stack.specs.Open.{goodCounts, freshRow, noStack, openOf};
@@ -17,7 +16,6 @@ ghost use Rattle.stack.specs.Read.{seenRow, placeAt, firstFrom, lookOf, 
 use board::Answer;
 use board::Board;
 use board::Readings;
-use cells::Span;
 use frame::Outcome;
 use frame::Reply;
 use frame::Request;
@@ -163,38 +161,6 @@ pub fn open_stack(counts: &[u32]) -> Start
 
 // ---- a sample
 
-// The ways of an accepted sample: the record is taken apart, stepped by value and stored back.
-fn rest_board(b: &mut Board, x: Readings, span: Span, mv: &[u32]) -> Answer
-    ensures { λ r. ⌜ (r ≡ restedOf (now (b .entry)) .answer) × (now (b .exit) ≡ restedOf (now (b .entry)) .board) ⌝ }
-{
-    let s = board::rest(*b, x, span, mv);
-    *b = s.board;
-    s.answer
-}
-
-fn accept_board(b: &mut Board, x: Readings, span: Span, mv: &[u32]) -> Answer
-    ensures { λ r. ⌜ (r ≡ acceptedBy (now (b .entry)) x span (now (mv .entry)) .answer) × (now (b .exit) ≡ acceptedBy (now (b .entry)) x span (now (mv .entry)) .board) ⌝ }
-{
-    let s = board::accept(*b, x, span, mv);
-    *b = s.board;
-    s.answer
-}
-
-// A sample of one board: refused, with its answer; quiet; or it may change the board.
-pub fn sample_board(b: &mut Board, x: Readings, mv: &[u32]) -> Answer
-    ensures { λ r. ⌜ (r ≡ sampleOf (now (b .entry)) x (now (mv .entry)) .answer) × (now (b .exit) ≡ sampleOf (now (b .entry)) x (now (mv .entry)) .board) ⌝ }
-{
-    let found = board::look(*b, x, mv);
-    if board::is_refused(found) {
-        return board::answer_of(found);
-    }
-    let span = board::span_found(found);
-    if board::is_quiet(found) {
-        return rest_board(b, x, span, mv);
-    }
-    accept_board(b, x, span, mv)
-}
-
 fn no_sample() -> Answer
     ensures { λ r. ⌜ r ≡ noSample ⌝ }
 {
@@ -212,7 +178,7 @@ fn sample_at(row: &mut [Board], board: u32, x: Readings, mv: &[u32]) -> Answer
 {
     let at = place_of(board);
     if at < row.len() {
-        return sample_board(&mut row[at], x, mv);
+        return board::sample_board(&mut row[at], x, mv);
     }
     no_sample()
 }

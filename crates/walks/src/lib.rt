@@ -2,7 +2,7 @@
 //
 // The prover does not cover a function with a record behind a reference. Write such a function in one of the shapes below, statement for statement, with every
 // decision in a function by value, and it is proved by a file that fills in the records Shape and Knows of its theorem and cites `meets`.
-// crates/stack, crates/held and crates/session have functions of these shapes with that file, and proofs/Known.antt with what is to be known of the crate's own types.
+// crates/board, crates/stack, crates/held and crates/session have functions of these shapes with that file, and proofs/Known.antt with what is to be known of the crate's own types.
 //
 // T is a declared struct of plain fields. X, N, K, S, Y, Z, B and O are plain: a number, a bool, a declared struct or enum of such, an array of such. E and G are what a
 // slice can hold, and where they fill a local array they are plain too. Names of locals, fields and functions are free; statements, their order and the order of

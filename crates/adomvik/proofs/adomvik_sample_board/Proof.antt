@@ -23,8 +23,8 @@ use denote.Triple.Table.{entered, cited}
 use Rattle.adomvik.proofs.TellsOne.{Shape, Knows, meets}
 use Rattle.stack.proofs.Known as stack-known
 use Rattle.adomvik.proofs.Known as known
-use Rattle.stack.proofs.sample_board.Symbol.{name as #sample-board}
-use Rattle.stack.proofs.sample_board.Met as sample-board′
+use Rattle.board.proofs.sample_board.Symbol.{name as #sample-board}
+use Rattle.board.proofs.sample_board.Met as sample-board′
 use Rattle.adomvik.proofs.tell_sample.Symbol.{name as #tell-sample}
 use Rattle.adomvik.proofs.tell_sample.Met as tell-sample′
 use Rattle.adomvik.proofs.adomvik_sample_board.Key as key
@@ -47,5 +47,5 @@ unfolding code.routine tablesOf
 adomvik-sample-board-spec 𝓤 H 𝓜 𝓖 𝓡 =
     entered 𝓤 H _ _ _ key.name code.function (code.unfolded 𝓤 H 𝓜 𝓡)
     (meets 𝓤 H (𝓖 .A) (givenOf 𝓤 H 𝓜 𝓖) shape (knows 𝓤 H (𝓖 .A) (givenOf 𝓤 H 𝓜 𝓖)) (tablesOf 𝓤 H 𝓜 (tables 𝓤 H 𝓜 𝓡 code.env))
-    (cited 𝓤 H _ 𝓜 𝓡 code.env #sample-board _ code.calls-stack·sample-board (sample-board′.met 𝓤 H 𝓜 𝓖 𝓡))
+    (cited 𝓤 H _ 𝓜 𝓡 code.env #sample-board _ code.calls-board·sample-board (sample-board′.met 𝓤 H 𝓜 𝓖 𝓡))
     (cited 𝓤 H _ 𝓜 𝓡 code.env #tell-sample _ code.calls-adomvik·tell-sample (tell-sample′.met 𝓤 H 𝓜 𝓖 𝓡)))

@@ -24,8 +24,8 @@ use Rattle.walks.proofs.LendAt.{Shape, Knows, meets}
 use Rattle.stack.proofs.Known as known
 use Rattle.stack.proofs.place_of.Symbol.{name as #place-of}
 use Rattle.stack.proofs.place_of.Met as place-of′
-use Rattle.stack.proofs.sample_board.Symbol.{name as #sample-board}
-use Rattle.stack.proofs.sample_board.Met as sample-board′
+use Rattle.board.proofs.sample_board.Symbol.{name as #sample-board}
+use Rattle.board.proofs.sample_board.Met as sample-board′
 use Rattle.stack.proofs.no_sample.Symbol.{name as #no-sample}
 use Rattle.stack.proofs.no_sample.Met as no-sample′
 use Rattle.stack.proofs.sample_at.Key as key
@@ -53,5 +53,5 @@ sample-at-spec 𝓤 H 𝓜 𝓖 𝓡 =
     entered 𝓤 H _ _ _ key.name code.function (code.unfolded 𝓤 H 𝓜 𝓡)
     (meets 𝓤 H (𝓖 .A) (givenOf 𝓤 H 𝓜 𝓖) shape (knows 𝓤 H (𝓖 .A) (givenOf 𝓤 H 𝓜 𝓖)) (tablesOf 𝓤 H 𝓜 (tables 𝓤 H 𝓜 𝓡 code.env))
     (cited 𝓤 H _ 𝓜 𝓡 code.env #place-of _ code.calls-stack·place-of (place-of′.met 𝓤 H 𝓜 𝓖 𝓡))
-    (cited 𝓤 H _ 𝓜 𝓡 code.env #sample-board _ code.calls-stack·sample-board (sample-board′.met 𝓤 H 𝓜 𝓖 𝓡))
+    (cited 𝓤 H _ 𝓜 𝓡 code.env #sample-board _ code.calls-board·sample-board (sample-board′.met 𝓤 H 𝓜 𝓖 𝓡))
     (cited 𝓤 H _ 𝓜 𝓡 code.env #no-sample _ code.calls-stack·no-sample (no-sample′.met 𝓤 H 𝓜 𝓖 𝓡)))
