@@ -10,14 +10,14 @@ use Rattle.lists.proofs.Split.{split}
 use Rattle.refusal.proofs.Laws.{said-refused}
 use Rattle.settings.specs.Faults.{Fault, SCD, OCD, OV, UV, OT}
 use Rattle.cells.specs.Ends.{highOf, spanOf}
-use Rattle.cells.proofs.Ends.{every-within}
+use Rattle.cells.proofs.Ends.{every-within, all-below-release, all-above-release}
 use Rattle.board.specs.declared.Board.{Board}
 use Rattle.board.specs.declared.Readings.{Readings}
 use Rattle.board.specs.declared.Answer.{Answer}
 use Rattle.board.specs.declared.Answer.the-variants.{Sampled, Refused}
 use Rattle.latches.specs.Latches.{latch, latches, latchNext, latchesOf}
-use Rattle.board.specs.Sample.{answerSaid, answerSaying, sweptAt, latchesAfter, latchesNext, boardBy, boardNext, currentsNext, stands, letsGo, outOfRange}
-use Rattle.board.specs.Way.{outOfRangeBy}
+use Rattle.board.specs.Sample.{answerSaid, answerSaying, sweptAt, latchesAfter, latchesNext, boardWith, boardNext, currentsNext, stands, letsGo, outOfRange}
+use Rattle.board.specs.Way.{outOfRangeBy, latchesBy, latchesLeft}
 use Rattle.latches.proofs.Packed.{latches-kept}
 
 -- an answer is determined by the number and the values that it says
@@ -36,9 +36,9 @@ latch-of OT on = refl
 -- at an accepted sample an unlatched fault latches exactly if its condition has stood its delay, and a latched one unlatches exactly if it lets go
 pub latch-after : (f : Fault) (b : Board) (x : Readings) (mv : List ℕ)
     → latch f (latchesOf (boardNext b x mv .latches))
-    ≡ latchNext (latch f (latchesOf (b .latches))) (stands (b .working) (sweptAt b x mv) (spanOf mv) (currentsNext (b .working) (b .currents) x) x f)
-    (letsGo (b .working) (sweptAt b x mv) (spanOf mv) (currentsNext (b .working) (b .currents) x) x f)
-unfolding boardBy latchesNext
+    ≡ latchNext (latch f (latchesOf (b .latches))) (stands (b .working) (sweptAt b x mv) (currentsNext (b .working) (b .currents) x) x f)
+    (letsGo (b .working) (sweptAt b x mv) (currentsNext (b .working) (b .currents) x) x mv f)
+unfolding boardWith latchesNext
 latch-after f b x mv = rw (latches-kept (latchesAfter b x mv), latch-of f)
 
 -- a cell reads above 5,000 mV exactly if the highest does
@@ -47,3 +47,8 @@ above-not-within most v = split (ltb most v) (λ e. rw (e, lt-leb v most (ltb-tr
 
 pub range-by : (x : Readings) (mv : List ℕ) → outOfRangeBy x (spanOf mv) ≡ outOfRange x mv
 range-by x mv = rw (every-within 5000 mv, above-not-within 5000 (highOf mv))
+
+-- all cells are where OV and UV let go exactly if the highest and the lowest are
+pub latches-by : (b : Board) (x : Readings) (mv : List ℕ) → latchesLeft b x (spanOf mv) mv ≡ latchesAfter b x mv
+unfolding latchesBy latchesNext
+latches-by b x mv = rw (all-below-release (b .working) mv, all-above-release (b .working) mv)

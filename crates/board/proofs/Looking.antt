@@ -15,6 +15,7 @@ use Rattle.board.specs.declared.Found.{Found}
 use Rattle.board.specs.declared.Found.the-variants.{Refused, Quiet, Changes}
 use Rattle.board.specs.Sample.{answerSaying, sampleValues, sampleBars, boardNext, sampleOf}
 use Rattle.board.specs.Way.{quietOf, lookOf, isRefused, isQuiet, answerOf, spanFound, restedOf, acceptedBy}
+use Rattle.board.proofs.Laws.{latches-by}
 use Rattle.board.proofs.Unmoved.{rested}
 
 module _ (b : Board) (x : Readings) (mv : List ℕ) where
@@ -42,7 +43,7 @@ module _ (b : Board) (x : Readings) (mv : List ℕ) where
       → let s = acceptedBy b x (spanFound (found accepted quiet)) mv in Says accepted (s .answer) (s .board)
   unfolding acceptedBy
   at-changes true true so or = absurd or
-  at-changes true false so or = (refl, refl)
+  at-changes true false so or = (rw (latches-by b x mv), rw (latches-by b x mv))
   at-changes false quiet so or = absurd so
 
   abbrev Told : Answer → Board → Type 0

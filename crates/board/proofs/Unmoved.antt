@@ -22,7 +22,7 @@ use Rattle.latches.specs.Latches.{latches, latchesByte, register0}
 use Rattle.board.specs.declared.Board.{Board}
 use Rattle.board.specs.declared.Readings.{Readings}
 use Rattle.board.specs.Shunt.{shuntAbove, shuntOutside}
-use Rattle.board.specs.Sample.{currentsNext, latchesNext, hot, sweptAt, latchesAfter, boardBy, boardNext, sampleValues, answerSaying, outOfRange}
+use Rattle.board.specs.Sample.{currentsNext, latchesNext, hot, sweptAt, latchesAfter, boardWith, boardNext, sampleValues, answerSaying, outOfRange}
 use Rattle.board.specs.Way.{clear, idle, currentsBelow, warm, quietOf, restedOf}
 
 module _ (b : Board) (x : Readings) (mv : List ℕ) (q : quietOf b x (spanOf mv) ≡ true) where
@@ -111,7 +111,7 @@ module _ (b : Board) (x : Readings) (mv : List ℕ) (q : quietOf b x (spanOf mv)
   same-currents = rw (no-ocd, no-scd) (λ i. record { ocd = sym no-ocd-run i; scd = sym no-scd-run i })
 
   same-board : boardNext b x mv ≡ b
-  unfolding boardBy latchesByte number
+  unfolding boardWith latchesByte number
   same-board =
       let byte = ap latchesByte unlatched ∙ sym no-latch in
       let flags = ap (λ (w : Swept). w .flags) swept ∙ sym no-flag in

@@ -7,13 +7,12 @@ use lib.Dec.{ltb, eqb}
 use lib.ListN.{length}
 use Rattle.refusal.specs.Refusals.{numberOf, numbered}
 use Rattle.refusal.specs.Said.{Said, refuses, accepts, value, Bar, bar, judged, kept}
+use Rattle.lists.specs.Every.{every}
 use Rattle.settings.specs.declared.Settings.{Settings}
 use Rattle.settings.specs.Levels.{factory, ovRelease, uvRelease, ocdLevel, scdLevel}
 use Rattle.settings.specs.Faults.{Fault, SCD, OCD, OV, UV, OT, delay}
 use Rattle.runs.specs.Kept.{runNext, stood}
-use Rattle.cells.specs.declared.Span.{Span}
 use Rattle.cells.specs.declared.Swept.{Swept}
-use Rattle.cells.specs.Ends.{spanOf}
 use Rattle.cells.specs.Cells.{sweepOf, noCells, readable}
 use Rattle.board.specs.declared.Board.{Board}
 use Rattle.board.specs.declared.Currents.{Currents}
@@ -55,7 +54,7 @@ hot x = ltb (x .thermistor) 975
 abbrev pub attached : Readings → Bool
 attached x = eqb (x .load) 1
 
-module _ (s : Settings) (swept : Swept) (span : Span) (runs : Currents) (x : Readings) where
+module _ (s : Settings) (swept : Swept) (runs : Currents) (x : Readings) where
   -- the condition has stood its delay, for some one cell with OV and UV; overtemperature has no delay
   abbrev pub stands : Fault → Bool
   stands SCD = stood (delay SCD s) (runs .scd)
@@ -64,31 +63,31 @@ module _ (s : Settings) (swept : Swept) (span : Span) (runs : Currents) (x : Rea
   stands UV = not (eqb (swept .«uv_stood») 0)
   stands OT = hot x
 
-  -- the table's last column; all cells are below a level exactly if the highest is, and above one exactly if the lowest is
-  abbrev pub letsGo : Fault → Bool
-  letsGo SCD = not (attached x) && not (shuntAbove (scdLevel s) (x .shunt))
-  letsGo OCD = not (attached x) && not (shuntAbove (ocdLevel s) (x .shunt))
-  letsGo OV = ltb (span .high) (ovRelease s)
-  letsGo UV = ltb (uvRelease s) (span .low)
-  letsGo OT = not (hot x)
+  -- the table's last column
+  abbrev pub letsGo : List ℕ → Fault → Bool
+  letsGo mv SCD = not (attached x) && not (shuntAbove (scdLevel s) (x .shunt))
+  letsGo mv OCD = not (attached x) && not (shuntAbove (ocdLevel s) (x .shunt))
+  letsGo mv OV = every (λ v. ltb v (ovRelease s)) mv
+  letsGo mv UV = every (λ v. ltb (uvRelease s) v) mv
+  letsGo mv OT = not (hot x)
 
-  unfoldable pub latchesNext : Latches → Latches
-  latchesNext old = latches (λ f. latchNext (latch f old) (stands f) (letsGo f))
+  unfoldable pub latchesNext : List ℕ → Latches → Latches
+  latchesNext mv old = latches (λ f. latchNext (latch f old) (stands f) (letsGo mv f))
 
 -- the pass over the cells at a sample, the runs of the currents and the latches after it
 abbrev pub sweptAt : Board → Readings → List ℕ → Swept
 sweptAt b x mv = sweepOf (b .working) (x .elapsed) (b .cells) (b .flags) mv
 
-abbrev pub latchesBy : Board → Readings → Span → List ℕ → Latches
-latchesBy b x span mv =
-    latchesNext (b .working) (sweptAt b x mv) span (currentsNext (b .working) (b .currents) x) x (latchesOf (b .latches))
+abbrev pub latchesAfter : Board → Readings → List ℕ → Latches
+latchesAfter b x mv =
+    latchesNext (b .working) (sweptAt b x mv) (currentsNext (b .working) (b .currents) x) x mv (latchesOf (b .latches))
 
--- the board after an accepted sample: settings and cycles stay
-unfoldable pub boardBy : Board → Readings → Span → List ℕ → Board
-boardBy b x span mv =
+-- the board after an accepted sample, with the latches that it leaves: settings and cycles stay
+unfoldable pub boardWith : Board → Readings → List ℕ → Latches → Board
+boardWith b x mv left =
     record {
       count = b .count;
-      latches = latchesByte (latchesBy b x span mv);
+      latches = latchesByte left;
       cycles = b .cycles;
       flags = sweptAt b x mv .flags;
       working = b .working;
@@ -97,12 +96,8 @@ boardBy b x span mv =
       cells = sweptAt b x mv .cells;
     }
 
--- both by the lowest and the highest of the cells
-abbrev pub latchesAfter : Board → Readings → List ℕ → Latches
-latchesAfter b x mv = latchesBy b x (spanOf mv) mv
-
 abbrev pub boardNext : Board → Readings → List ℕ → Board
-boardNext b x mv = boardBy b x (spanOf mv) mv
+boardNext b x mv = boardWith b x mv (latchesAfter b x mv)
 
 -- an accepted sample answers with register 0's value and the bled cells
 abbrev pub sampleValues : Board → Readings → List ℕ → List ℕ

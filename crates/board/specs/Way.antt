@@ -2,17 +2,22 @@
 -- Assumes nothing.
 use Prim.Native.Nat.{ℕ}
 use mathlib.Core.Bool.{Bool, true, false, cond, not, _&&_, _||_}
-use mathlib.Core.List.{List}
+use mathlib.Core.List.{List, []}
 use lib.Dec.{ltb, eqb}
 use Rattle.refusal.specs.declared.Refusal.the-variants.{Malformed}
 use Rattle.refusal.specs.Refusals.{numbered}
 use Rattle.refusal.specs.Said.{first}
-use Rattle.settings.specs.Levels.{ocdLevel, scdLevel}
+use Rattle.settings.specs.declared.Settings.{Settings}
+use Rattle.settings.specs.Levels.{ovRelease, uvRelease, ocdLevel, scdLevel}
+use Rattle.settings.specs.Faults.{Fault, SCD, OCD, OV, UV, OT}
 use Rattle.cells.specs.declared.Span.{Span}
+use Rattle.cells.specs.declared.Swept.{Swept}
 use Rattle.cells.specs.Ends.{spanOf}
 use Rattle.cells.specs.Cells.{calmOf}
-use Rattle.latches.specs.Latches.{latchesOf, register0}
+use Rattle.latches.specs.declared.Latches.{Latches}
+use Rattle.latches.specs.Latches.{latch, latches, latchNext, latchesOf, register0}
 use Rattle.board.specs.declared.Board.{Board}
+use Rattle.board.specs.declared.Currents.{Currents}
 use Rattle.board.specs.declared.Readings.{Readings}
 use Rattle.board.specs.declared.Answer.{Answer}
 use Rattle.board.specs.declared.Answer.the-variants as answer
@@ -20,7 +25,7 @@ use Rattle.board.specs.declared.Stepped.{Stepped}
 use Rattle.board.specs.declared.Found.{Found}
 use Rattle.board.specs.declared.Found.the-variants.{Refused, Quiet, Changes}
 use Rattle.board.specs.Shunt.{shuntAbove, shuntOutside}
-use Rattle.board.specs.Sample.{hot, sweptAt, latchesBy, boardBy, sampleBars}
+use Rattle.board.specs.Sample.{currentsNext, hot, stands, letsGo, sweptAt, boardWith, sampleBars}
 
 -- refusal 5 by the highest cell (the law range-by)
 abbrev pub outOfRangeBy : Readings → Span → Bool
@@ -80,6 +85,25 @@ spanFound (Changes span) = span
 unfoldable pub restedOf : Board → Stepped
 restedOf b = record { board = b; answer = answer.Sampled (register0 (latchesOf (b .latches))) 0 }
 
+module _ (s : Settings) (swept : Swept) (span : Span) (runs : Currents) (x : Readings) where
+  -- when a fault lets go, by the lowest and the highest cell (the law latches-by); the others ask no cell
+  abbrev pub letsGoBy : Fault → Bool
+  letsGoBy SCD = letsGo s swept runs x [] SCD
+  letsGoBy OCD = letsGo s swept runs x [] OCD
+  letsGoBy OV = ltb (span .high) (ovRelease s)
+  letsGoBy UV = ltb (uvRelease s) (span .low)
+  letsGoBy OT = letsGo s swept runs x [] OT
+
+  unfoldable pub latchesBy : Latches → Latches
+  latchesBy old = latches (λ f. latchNext (latch f old) (stands s swept runs x f) (letsGoBy f))
+
+abbrev pub latchesLeft : Board → Readings → Span → List ℕ → Latches
+latchesLeft b x span mv =
+    latchesBy (b .working) (sweptAt b x mv) span (currentsNext (b .working) (b .currents) x) x (latchesOf (b .latches))
+
 unfoldable pub acceptedBy : Board → Readings → Span → List ℕ → Stepped
 acceptedBy b x span mv =
-    record { board = boardBy b x span mv; answer = answer.Sampled (register0 (latchesBy b x span mv)) (sweptAt b x mv .bled) }
+    record {
+      board = boardWith b x mv (latchesLeft b x span mv);
+      answer = answer.Sampled (register0 (latchesLeft b x span mv)) (sweptAt b x mv .bled);
+    }

@@ -1,8 +1,8 @@
 // One board: its record, and a sample of it, by value and then where the record lies (01, The stack and its readings; When a fault latches and lets go).
 ghost use mathlib.Core.Path.{_≡_};
 ghost use Rattle.board.specs.Shunt.{shuntAbove, shuntOutside};
-ghost use Rattle.board.specs.Sample.{fresh, currentsNext, latchesNext, sampleOf};
-ghost use Rattle.board.specs.Way.{outOfRangeBy, quietOf, lookOf, isRefused, isQuiet, answerOf, spanFound, restedOf, acceptedBy};
+ghost use Rattle.board.specs.Sample.{fresh, currentsNext, sampleOf};
+ghost use Rattle.board.specs.Way.{outOfRangeBy, quietOf, lookOf, isRefused, isQuiet, answerOf, spanFound, restedOf, latchesBy, acceptedBy};
 use cells::Cell;
 use cells::Span;
 use cells::Swept;
@@ -109,7 +109,7 @@ fn latches_next(
     x: Readings,
     old: Latches,
 ) -> Latches
-    ensures { λ r. ⌜ r ≡ latchesNext s swept span runs x old ⌝ }
+    ensures { λ r. ⌜ r ≡ latchesBy s swept span runs x old ⌝ }
 {
     let scd_stood = runs::has_stood(s.scd_delay(), runs.scd);
     let ocd_stood = runs::has_stood(s.ocd_delay(), runs.ocd);

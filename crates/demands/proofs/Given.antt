@@ -20,10 +20,8 @@ use Rattle.runs.proofs.Laws.{kept-run, stood-delay}
 use Rattle.cells.specs.declared.Cell.{Cell}
 use Rattle.cells.specs.declared.Swept.{Swept}
 use Rattle.cells.specs.Each.{each, some as someOf}
-use Rattle.cells.specs.Ends.{spanOf}
 use Rattle.cells.proofs.Each.{all-places}
 use Rattle.cells.proofs.Sets.{some-number, set-at}
-use Rattle.cells.proofs.Ends.{all-below-release, all-above-release}
 use Rattle.cells.specs.Bleed.{bled}
 use Rattle.cells.specs.Cells.{cellBy, cellAt, readingAt, cellCount, noCells, limitsOf, nextAt, flaggedAt, flagBy, sweepBy}
 use Rattle.latches.specs.Latches.{latches, latchNext, latchesByte}
@@ -32,7 +30,7 @@ use Rattle.board.specs.declared.Board.{Board}
 use Rattle.board.specs.declared.Currents.{Currents}
 use Rattle.board.specs.declared.Readings.{Readings}
 use Rattle.board.specs.Sample as board
-use Rattle.board.specs.Sample.{fresh, hot, currentsNext, latchesNext, sweptAt, latchesAfter, boardBy, boardNext}
+use Rattle.board.specs.Sample.{fresh, hot, currentsNext, latchesNext, sweptAt, latchesAfter, boardWith, boardNext}
 use Rattle.frame.specs.Frame.{writes}
 use Rattle.registers.specs.Registers as registers
 use Rattle.registers.specs.Registers.{staging, boardAfter}
@@ -112,7 +110,7 @@ module _ (n : ℕ) (few : n ≤ 10) (h : History) (x : Readings) (mv : List ℕ)
   abbrev currents : Currents
   currents = currentsNext (working h) (given n h .currents) x
 
-  stands-is : (f : Fault) → board.stands (working h) swept (spanOf mv) currents x f ≡ stands n f after
+  stands-is : (f : Fault) → board.stands (working h) swept currents x f ≡ stands n f after
   unfolding sweepBy currentsNext each
   stands-is SCD = stood-after SCD 0 ∙ sym (or-false (stoodDelay SCD 0 after))
   stands-is OCD = stood-after OCD 0 ∙ sym (or-false (stoodDelay OCD 0 after))
@@ -120,22 +118,22 @@ module _ (n : ℕ) (few : n ≤ 10) (h : History) (x : Readings) (mv : List ℕ)
   stands-is UV = some-number (each 0 (cellCount mv) (λ k. stood (delay UV (working h)) (nexts k .uv))) ∙ rw count-is (ap someOf (each-same n _ _ uv-is))
   stands-is OT = no-delay (hot x) (sampleOf x mv) (stretch (holds OT (working h) 0) (since h)) ∙ sym (or-false (stoodDelay OT 0 after))
 
-  lets-is : (f : Fault) → board.letsGo (working h) swept (spanOf mv) currents x f ≡ letsGo n f (working h) (sampleOf x mv)
+  lets-is : (f : Fault) → board.letsGo (working h) swept currents x mv f ≡ letsGo n f (working h) (sampleOf x mv)
   lets-is SCD = refl
   lets-is OCD = refl
-  lets-is OV = sym (all-places (λ v. ltb v (ovRelease (working h))) mv 0 n (sym long) ∙ all-below-release (working h) mv)
-  lets-is UV = sym (all-places (λ v. ltb (uvRelease (working h)) v) mv 0 n (sym long) ∙ all-above-release (working h) mv)
+  lets-is OV = sym (all-places (λ v. ltb v (ovRelease (working h))) mv 0 n (sym long))
+  lets-is UV = sym (all-places (λ v. ltb (uvRelease (working h)) v) mv 0 n (sym long))
   lets-is OT = refl
 
-  latch-is : (f : Fault) → latchNext (latched n f h) (board.stands (working h) swept (spanOf mv) currents x f) (board.letsGo (working h) swept (spanOf mv) currents x f) ≡ latched n f after
+  latch-is : (f : Fault) → latchNext (latched n f h) (board.stands (working h) swept currents x f) (board.letsGo (working h) swept currents x mv f) ≡ latched n f after
   latch-is f = ap₂ (latchNext (latched n f h)) (stands-is f) (lets-is f)
 
-  latches-next : latchesNext (working h) swept (spanOf mv) currents x (latchesAt n h) ≡ latchesAt n after
+  latches-next : latchesNext (working h) swept currents x mv (latchesAt n h) ≡ latchesAt n after
   unfolding latchesNext
   latches-next = λ i. record { scd = latch-is SCD i; ocd = latch-is OCD i; ov = latch-is OV i; uv = latch-is UV i; ot = latch-is OT i }
 
   pub latches-are : latchesAfter (given n h) x mv ≡ latchesAt n after
-  latches-are = ap (latchesNext (working h) swept (spanOf mv) currents x) (latches-kept (latchesAt n h)) ∙ latches-next
+  latches-are = ap (latchesNext (working h) swept currents x mv) (latches-kept (latchesAt n h)) ∙ latches-next
 
   pub bled-are : sweptAt (given n h) x mv .bled ≡ number (bled (flagsAt n after))
   unfolding sweepBy
@@ -146,7 +144,7 @@ module _ (n : ℕ) (few : n ≤ 10) (h : History) (x : Readings) (mv : List ℕ)
   marks-are = rw (count-is, flags-are)
 
   pub given-sampled : boardNext (given n h) x mv ≡ given n after
-  unfolding boardBy currentsNext
+  unfolding boardWith currentsNext
   given-sampled = λ i. record {
     count = n;
     latches = latchesByte (latches-are i);
@@ -175,8 +173,8 @@ module _ (n : ℕ) (h : History) (address register v : ℕ) where
   then = e ∷ h
 
   -- the record after it: latches and flags stay
-  abbrev boardWith : ℕ → Settings → Settings → Currents → List Cell → Board
-  boardWith c w s currents cells =
+  abbrev boardOf : ℕ → Settings → Settings → Currents → List Cell → Board
+  boardOf c w s currents cells =
       record {
         count = n;
         latches = latchesByte (latchesAt n h);
@@ -195,11 +193,11 @@ module _ (n : ℕ) (h : History) (address register v : ℕ) where
   cellsWith r = each 0 n (λ k. record { ov = r OV k; uv = r UV k }) ++ drop n noCells
 
   with-these : (c : ℕ) (w s : Settings) (r : Fault → ℕ → ℕ) → c ≡ spent then → w ≡ working then → s ≡ staged then
-      → ((f : Fault) (k : ℕ) → r f k ≡ kept (runOf f k then)) → boardWith c w s (currentsWith r) (cellsWith r) ≡ given n then
-  with-these c w s r c-is w-is s-is r-is = λ i. boardWith (c-is i) (w-is i) (s-is i) (currentsWith (λ f k. r-is f k i)) (cellsWith (λ f k. r-is f k i))
+      → ((f : Fault) (k : ℕ) → r f k ≡ kept (runOf f k then)) → boardOf c w s (currentsWith r) (cellsWith r) ≡ given n then
+  with-these c w s r c-is w-is s-is r-is = λ i. boardOf (c-is i) (w-is i) (s-is i) (currentsWith (λ f k. r-is f k i)) (cellsWith (λ f k. r-is f k i))
 
   -- where it spends no cycle, no more than the staged settings changes
-  unspent : (s : Settings) → s ≡ staged then → spends e h ≡ false → boardWith (spent h) (working h) s (given n h .currents) (given n h .cells) ≡ given n then
+  unspent : (s : Settings) → s ≡ staged then → spends e h ≡ false → boardOf (spent h) (working h) s (given n h .currents) (given n h .cells) ≡ given n then
   unspent s s-is c =
       with-these (spent h) (working h) s (λ f k. kept (runOf f k h)) (rw c) (sym (working-stays e h c)) s-is
       (λ f k. sym (ap kept (runs f k h .else-stays address register v c)))
@@ -208,7 +206,7 @@ module _ (n : ℕ) (h : History) (address register v : ℕ) where
   spent-by : n ≤ 10 → spends e h ≡ true → staged h ≡ working then → staged h ≡ staged then → registers.spent (given n h) ≡ given n then
   unfolding registers.spent
   spent-by few c w-is s-is =
-      ap (boardWith (spent h + 1) (staged h) (staged h) (currentsWith (λ f k. 0))) (sym (each-one 0 n 10 noCell few))
+      ap (boardOf (spent h + 1) (staged h) (staged h) (currentsWith (λ f k. 0))) (sym (each-one 0 n 10 noCell few))
       ∙ with-these (spent h + 1) (staged h) (staged h) (λ f k. 0) (rw c) w-is s-is (λ f k. sym (ap kept (runs f k h .starts-over e c)))
 
   -- a read stages and spends nothing; a write to register 11 programs; any other write stages, where there is a byte

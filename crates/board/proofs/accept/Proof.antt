@@ -1,6 +1,6 @@
 use Rattle.latches.proofs.Packed.{latches-kept}
-use Rattle.board.specs.Sample.{latchesBy, boardBy}
-use Rattle.board.specs.Way.{acceptedBy}
+use Rattle.board.specs.Sample.{boardWith}
+use Rattle.board.specs.Way.{latchesLeft, acceptedBy}
 use borrow.Author.Needs.{needs}
 use Rattle.board.proofs.accept.Statement.{statement}
 use Rattle.board.proofs.accept.Tie as tie
@@ -24,7 +24,7 @@ status-of-requires : tie.Need-status-of-requires
 status-of-requires c κs = search needs
 
 returns : tie.Need-returns
-unfolding acceptedBy boardBy
+unfolding acceptedBy boardWith
 returns c =
     let c2 = c .before .before in
     let c3 = c2 .before in
@@ -32,7 +32,7 @@ returns c =
     let c5 = c4 .before in
     let c6 = c5 .before in
     let a = c6 .before .before .before .args in
-    rw (c .status-of .ensures, c2 .byte-of .ensures, c3 .latches-next .ensures, c4 .latches-of .ensures, c5 .currents-next .ensures, c6 .sweep .ensures, latches-kept (latchesBy (a .b) (a .x) (a .span) (a .mv .now)))
+    rw (c .status-of .ensures, c2 .byte-of .ensures, c3 .latches-next .ensures, c4 .latches-of .ensures, c5 .currents-next .ensures, c6 .sweep .ensures, latches-kept (latchesLeft (a .b) (a .x) (a .span) (a .mv .now)))
 
 pub accept-spec : {M : Type 1} → statement M
 accept-spec =

@@ -1,6 +1,6 @@
 use mir.Facts.{toZ-ofZ}
 use mir.Syntax.{w32}
-use Rattle.board.specs.Sample.{latchesNext}
+use Rattle.board.specs.Way.{latchesBy}
 use borrow.Author.Needs.{needs}
 use Rattle.board.proofs.latches_next.Statement.{statement}
 use Rattle.board.proofs.latches_next.Tie as tie
@@ -51,7 +51,7 @@ latch-next-requires-5 : tie.Need-latch-next-requires-5
 latch-next-requires-5 c κs = search needs
 
 returns : tie.Need-returns
-unfolding latchesNext
+unfolding latchesBy
 returns c =
     let c1 = c .before in
     let c3 = c1 .before .before in
