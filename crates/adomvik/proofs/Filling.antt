@@ -1,7 +1,7 @@
 -- The shape Filling: a loop that hands a state on from turn to turn, over a lent row and a shared slice.
 -- Assumes nothing.
---     fn g(row: &mut [T], x: S, cells: &[E]) -> S { let mut st = x; while more(st) { st = f(row, st, st, cells); } st }
--- T is a declared struct of plain fields, E is what a slice can hold, and S is plain. more is covered and says `r ≡ goes-on st`. f, as g of LendAt, says the next state and the row at exit, and g says the last state and the row.
+--     fn g(row: &mut [T], x: S, cells: &[E]) -> S { let mut st = x; while more(st) { st = f(row, st, cells); } st }
+-- T is a declared struct of plain fields, E is what a slice can hold, and S is plain. more is covered and says `r ≡ goes-on st`. f says the next state and the row at exit, and g says the last state and the row.
 --     Shape, Knows     what g is made of, with how many turns are left at a state; what the contract says where the loop stops and where it turns, that fewer turns are left after a turn, and what is to be known of the types
 --     function, form   g's MIR, and its form.        one     the form of f.        meets     g's MIR fulfils that form wherever its callees fulfil theirs
 --     State, Γ         what holds at the loop's test, and the whole context there.        goes-round, is-over     a turn, and the turn that leaves the loop
@@ -34,7 +34,7 @@ use Rattle.walks.proofs.Plain.{ty, PlainType, has, boolean}
 use Rattle.walks.proofs.Walk.{decide, cell, room}
 use Rattle.walks.proofs.Steps.{it, sets, steps, by-values, ref-to, slice-of, hands-to, fits-slice, Has, Free, Dies, var, fills, lands-in, hands-on, Blocks, lie-at, ends-in}
 use Rattle.walks.proofs.Form.{Form, code-of, value, shown, handed, Fulfils, met, slice-val, shared, mut-slice, calls-last, Post, exits, Walk, meets-form}
-use Rattle.walks.proofs.Callee.{OfCells, CellsTold, of-one, on-cells, keeps-copy, calls-one}
+use Rattle.walks.proofs.Callee.{of-one, keeps-copy, calls-one}
 use Rattle.walks.proofs.Lent.{lent-as, settles, lends-row, lent-home}
 
 pub record Shape : Type 2 where
@@ -46,8 +46,8 @@ pub record Shape : Type 2 where
   pub f : Name
   -- what the contracts of more and f say, what g's says, and the turns that are left
   pub goes-on : S .Denot → Bool
-  pub state-at : OfCells (T .D) (S .Denot) (S .Denot) (E .Denot) (S .Denot)
-  pub row-at : OfCells (T .D) (S .Denot) (S .Denot) (E .Denot) (List (T .D))
+  pub state-at : List (T .D) → S .Denot → List (E .Denot) → S .Denot
+  pub row-at : List (T .D) → S .Denot → List (E .Denot) → List (T .D)
   pub state-of : List (T .D) → S .Denot → List (E .Denot) → S .Denot
   pub row-of : List (T .D) → S .Denot → List (E .Denot) → List (T .D)
   pub left : S .Denot → ℕ
@@ -56,18 +56,24 @@ module _ (s : Shape) where
   abbrev R : RattleType
   R = D.row (s .T)
 
-  -- what g says of the last state and the row
+  -- what f says of the next state and the row, and g of the last ones
+  abbrev pub Put : List (s .T .D) → s .S .Denot → List (s .E .Denot) → s .S .Denot → List (s .T .D) → Type 0
+  Put ys x cs r zs = (r ≡ s .state-at ys x cs) × (zs ≡ s .row-at ys x cs)
+
   abbrev pub Filled : List (s .T .D) → s .S .Denot → List (s .E .Denot) → s .S .Denot → List (s .T .D) → Type 0
   Filled ys x cs r zs = (r ≡ s .state-of ys x cs) × (zs ≡ s .row-of ys x cs)
 
+  abbrev says : (List (s .T .D) → s .S .Denot → List (s .E .Denot) → s .S .Denot → List (s .T .D) → Type 0) → Form
+  says F = record { lifetimes = 2; params = handed 0 tt R ∷ value (s .S) ∷ shown 1 tt (s .E) ∷ []; result = s .S; says-of = λ κs a r e. F (now (a .0)) (a .1 .0) (now (a .1 .1 .0)) r (now (e .0)) }
+
   abbrev pub form : Form
-  form = record { lifetimes = 2; params = handed 0 tt R ∷ value (s .S) ∷ shown 1 tt (s .E) ∷ []; result = s .S; says-of = λ κs a r e. Filled (now (a .0)) (a .1 .0) (now (a .1 .1 .0)) r (now (e .0)) }
+  form = says Filled
 
   abbrev pub one : Form
-  one = on-cells (s .S) R (s .S) (s .S) (s .E) (s .state-at) (s .row-at)
+  one = says Put
 
   abbrev turn-code : Code
-  turn-code = steps (call (s .more) (it 4 ∷ []) (place 5 []) ∷ cond (it 5) skip (exit 1) ∷ []) (steps (hands-to R 1 6 7) (call (s .f) (it 7 ∷ it 4 ∷ it 4 ∷ it 3 ∷ []) (place 4 [])))
+  turn-code = steps (call (s .more) (it 4 ∷ []) (place 5 []) ∷ cond (it 5) skip (exit 1) ∷ []) (steps (hands-to R 1 6 7) (call (s .f) (it 7 ∷ it 4 ∷ it 3 ∷ []) (place 4 [])))
 
   abbrev returned : Code
   returned = steps (sets 0 (rvOpd (it 4)) ∷ []) return
@@ -88,8 +94,8 @@ module _ (s : Shape) where
 
 pub record Knows {M : Type 1} (𝓤 : URA M) (H : Heap 𝓤) (A : Atoms 𝓤) (s : Shape) : Type 2 where
   pub stops : (ys : List (s .T .D)) (x : s .S .Denot) (cs : List (s .E .Denot)) → s .goes-on x ≡ false → Filled s ys x cs x ys
-  pub turns : (ys : List (s .T .D)) (x : s .S .Denot) (cs : List (s .E .Denot)) → s .goes-on x ≡ true → Same s ys x cs (s .row-at ys x x cs) (s .state-at ys x x cs)
-  pub falls : (ys : List (s .T .D)) (x : s .S .Denot) (cs : List (s .E .Denot)) → s .goes-on x ≡ true → s .left (s .state-at ys x x cs) < s .left x
+  pub turns : (ys : List (s .T .D)) (x : s .S .Denot) (cs : List (s .E .Denot)) → s .goes-on x ≡ true → Same s ys x cs (s .row-at ys x cs) (s .state-at ys x cs)
+  pub falls : (ys : List (s .T .D)) (x : s .S .Denot) (cs : List (s .E .Denot)) → s .goes-on x ≡ true → s .left (s .state-at ys x cs) < s .left x
   pub plain-S : PlainType 𝓤 H A (s .S)
 
 module _ {M : Type 1} (𝓤 : URA M) (H : Heap 𝓤) (A : Atoms 𝓤) (W : Given 𝓤 H A) (s : Shape) (k : Knows 𝓤 H A s) (𝓣 : Tables 𝓤 H) (known-more : Triple 𝓤 (𝓣 .C (s .more)) (met (of-one bool (s .S) (s .goes-on)) 𝓤 H A)) (known : Triple 𝓤 (𝓣 .C (s .f)) (met (one s) 𝓤 H A)) where
@@ -122,7 +128,7 @@ module _ {M : Type 1} (𝓤 : URA M) (H : Heap 𝓤) (A : Atoms 𝓤) (W : Given
       row-room = subst (Room (R s)) (sym (t .row-long)) space
 
       -- one turn further
-      module _ (so : s .goes-on (t .st) ≡ true) (z : s .S .Denot) (zs : List (s .T .D)) (e : CellsTold (s .state-at) (s .row-at) (t .row) (t .st) (t .st) (now cs) z zs) where
+      module _ (so : s .goes-on (t .st) ≡ true) (z : s .S .Denot) (zs : List (s .T .D)) (e : Put s (t .row) (t .st) (now cs) z zs) where
         still : Same s (now ys) x (now cs) zs z
         still = ((λ i. s .state-of (e .1 i) (e .0 i) (now cs)) ∙ (k .turns (t .row) (t .st) (now cs) so .0 ∙ t .same .0), (λ i. s .row-of (e .1 i) (e .0 i) (now cs)) ∙ (k .turns (t .row) (t .st) (now cs) so .1 ∙ t .same .1))
 
@@ -159,8 +165,8 @@ module _ {M : Type 1} (𝓤 : URA M) (H : Heap 𝓤) (A : Atoms 𝓤) (W : Given
           lends-row (R s) (row-now t) ! tt (row-room t) (λ ν δ.
           -- [ν's token; the row; what its lender keeps; the slice's token; the slice; _7: 5; ..]
           move ! (4 ∷ []) $ keeps-copy ! (s .E) κ₁ cs $ move ! (2 ∷ 5 ∷ 3 ∷ 0 ∷ []) $
-          calls-last W (one s) (St, (St, tt)) (ν ∷ [], (κ₁, tt)) (fullShare, (q₁, tt)) (lent-as (R s) ys δ (t .row), (t .st, (t .st, (cs, tt)))) St 𝓣 known (t .is, (t .is, tt)) !
-          (and-then ! (var ! 3 refl) (and-then ! (var ! 9 refl) (and-then ! (var ! 9 refl) (and-then ! (var ! 11 refl) (no-more !))))) (λ z ws e l is.
+          calls-last W (one s) (St, tt) (ν ∷ [], (κ₁, tt)) (fullShare, (q₁, tt)) (lent-as (R s) ys δ (t .row), (t .st, (cs, tt))) St 𝓣 known (t .is, tt) !
+          (and-then ! (var ! 3 refl) (and-then ! (var ! 9 refl) (and-then ! (var ! 11 refl) (no-more !)))) (λ z ws e l is.
           -- [ν's token; the slice's; the last row; the slice; what the row's lender keeps; _7: 5; ..]
           move ! (0 ∷ 2 ∷ 4 ∷ []) $ lent-home (R s) (row-now t) ! tt (row-room t) ν δ (ws .0) (l .0) $
           land-last ! (from ! (stop !)) (store ! 10 refl (has St z is)) $ forget ! 4 refl $ forget ! 6 refl $ forget ! 8 refl $ again ! fewer Γ t (next t so z (ws .0) e (l .0) is) (fell t so z (ws .0) e))))

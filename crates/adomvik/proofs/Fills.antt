@@ -1,6 +1,6 @@
 -- The records of an opening, put one by one: where that stops, one turn of it, and the row in the end.
 -- Assumes nothing.
-use Prim.Native.Nat.{ℕ, zero, suc, _+_, _-_, _<_}
+use Prim.Native.Nat.{ℕ, zero, suc, _+_, _-_, _<_, _≤_}
 use native.Mathlib.Omega.{arith}
 use native.Mathlib.Numerals.{add-one}
 use mathlib.Core.Path.{_≡_, refl, sym, _∙_}
@@ -9,16 +9,26 @@ use mathlib.Core.List.{List, _++_, map, append-nil}
 use lib.Dec.{ltb, eqb}
 use lib.ListN.{length, getD, set, take, drop, length-set}
 use lib.Seq.{take-all, drop-length, drop-cons, take-suc-set, append-snoc}
-use borrow.Author.Tests.{ltb-true, lt-ltb, eqb-true}
+use borrow.Author.Tests.{ltb-true, lt-ltb, le-ltb, eqb-true}
 use Rattle.lists.proofs.Split.{split}
 use Rattle.lists.proofs.Every.{every-at}
 use Rattle.board.specs.declared.Board.{Board}
 use Rattle.board.specs.Sample.{fresh, outside}
-use Rattle.stack.specs.Row.{badCount}
+use Rattle.stack.specs.Row.{badCount, boardAt}
 use Rattle.stack.specs.Open.{goodCounts}
 use Rattle.stack.proofs.Counts.{within}
 use Rattle.adomvik.specs.declared.Progress.{Progress}
 use Rattle.adomvik.specs.Open.{openNumber, openRow, fillFrom, refusedFill, startOf, more, left, byteCount, putOf, fillAt, fillRowAt, turnsEnd, turnsRow, fillEnd, fillRow}
+
+-- a record is put at a place of the row, and past its end the filling is refused
+module _ (row : List Board) (x : Progress) (counts : List ℕ) where
+  pub put-inside : x .at < length row → (putOf (boardAt row (x .at)) x counts .next ≡ fillAt row x counts) × (set row (x .at) (putOf (boardAt row (x .at)) x counts .board) ≡ fillRowAt row x counts)
+  unfolding fillAt fillRowAt
+  put-inside l = (simp (lt-ltb _ _ l), simp (lt-ltb _ _ l))
+
+  pub put-past : length row ≤ x .at → (refusedFill ≡ fillAt row x counts) × (row ≡ fillRowAt row x counts)
+  unfolding fillAt fillRowAt
+  put-past l = (simp (le-ltb _ _ l), simp (le-ltb _ _ l))
 
 -- where nothing more is left to put
 end-stops : (n : ℕ) (row : List Board) (x : Progress) (counts : List ℕ) → more x ≡ false → turnsEnd n row x counts ≡ x
@@ -37,21 +47,21 @@ fill-stops row x counts e = (sym (end-stops (left x) row x counts e), sym (row-s
 
 -- a turn goes on to the next record, or stops
 module _ (row : List Board) (x : Progress) (counts : List ℕ) where
-  next-is : (P : Progress → Type 0) → P (fillFrom (x .at + 1) (x .many) (x .number)) → P refusedFill → P (fillAt row x x counts)
+  next-is : (P : Progress → Type 0) → P (fillFrom (x .at + 1) (x .many) (x .number)) → P refusedFill → P (fillAt row x counts)
   unfolding fillAt putOf
   next-is P goes stops = split (ltb (x .at) (length row)) (λ h. split (ltb (x .at) (length counts)) (λ g. rw (h, g) goes) (λ g. rw (h, g) stops)) (λ h. rw h stops)
 
   one-less : more x ≡ true → left x ≡ suc (x .many - (x .at + 1))
   one-less e = omega (arith, ltb-true (x .at) (x .many) e)
 
-  pub fill-falls : more x ≡ true → left (fillAt row x x counts) < left x
+  pub fill-falls : more x ≡ true → left (fillAt row x counts) < left x
   fill-falls e = next-is (λ y. left y < left x) (omega (arith, ltb-true (x .at) (x .many) e)) (omega (arith, ltb-true (x .at) (x .many) e))
 
-  pub fill-turns : more x ≡ true → (fillEnd (fillRowAt row x x counts) (fillAt row x x counts) counts ≡ fillEnd row x counts) × (fillRow (fillRowAt row x x counts) (fillAt row x x counts) counts ≡ fillRow row x counts)
+  pub fill-turns : more x ≡ true → (fillEnd (fillRowAt row x counts) (fillAt row x counts) counts ≡ fillEnd row x counts) × (fillRow (fillRowAt row x counts) (fillAt row x counts) counts ≡ fillRow row x counts)
   unfolding fillEnd fillRow turnsEnd turnsRow
   fill-turns e =
       let m = x .many - (x .at + 1) in
-      let next = fillRowAt row x x counts in (
+      let next = fillRowAt row x counts in (
         rw (one-less e, e) (next-is (λ y. turnsEnd (left y) next y counts ≡ turnsEnd m next y counts) refl (sym (end-stops m next refusedFill counts refl))),
         rw (one-less e, e) (next-is (λ y. turnsRow (left y) next y counts ≡ turnsRow m next y counts) refl (sym (row-stops m next refusedFill counts refl))),
       )
@@ -63,11 +73,11 @@ module _ (counts : List ℕ) (good : goodCounts counts ≡ true) where
 
   -- one turn within the row
   module _ (row : List Board) (same : length row ≡ length counts) (i : ℕ) (p : i < length counts) where
-    put-next : fillAt row (fillFrom i (length counts) 0) (fillFrom i (length counts) 0) counts ≡ fillFrom (i + 1) (length counts) 0
+    put-next : fillAt row (fillFrom i (length counts) 0) counts ≡ fillFrom (i + 1) (length counts) 0
     unfolding fillAt putOf
     put-next = rw (same, lt-ltb i (length counts) p)
 
-    put-row : fillRowAt row (fillFrom i (length counts) 0) (fillFrom i (length counts) 0) counts ≡ set row i (fresh (getD counts i 0))
+    put-row : fillRowAt row (fillFrom i (length counts) 0) counts ≡ set row i (fresh (getD counts i 0))
     unfolding fillRowAt putOf
     put-row = rw (same, lt-ltb i (length counts) p, own-byte i p)
 

@@ -49,20 +49,20 @@ putOf b x counts =
     (record { board = fresh (byteCount (getD counts (x .at) 0)); next = fillFrom (x .at + 1) (x .many) (x .number) })
     (record { board = b; next = refusedFill })
 
-unfoldable pub fillAt : List Board → Progress → Progress → List ℕ → Progress
-fillAt row place x counts = cond (ltb (place .at) (length row)) (putOf (boardAt row (place .at)) x counts .next) refusedFill
+unfoldable pub fillAt : List Board → Progress → List ℕ → Progress
+fillAt row x counts = cond (ltb (x .at) (length row)) (putOf (boardAt row (x .at)) x counts .next) refusedFill
 
-unfoldable pub fillRowAt : List Board → Progress → Progress → List ℕ → List Board
-fillRowAt row place x counts = cond (ltb (place .at) (length row)) (set row (place .at) (putOf (boardAt row (place .at)) x counts .board)) row
+unfoldable pub fillRowAt : List Board → Progress → List ℕ → List Board
+fillRowAt row x counts = cond (ltb (x .at) (length row)) (set row (x .at) (putOf (boardAt row (x .at)) x counts .board)) row
 
 -- so many turns, while there is more to put
 unfoldable pub turnsEnd : ℕ → List Board → Progress → List ℕ → Progress
 turnsEnd zero row x counts = x
-turnsEnd (suc n) row x counts = cond (more x) (turnsEnd n (fillRowAt row x x counts) (fillAt row x x counts) counts) x
+turnsEnd (suc n) row x counts = cond (more x) (turnsEnd n (fillRowAt row x counts) (fillAt row x counts) counts) x
 
 unfoldable pub turnsRow : ℕ → List Board → Progress → List ℕ → List Board
 turnsRow zero row x counts = row
-turnsRow (suc n) row x counts = cond (more x) (turnsRow n (fillRowAt row x x counts) (fillAt row x x counts) counts) row
+turnsRow (suc n) row x counts = cond (more x) (turnsRow n (fillRowAt row x counts) (fillAt row x counts) counts) row
 
 unfoldable pub fillEnd : List Board → Progress → List ℕ → Progress
 fillEnd row x counts = turnsEnd (left x) row x counts

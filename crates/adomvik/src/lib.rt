@@ -213,10 +213,10 @@ fn put_board(b: &mut Board, x: Progress, counts: &[u32]) -> Progress
     s.next
 }
 
-fn put_at(row: &mut [Board], place: Progress, x: Progress, counts: &[u32]) -> Progress
-    ensures { λ r. ⌜ (r ≡ fillAt (now (row .entry)) place x (now (counts .entry))) × (now (row .exit) ≡ fillRowAt (now (row .entry)) place x (now (counts .entry))) ⌝ }
+fn put_at(row: &mut [Board], x: Progress, counts: &[u32]) -> Progress
+    ensures { λ r. ⌜ (r ≡ fillAt (now (row .entry)) x (now (counts .entry))) × (now (row .exit) ≡ fillRowAt (now (row .entry)) x (now (counts .entry))) ⌝ }
 {
-    let at = place_in(place);
+    let at = place_in(x);
     if at < row.len() {
         return put_board(&mut row[at], x, counts);
     }
@@ -228,7 +228,7 @@ fn fill(row: &mut [Board], x: Progress, counts: &[u32]) -> Progress
 {
     let mut st = x;
     while more_left(st) {
-        st = put_at(row, st, st, counts);
+        st = put_at(row, st, counts);
     }
     st
 }

@@ -1,10 +1,10 @@
--- A frame goes one of two ways on a board: the ways as the walks ask for them, and that the access is the way taken.
+-- A frame goes one of two ways on a board: the form of each way, and that the access is the way taken.
 -- Assumes nothing.
 use mathlib.Core.Path.{_≡_, refl, sym, ap, _∙_}
 use mathlib.Core.Bool.{Bool, true, false, cond, not}
 use lib.Dec.{T as Holds}
-use mir.Syntax.{Name}
-use Rattle.walks.proofs.TwoWays.{Ways}
+use Rattle.walks.proofs.Form.{Form}
+use Rattle.walks.proofs.Callee.{on-one}
 use Rattle.board.specs.declared.Board.{Board}
 use Rattle.board.proofs.Board as Board′
 use Rattle.frame.specs.declared.Request.{Request}
@@ -12,25 +12,13 @@ use Rattle.frame.proofs.Request as Request′
 use Rattle.frame.proofs.Outcome as Outcome′
 use Rattle.registers.specs.declared.Obeyed.{Obeyed}
 
--- what each of two functions makes of the board and the frame, and what the whole makes of them
+-- what a function makes of the board and the frame
 abbrev pub Access : Type 0
 Access = Board → Request → Obeyed
 
-abbrev pub ways : Name → Name → Access → Access → Access → Ways
-ways f h by-f by-h whole =
-    record {
-      T = Board′.the-type;
-      X = Request′.the-row;
-      O = Outcome′.the-row;
-      f = f;
-      h = h;
-      answer-f = λ b t. by-f b t .outcome;
-      record-f = λ b t. by-f b t .board;
-      answer-h = λ b t. by-h b t .outcome;
-      record-h = λ b t. by-h b t .board;
-      answer-in = λ b t. whole b t .outcome;
-      record-in = λ b t. whole b t .board;
-    }
+-- a function that is lent a board and makes this access of the frame
+abbrev pub obeying : Access → Form
+obeying f = on-one Outcome′.the-row Board′.the-row Request′.the-row (λ b t. f b t .outcome) (λ b t. f b t .board)
 
 -- that one access says of outcome and board what the other does
 abbrev Says : Obeyed → Obeyed → Type 0

@@ -1,5 +1,5 @@
 // The public library: a stack as one row of board records, lent to each routine (01, The stack and its readings).
-// Every routine over lent records is one of the shapes of crate walks, and calls proved work on plain values.
+// Every routine over lent records is put together of pieces of crate walks or is one of its shapes, and calls proved work on plain values.
 ghost use mathlib.Core.Path.{_≡_};
 ghost use mathlib.Core.Bool.{true, not};
 ghost use Prim.Native.Nat.{_≤_};

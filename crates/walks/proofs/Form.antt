@@ -63,14 +63,14 @@ pub data Kind (n : ℕ) : Type 2 where
   behind : (j : ℕ) → Within n j → RattleType → Kind n
 
 module _ {n : ℕ} where
-  abbrev slots : List (Kind n) → List (Slot n)
+  abbrev pub slots : List (Kind n) → List (Slot n)
   slots [] = []
   slots (value R ∷ ks) = plain (λ _. R) ∷ slots ks
   slots (shown j ok R ∷ ks) = shrSliceOf (j ∷ []) ok (plain (λ _. R)) ∷ slots ks
   slots (handed j ok R ∷ ks) = mutSliceOf (j ∷ []) ok (plain (λ _. R)) ∷ slots ks
   slots (behind j ok R ∷ ks) = mutRefTo (j ∷ []) ok (plain (λ _. R)) ∷ slots ks
 
-  abbrev param-types : List (Kind n) → List Ty
+  abbrev pub param-types : List (Kind n) → List Ty
   param-types [] = []
   param-types (value R ∷ ks) = ty R ∷ param-types ks
   param-types (shown j ok R ∷ ks) = slice-of (named j) imm R ∷ param-types ks
@@ -207,10 +207,10 @@ module _ {M : Type 1} {𝓤 : URA M} where
 
 module _ {M : Type 1} (𝓤 : URA M) (H : Heap 𝓤) (A : Atoms 𝓤) where
   -- a list of items behind a formula is a pair
-  paired : (P : Fml) (Γ : List (Item 𝓤)) {Q : SProp 𝓤} → ent 𝓤 (⋆ 𝓤 H A Γ) Q → ent 𝓤 (⋆ 𝓤 H A (‵ P ∷ Γ)) (sep 𝓤 (sem 𝓤 H A P) Q)
+  pub paired : (P : Fml) (Γ : List (Item 𝓤)) {Q : SProp 𝓤} → ent 𝓤 (⋆ 𝓤 H A Γ) Q → ent 𝓤 (⋆ 𝓤 H A (‵ P ∷ Γ)) (sep 𝓤 (sem 𝓤 H A P) Q)
   paired P Γ g = via 𝓤 (sep 𝓤 (sem 𝓤 H A P) (⋆ 𝓤 H A Γ)) (pop 𝓤 H A (‵ P) Γ) (monoR 𝓤 (sem 𝓤 H A P) g)
 
-  listed : (P : Fml) (Γ : List (Item 𝓤)) {Q R : SProp 𝓤} → ent 𝓤 R (sem 𝓤 H A P) → ent 𝓤 Q (⋆ 𝓤 H A Γ) → ent 𝓤 (sep 𝓤 R Q) (⋆ 𝓤 H A (‵ P ∷ Γ))
+  pub listed : (P : Fml) (Γ : List (Item 𝓤)) {Q R : SProp 𝓤} → ent 𝓤 R (sem 𝓤 H A P) → ent 𝓤 Q (⋆ 𝓤 H A Γ) → ent 𝓤 (sep 𝓤 R Q) (⋆ 𝓤 H A (‵ P ∷ Γ))
   listed P Γ h g = via 𝓤 (sep 𝓤 (sem 𝓤 H A P) (⋆ 𝓤 H A Γ)) (mono∗ 𝓤 h g) (push 𝓤 H A (‵ P) Γ)
 
   -- a part that is had for nothing, and one that is let go
@@ -269,12 +269,15 @@ module _ {M : Type 1} (𝓤 : URA M) (H : Heap 𝓤) (A : Atoms 𝓤) where
         (λ ls. factI 𝓤 ((length (ws .0) ≡ length (now (a .0))) × Lens κs ks (a .1) (ws .1)) (sep 𝓤 (sep 𝓤 P L) Q) (l, ls)))
     lens-of (behind j ok R ∷ ks) a ws = without (sem 𝓤 H A (fres (name (a .0)) (R .coded .code (ws .0)))) (lens-of ks (a .1) (ws .1))
 
--- ---- a form: its signature and its contract
+-- ---- a form: its signature and its contract, which says something of the arguments, the result and the arguments at exit
+abbrev pub Said : {n : ℕ} → List (Kind n) → RattleType → Type 1
+Said {n} ks O = (κs : Lfts n) → Passed κs ks → O .Denot → Outs κs (slots ks) (all yes (slots ks)) → Type 0
+
 pub record Form : Type 2 where
   pub lifetimes : ℕ
   pub params : List (Kind lifetimes)
   pub result : RattleType
-  pub says-of : (κs : Lfts lifetimes) → Passed κs params → result .Denot → Outs κs (slots params) (all yes (slots params)) → Type 0
+  pub says-of : Said params result
 
 module _ (f : Form) where
   abbrev pub ended-of : Ended

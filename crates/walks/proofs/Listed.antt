@@ -1,7 +1,7 @@
 -- The shape Listed: what is asked is taken apart into two plain values and a list of numbers, of which a part is shown to a function over a lent row.
 -- Assumes nothing.
 --     fn g(row: &mut [T], x: X) -> O { let n = f1(x); let z = f2(x); let cells = f3(x); let m = f4(x); let a = f(row, n, z, &cells[..m]); h(a) }
--- T is a declared struct of plain fields, X, O, N, Z and Y, the types of n, z and a, are plain, and f3 gives an array of K of the plain E. f1 to f4 and h are covered, and f4 says a usize that is at most K. f, as g of LendAt and of Guarded, says its answer and the whole row at exit, and so does g.
+-- T is a declared struct of plain fields, X, O, N, Z and Y, the types of n, z and a, are plain, and f3 gives an array of K of the plain E. f1 to f4 and h are covered, and f4 says a usize that is at most K. f says its answer and the whole row at exit, and so does g.
 --     Shape, Knows     what g is made of; what the contract says, that f4 says no more than K, and what is to be known of the types
 --     function, form   g's MIR, and its form.        inner     the form of f.        meets     g's MIR fulfils that form wherever its callees fulfil theirs
 -- The part of the local array is shown for a lifetime of the call. The row is handed on for good.

@@ -1,6 +1,6 @@
 -- The words in which the shapes write MIR, and the steps that walk them.
 -- Assumes nothing.
---     it, len-of, ptr-of, sets, steps     a local and the two parts of a slice as operands, an assignment to a local, and statements in a row
+--     it, its, len-of, ptr-of, sets, steps     a local, several, and the two parts of a slice as operands, an assignment to a local, and statements in a row
 --     by-values, slice-of, ref-to     locals that are all values, the type of a slice and of a reference
 --     hands-to, firsts-of, finds-elem     the two statements by which a slice in a local is handed on, the first elements of an array are a slice, and an element of a row is found
 --     Has, Free, Dies     a local's cell, its room, and what says that it dies, as items of a context
@@ -39,6 +39,10 @@ use Rattle.walks.proofs.Walk.{offset-fits, size-fits, size-op, size-lit
 -- ---- the words
 abbrev pub it : ℕ → Operand
 it i = copy (place i [])
+
+abbrev pub its : List ℕ → List Operand
+its [] = []
+its (i ∷ is) = it i ∷ its is
 
 abbrev pub ptr-of : ℕ → Operand
 ptr-of i = copy (place i (field 0 ∷ []))

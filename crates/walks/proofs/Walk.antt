@@ -2,9 +2,10 @@
 -- Assumes nothing.
 --     offset-fits, size-fits     the offset of an element of a row that has room, and the size of one, are numbers of 64 bits.        falls     what is left of a row falls
 --     decide, below, is-true, is-false     a test's two outcomes
+--     follows, follows-two     what is said of an answer and of one or two things lent, by way of what another says
 --     size-op, size-lit     the size of an element as lowering writes it, `int` below 1024 and `intBig` from there on, and what it evaluates to
 --     Spot, Spots      of a local: its cell or its room lies beside what says that it dies.        leaves     one step: all locals are freed
-use mathlib.Core.Path.{_≡_, refl, sym, subst}
+use mathlib.Core.Path.{_≡_, refl, sym, _∙_, subst}
 use mathlib.Core.Bool.{Bool, true, false, not}
 use Prim.Native.Nat.{ℕ, zero, _<_, _≤_, _+_, _-_, _*_, _^_}
 use native.Mathlib.Nat.{mul-le-mul-right, le-of-lt}
@@ -56,6 +57,13 @@ is-true false h = absurd h
 pub is-false : (t : Bool) → T (not t) → t ≡ false
 is-false true h = absurd h
 is-false false h = refl
+
+-- ---- what is said of an answer and of one or two things lent, by way of what another says
+pub follows : {X Y : Type 0} {r p x : X} {s q y : Y} → (r ≡ p) × (s ≡ q) → (p ≡ x) × (q ≡ y) → (r ≡ x) × (s ≡ y)
+follows e w = (e .0 ∙ w .0, e .1 ∙ w .1)
+
+pub follows-two : {X Y Z : Type 0} {r p x : X} {s q y : Y} {t o z : Z} → (r ≡ p) × ((s ≡ q) × (t ≡ o)) → (p ≡ x) × ((q ≡ y) × (o ≡ z)) → (r ≡ x) × ((s ≡ y) × (t ≡ z))
+follows-two e w = (e .0 ∙ w .0, follows (e .1) (w .1))
 
 -- ---- the size of an element
 abbrev sized : Bool → ℕ → Operand
