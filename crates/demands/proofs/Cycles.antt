@@ -12,7 +12,8 @@ use Rattle.refusal.specs.Said.{Bar, bar, first, kept}
 use Rattle.settings.specs.Bytes.{same}
 use Rattle.board.specs.declared.Board.{Board}
 use Rattle.frame.specs.Frame.{byte, writes}
-use Rattle.registers.specs.Registers.{known, fits, programs, lacksCycle}
+use Rattle.registers.specs.Map.{noRegister, fits}
+use Rattle.registers.specs.Registers.{programs, lacksCycle}
 use Rattle.stack.specs.Row.{placeOf, boardAt}
 use Rattle.stack.specs.Frame.{framePlace}
 use Rattle.demands.specs.Paper.{Entry, sampled, History, staged, working, spends, howMany, spent}
@@ -54,7 +55,7 @@ three-frame logs bytes buffer accepted h =
     let l = logAt logs (framePlace bytes) in
     let w = writes (byte bytes 0) in
     let r = byte bytes 1 in
-    let b9 = bar 9 (not (known r) || w && eqb r 0) in
+    let b9 = bar 9 (noRegister w r) in
     let b10 = bar 10 (not (fits w r (byte bytes 2))) in
     let b11 = bar 11 (programs w r && lacksCycle (boardGiven l)) in
     let c9 = clear b9 (b10 ∷ b11 ∷ []) refl (frame-fits logs bytes buffer accepted .1) in

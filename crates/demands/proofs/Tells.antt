@@ -21,6 +21,7 @@ use Rattle.board.specs.Sample.{badBoard, outside, outOfRange, readingBars, boar
 use Rattle.frame.specs.Frame.{byte, boardOf, writes}
 use Rattle.frame.specs.Reply.{replyBytes}
 use Rattle.frame.specs.Check.{checkOf}
+use Rattle.registers.specs.Map.{readValue}
 use Rattle.registers.specs.Registers.{programs, accessBars, boardAfter, replyValue}
 use Rattle.reading.specs.declared.Summary.{Summary}
 use Rattle.reading.specs.Reading.{summaryOf, readOf, wholeSaid}
@@ -134,7 +135,7 @@ reply-is : (l : Log) (write : Bool) (register v : ℕ)
     → replyValue (boardGiven l) write register v ≡ cond (programs write register) (spent (l .acts)) (cond write v (readSays l register))
 reply-is l write register v =
     ap (λ (t : Latches). cond (programs write register) (spent (l .acts)) (cond write v
-    (cond (eqb register 0) (register0 t) (cond (eqb register 11) (spent (l .acts)) (byteOf (working (l .acts)) register)))))
+    (readValue (record { status = register0 t; working = working (l .acts); cycles = spent (l .acts) }) register)))
     (latches-kept (latchesAt (l .cells) (l .acts)))
 
 module _ (logs : List Log) (bytes buffer : List ℕ) where

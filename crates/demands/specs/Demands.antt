@@ -14,6 +14,7 @@ use Rattle.latches.specs.Latches.{anyLatch, chgOn, dsgOn, register0}
 use Rattle.board.specs.declared.Board.{Board}
 use Rattle.frame.specs.Frame.{byte, writes}
 use Rattle.frame.specs.Reply.{replyBytes}
+use Rattle.registers.specs.Map.{Shown, readValue}
 use Rattle.reading.specs.declared.Summary.{Summary}
 use Rattle.reading.specs.Reading.{readOf, wholeSaid}
 use Rattle.stack.specs.Row.{placeOf}
@@ -69,11 +70,12 @@ taken logs reading = logs
 abbrev pub sampleSays : Log → List ℕ
 sampleSays l = register0 (latchesAt (l .cells) (l .acts)) ∷ number (bled (flagsAt (l .cells) (l .acts))) ∷ []
 
--- a read: the status, the cycles spent, or a working byte
+-- a read: what its row of the map gives of the status, the working settings and the cycles spent
+abbrev pub shownGiven : Log → Shown
+shownGiven l = record { status = register0 (latchesAt (l .cells) (l .acts)); working = working (l .acts); cycles = spent (l .acts) }
+
 abbrev pub readSays : Log → ℕ → ℕ
-readSays l register =
-    cond (eqb register 0) (register0 (latchesAt (l .cells) (l .acts)))
-    (cond (eqb register 11) (spent (l .acts)) (byteOf (working (l .acts)) register))
+readSays l register = readValue (shownGiven l) register
 
 -- a frame: its first two bytes, then the cycles spent, the byte written or what is read, and a fresh check
 abbrev pub frameSays : Log → List ℕ → List ℕ

@@ -12,6 +12,8 @@ use Rattle.board.specs.declared.Answer.{Answer}
 use Rattle.board.specs.Sample.{sampleOf}
 use Rattle.frame.specs.declared.Taken.{Taken}
 use Rattle.frame.specs.declared.Outcome.{Outcome}
+use Rattle.frame.specs.declared.Request.{Request}
+use Rattle.registers.specs.Registers.{obeyedOf}
 use Rattle.frame.specs.declared.Reply.{Reply}
 use Rattle.frame.specs.Reply.{replyOf, putOf}
 use Rattle.stack.specs.Sample.{sampleAnswer, sampleRow}
@@ -60,14 +62,6 @@ use Rattle.frame.proofs.take_apart.Reads as frame-take-apart
 use Rattle.frame.proofs.refused.Reads as frame-refused
 use Rattle.frame.proofs.request_of.Reads as frame-request-of
 use Rattle.frame.proofs.refusal.Reads as frame-refusal
-use Rattle.registers.proofs.asks_write.Reads as registers-asks-write
-use Rattle.registers.proofs.asks_programming.Reads as registers-asks-programming
-use Rattle.registers.proofs.asks_staging.Reads as registers-asks-staging
-use Rattle.registers.proofs.spends_cycle.Reads as registers-spends-cycle
-use Rattle.registers.proofs.tell.Reads as registers-tell
-use Rattle.registers.proofs.stage.Reads as registers-stage
-use Rattle.registers.proofs.spend.Reads as registers-spend
-use Rattle.registers.proofs.keep.Reads as registers-keep
 use Rattle.reading.proofs.none_seen.Reads as reading-none-seen
 use Rattle.reading.proofs.see.Reads as reading-see
 use Rattle.reading.proofs.read_all.Reads as reading-read-all
@@ -221,31 +215,6 @@ frame-request-of-one κs a r t s u = agree
 pub frame-refusal-one : (κs : _) (a : _) (r t : _) (s u : _) → frame-refusal.Learnt κs a r s → frame-refusal.Learnt κs a t u → r ≡ t
 frame-refusal-one κs a r t s u = agree
 
--- ---- registers
-pub registers-asks-write-one : (κs : _) (a : _) (r t : _) (s u : _) → registers-asks-write.Learnt κs a r s → registers-asks-write.Learnt κs a t u → r ≡ t
-registers-asks-write-one κs a r t s u = agree
-
-pub registers-asks-programming-one : (κs : _) (a : _) (r t : _) (s u : _) → registers-asks-programming.Learnt κs a r s → registers-asks-programming.Learnt κs a t u → r ≡ t
-registers-asks-programming-one κs a r t s u = agree
-
-pub registers-asks-staging-one : (κs : _) (a : _) (r t : _) (s u : _) → registers-asks-staging.Learnt κs a r s → registers-asks-staging.Learnt κs a t u → r ≡ t
-registers-asks-staging-one κs a r t s u = agree
-
-pub registers-spends-cycle-one : (κs : _) (a : _) (r t : _) (s u : _) → registers-spends-cycle.Learnt κs a r s → registers-spends-cycle.Learnt κs a t u → r ≡ t
-registers-spends-cycle-one κs a r t s u = agree
-
-pub registers-tell-one : (κs : _) (a : _) (r t : _) (s u : _) → registers-tell.Learnt κs a r s → registers-tell.Learnt κs a t u → r ≡ t
-registers-tell-one κs a r t s u = agree
-
-pub registers-stage-one : (κs : _) (a : _) (r t : _) (s u : _) → registers-stage.Learnt κs a r s → registers-stage.Learnt κs a t u → r ≡ t
-registers-stage-one κs a r t s u = agree
-
-pub registers-spend-one : (κs : _) (a : _) (r t : _) (s u : _) → registers-spend.Learnt κs a r s → registers-spend.Learnt κs a t u → r ≡ t
-registers-spend-one κs a r t s u = agree
-
-pub registers-keep-one : (κs : _) (a : _) (r t : _) (s u : _) → registers-keep.Learnt κs a r s → registers-keep.Learnt κs a t u → r ≡ t
-registers-keep-one κs a r t s u = agree
-
 -- ---- reading
 pub reading-none-seen-one : (κs : _) (a : _) (r t : _) (s u : _) → reading-none-seen.Learnt κs a r s → reading-none-seen.Learnt κs a t u → r ≡ t
 reading-none-seen-one κs a r t s u = agree
@@ -310,6 +279,10 @@ frame-put-two buffer t made = two (replyOf t made) (putOf buffer (replyOf t made
 -- the answer, and the record
 pub board-sample-board-two : (b : Board) (x : Readings) (mv : List ℕ) → Determined (λ (o : Answer × Board). (o .0 ≡ sampleOf b x mv .answer) × (o .1 ≡ sampleOf b x mv .board))
 board-sample-board-two b x mv = two (sampleOf b x mv .answer) (sampleOf b x mv .board)
+
+-- the outcome, and the record
+pub registers-obey-board-two : (b : Board) (asked : Request) → Determined (λ (o : Outcome × Board). (o .0 ≡ obeyedOf b asked .outcome) × (o .1 ≡ obeyedOf b asked .board))
+registers-obey-board-two b asked = two (obeyedOf b asked .outcome) (obeyedOf b asked .board)
 
 -- the answer, and the row
 pub stack-sample-stack-two : (row : List Board) (n : ℕ) (x : Readings) (mv : List ℕ) → Determined (λ (o : Answer × List Board). (o .0 ≡ sampleAnswer row n x mv) × (o .1 ≡ sampleRow row n x mv))

@@ -14,7 +14,9 @@ use Rattle.frame.specs.declared.Request.{Request}
 use Rattle.frame.specs.declared.Verdict.the-variants as verdict
 use Rattle.frame.specs.Frame.{writes}
 use Rattle.frame.specs.Reply.{outcomeSaid, outcomeSaying}
-use Rattle.registers.specs.Registers.{noRegister, readValue, fits, programs, staging, spent, lacksCycle, accessBars, boardAfter, replyValue, gives, obeyedOf}
+use Rattle.registers.specs.Map.{noRegister, fits, readValue}
+use Rattle.registers.specs.Registers.{shownOf, programs, staging, spent, lacksCycle, accessBars, boardAfter, replyValue, obeyedOf}
+use Rattle.registers.specs.Way.{gives}
 
 -- a write to register 11 of the value that programs
 module _ (b : Board) (address : ℕ) (write : writes address ≡ true) where
@@ -41,7 +43,7 @@ unfolding spent
 spent-works b = refl
 
 -- a staged byte changes no read
-pub staging-unread : (b : Board) (register v k : ℕ) → readValue (staging b register v) k ≡ readValue b k
+pub staging-unread : (b : Board) (register v k : ℕ) → readValue (shownOf (staging b register v)) k ≡ readValue (shownOf b) k
 staging-unread b register v k = refl
 
 -- where the verdict is a refusal, what was there is kept

@@ -1,7 +1,9 @@
-// The register map of one board, and programming, by value (01, Frames and registers).
+// The register map of one board, and programming (01, Frames and registers).
 ghost use mathlib.Core.Path.{_≡_};
 ghost use Rattle.frame.specs.Frame.{writes};
-ghost use Rattle.registers.specs.Registers.{gives, denies, noRegister, asksWrite, asksProgramming, asksStaging, spendsCycle, barOf, readOf, toldOf, stagedBy, cyclesAfter, spentBy, keptOf};
+ghost use Rattle.registers.specs.Map.{noRegister, fits, readValue};
+ghost use Rattle.registers.specs.Registers.{shownOf, lacksCycle, obeyedOf};
+ghost use Rattle.registers.specs.Way.{gives, denies, barred, barOf, asksProgramming, asksStaging, toldOf, stagedBy, cyclesAfter, rests, lookOf, spentBy, programmedBy};
 use board::Board;
 use board::Currents;
 use frame::Outcome;
@@ -14,6 +16,12 @@ use settings::Settings;
 pub struct Obeyed {
     pub board: Board,
     pub outcome: Outcome,
+}
+
+// What a look at programming finds: whether it spends a cycle, and its outcome.
+struct Found {
+    spends: bool,
+    outcome: Outcome,
 }
 
 fn given(value: u8) -> Outcome
@@ -36,6 +44,8 @@ fn refused(why: Refusal) -> Outcome
     }
 }
 
+// ---- the map
+
 // The board's number is the rest of the address.
 fn is_write(address: u8) -> bool
     ensures { λ r. ⌜ r ≡ writes address ⌝ }
@@ -43,84 +53,142 @@ fn is_write(address: u8) -> bool
     address % 2 == 1
 }
 
-// Refusal 9.
+// The register is not there, or not to be written.
 fn no_register(writes: bool, register: u8) -> bool
     ensures { λ r. ⌜ r ≡ noRegister writes register ⌝ }
 {
-    let known = (register == 0) | ((6 <= register) & (register <= 11));
-    !known | (writes & (register == 0))
+    match register {
+        0 => writes,
+        6..=11 => false,
+        _ => true,
+    }
 }
 
 // The one value that register 11 takes: it programs.
 const KEY: u8 = 0x41;
 
-// ---- which way a frame goes: a caller asks before it copies the record
+// A read carries 0, a write what its register takes.
+fn value_fits(writes: bool, register: u8, value: u8) -> bool
+    ensures { λ r. ⌜ r ≡ fits writes register value ⌝ }
+{
+    if writes {
+        if register == 11 {
+            return value == KEY;
+        }
+        return Settings::allows(register, value);
+    }
+    value == 0
+}
 
-pub fn asks_write(asked: Request) -> bool
-    ensures { λ r. ⌜ r ≡ asksWrite asked ⌝ }
+// A read of the settings gives the working bytes, so that a worn memory shows.
+fn read(b: Board, register: u8) -> u8
+    ensures { λ r. ⌜ r ≡ readValue (shownOf b) register ⌝ }
+{
+    match register {
+        0 => latches::status_of(b.latches),
+        11 => b.cycles,
+        _ => b.working.byte(register),
+    }
+}
+
+// ---- which way a frame goes, in the table's order
+
+// Refusals 9 and 10, which the frame alone decides. What takes a value is there to be written.
+fn barred(asked: Request) -> bool
+    ensures { λ r. ⌜ r ≡ barred asked ⌝ }
+{
+    let writes = is_write(asked.address);
+    let fits = value_fits(writes, asked.register, asked.value);
+    if writes {
+        return !fits;
+    }
+    no_register(false, asked.register) | !fits
+}
+
+fn bar_of(asked: Request) -> Outcome
+    ensures { λ r. ⌜ r ≡ barOf asked ⌝ }
+{
+    if no_register(is_write(asked.address), asked.register) {
+        return refused(Refusal::NoRegister);
+    }
+    refused(Refusal::BadValue)
+}
+
+fn asks_programming(asked: Request) -> bool
+    ensures { λ r. ⌜ r ≡ asksProgramming asked ⌝ }
+{
+    is_write(asked.address) & (asked.register == 11)
+}
+
+fn asks_staging(asked: Request) -> bool
+    ensures { λ r. ⌜ r ≡ asksStaging asked ⌝ }
 {
     is_write(asked.address)
 }
 
-pub fn asks_programming(asked: Request) -> bool
-    ensures { λ r. ⌜ r ≡ asksProgramming asked ⌝ }
-{
-    is_write(asked.address) & (asked.register == 11) & (asked.value == KEY)
-}
-
-// Of a write that does not program: whether it stages.
-pub fn asks_staging(asked: Request) -> bool
-    ensures { λ r. ⌜ r ≡ asksStaging asked ⌝ }
-{
-    is_write(asked.address) & Settings::allows(asked.register, asked.value)
-}
-
-// Programming equal settings spends nothing.
-pub fn spends_cycle(b: Board) -> bool
-    ensures { λ r. ⌜ r ≡ spendsCycle b ⌝ }
+// Refusal 11: programming would spend a cycle, and three are spent already.
+fn lacks_cycle(b: Board) -> bool
+    ensures { λ r. ⌜ r ≡ lacksCycle b ⌝ }
 {
     let equal = b.staged.same(b.working);
-    !equal & (b.cycles < 3)
+    !equal & (3 <= b.cycles)
 }
 
-// ---- what each way gives. Every way is handed the request; the two that program need nothing of it
-
-// Why a write that does neither is refused, or a read that carries a value.
-fn bar_of(writes: bool, register: u8) -> Refusal
-    ensures { λ r. ⌜ r ≡ barOf writes register ⌝ }
+fn cycles_after(cycles: u8) -> u8
+    ensures { λ r. ⌜ r ≡ cyclesAfter cycles ⌝ }
 {
-    if no_register(writes, register) {
-        Refusal::NoRegister
-    } else {
-        Refusal::BadValue
+    if cycles < 3 { cycles + 1 } else { cycles }
+}
+
+fn rest(outcome: Outcome) -> Found
+    ensures { λ r. ⌜ r ≡ rests outcome ⌝ }
+{
+    Found {
+        spends: false,
+        outcome: outcome,
     }
 }
 
-// A read of the settings gives the working bytes, so that a worn memory shows.
-fn read(b: Board, register: u8) -> Outcome
-    ensures { λ r. ⌜ r ≡ readOf b register ⌝ }
+// Programming: refused for want of a cycle, or nothing for equal settings, or a cycle to be spent.
+fn look(b: Board) -> Found
+    ensures { λ r. ⌜ r ≡ lookOf b ⌝ }
 {
-    match register {
-        0 => given(latches::status_of(b.latches)),
-        6..=10 => given(b.working.byte(register)),
-        11 => given(b.cycles),
-        _ => refused(Refusal::NoRegister),
+    if lacks_cycle(b) {
+        return rest(refused(Refusal::NoCycle));
+    }
+    let equal = b.staged.same(b.working);
+    if equal {
+        return rest(given(b.cycles));
+    }
+    Found {
+        spends: true,
+        outcome: given(cycles_after(b.cycles)),
     }
 }
 
-// A read, or a write that is refused: the board stays.
-pub fn tell(b: Board, asked: Request) -> Outcome
+fn spends(found: Found) -> bool
+    ensures { λ r. ⌜ r ≡ found .spends ⌝ }
+{
+    found.spends
+}
+
+fn outcome_of(found: Found) -> Outcome
+    ensures { λ r. ⌜ r ≡ found .outcome ⌝ }
+{
+    found.outcome
+}
+
+// ---- what a frame does to the board
+
+// A read: the board stays.
+fn tell(b: Board, asked: Request) -> Outcome
     ensures { λ r. ⌜ r ≡ toldOf b asked ⌝ }
 {
-    let writes = is_write(asked.address);
-    if writes | (asked.value != 0) {
-        return refused(bar_of(writes, asked.register));
-    }
-    read(b, asked.register)
+    given(read(b, asked.register))
 }
 
 // A write that stages.
-pub fn stage(b: Board, asked: Request) -> Obeyed
+fn stage(b: Board, asked: Request) -> Obeyed
     ensures { λ r. ⌜ r ≡ stagedBy b asked ⌝ }
 {
     let staged = b.staged.with_byte(asked.register, asked.value);
@@ -132,14 +200,8 @@ pub fn stage(b: Board, asked: Request) -> Obeyed
     }
 }
 
-fn cycles_after(cycles: u8) -> u8
-    ensures { λ r. ⌜ r ≡ cyclesAfter cycles ⌝ }
-{
-    if cycles < 3 { cycles + 1 } else { cycles }
-}
-
 // Programming that spends a cycle. Every run starts over, since the levels and delays may be others now.
-pub fn spend(b: Board, _asked: Request) -> Obeyed
+fn spend(b: Board, _asked: Request) -> Obeyed
     ensures { λ r. ⌜ r ≡ spentBy b ⌝ }
 {
     let cycles = cycles_after(b.cycles);
@@ -157,14 +219,48 @@ pub fn spend(b: Board, _asked: Request) -> Obeyed
     }
 }
 
-// Programming that spends none: the board stays. Equal settings are never refused.
-pub fn keep(b: Board, _asked: Request) -> Outcome
-    ensures { λ r. ⌜ r ≡ keptOf b ⌝ }
+// ---- a frame to a lent record
+
+fn stage_board(b: &mut Board, asked: Request) -> Outcome
+    ensures { λ r. ⌜ (r ≡ stagedBy (now (b .entry)) asked .outcome) × (now (b .exit) ≡ stagedBy (now (b .entry)) asked .board) ⌝ }
 {
-    let cycles = b.cycles;
-    let equal = b.staged.same(b.working);
-    if equal {
-        return given(cycles);
+    let s = stage(*b, asked);
+    *b = s.board;
+    s.outcome
+}
+
+fn spend_board(b: &mut Board, asked: Request) -> Outcome
+    ensures { λ r. ⌜ (r ≡ spentBy (now (b .entry)) .outcome) × (now (b .exit) ≡ spentBy (now (b .entry)) .board) ⌝ }
+{
+    let s = spend(*b, asked);
+    *b = s.board;
+    s.outcome
+}
+
+// Programming. It is looked at first, and stores only where a cycle is spent.
+fn program_board(b: &mut Board, asked: Request) -> Outcome
+    ensures { λ r. ⌜ (r ≡ programmedBy (now (b .entry)) .outcome) × (now (b .exit) ≡ programmedBy (now (b .entry)) .board) ⌝ }
+{
+    let found = look(*b);
+    if spends(found) {
+        return spend_board(b, asked);
     }
-    refused(Refusal::NoCycle)
+    outcome_of(found)
+}
+
+// A frame that was sent to this board: refusals 9, 10, 11 in order, or what it asks. It copies of the record what its way needs,
+// and stores only where it changes something.
+pub fn obey_board(b: &mut Board, asked: Request) -> Outcome
+    ensures { λ r. ⌜ (r ≡ obeyedOf (now (b .entry)) asked .outcome) × (now (b .exit) ≡ obeyedOf (now (b .entry)) asked .board) ⌝ }
+{
+    if barred(asked) {
+        return bar_of(asked);
+    }
+    if asks_programming(asked) {
+        return program_board(b, asked);
+    }
+    if asks_staging(asked) {
+        return stage_board(b, asked);
+    }
+    tell(*b, asked)
 }

@@ -15,7 +15,8 @@ use Rattle.frame.specs.declared.Reply.the-variants.{Refused}
 use Rattle.frame.specs.declared.Outcome.{Outcome}
 use Rattle.frame.specs.Frame.{byte, boardOf, writes, frameBars, takenApart, isRefused, requestOf, whyOf}
 use Rattle.frame.specs.Reply.{replyBytes, replySaying, replyOf, putOf}
-use Rattle.registers.specs.Registers.{accessBars, boardAfter, replyValue, denies, obeyedOf}
+use Rattle.registers.specs.Registers.{accessBars, boardAfter, replyValue, obeyedOf}
+use Rattle.registers.specs.Way.{denies}
 use Rattle.stack.specs.Row.{goodRow, noBoard, placeOf, boardAt}
 
 -- whom a frame names: the board's number, its place in the row, and its record

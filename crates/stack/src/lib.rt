@@ -5,7 +5,7 @@ ghost use mathlib.Core.Bool.{true, not};
 ghost use Prim.Native.Nat.{_≤_};
 ghost use lib.ListN.{length};
 ghost use Rattle.board.specs.Sample.{sampleOf, badBoard};
-ghost use Rattle.registers.specs.Registers.{obeyedOf, toldOf, keptOf, spentBy, stagedBy, programmedBy, setBy, writtenBy};
+ghost use Rattle.registers.specs.Registers.{obeyedOf};
 ghost use Rattle.stack.specs.Row.{badCount, goodRow, placeOf};
 ghost use Rattle.stack.specs.Open.{goodCounts, freshRow, noStack, openOf};
 ghost use Rattle.stack.specs.Sample.{sampleAnswerAt, sampleRowAt, sampleAnswer, sampleRow, noSample, noRowSample};
@@ -195,73 +195,6 @@ pub fn sample_stack(row: &mut [Board], board: u32, x: Readings, mv: &[u32]) -> A
 
 // ---- a frame
 
-// The ways of a frame on one board: two that leave the record, and two that store.
-fn tell_board(b: &mut Board, asked: Request) -> Outcome
-    ensures { λ r. ⌜ (r ≡ toldOf (now (b .entry)) asked) × (now (b .exit) ≡ now (b .entry)) ⌝ }
-{
-    registers::tell(*b, asked)
-}
-
-fn keep_board(b: &mut Board, asked: Request) -> Outcome
-    ensures { λ r. ⌜ (r ≡ keptOf (now (b .entry))) × (now (b .exit) ≡ now (b .entry)) ⌝ }
-{
-    registers::keep(*b, asked)
-}
-
-fn spend_board(b: &mut Board, asked: Request) -> Outcome
-    ensures { λ r. ⌜ (r ≡ spentBy (now (b .entry)) .outcome) × (now (b .exit) ≡ spentBy (now (b .entry)) .board) ⌝ }
-{
-    let s = registers::spend(*b, asked);
-    *b = s.board;
-    s.outcome
-}
-
-fn stage_board(b: &mut Board, asked: Request) -> Outcome
-    ensures { λ r. ⌜ (r ≡ stagedBy (now (b .entry)) asked .outcome) × (now (b .exit) ≡ stagedBy (now (b .entry)) asked .board) ⌝ }
-{
-    let s = registers::stage(*b, asked);
-    *b = s.board;
-    s.outcome
-}
-
-// Which of them it goes: the board is asked only whether programming would spend a cycle.
-fn program_board(b: &mut Board, asked: Request) -> Outcome
-    ensures { λ r. ⌜ (r ≡ programmedBy (now (b .entry)) .outcome) × (now (b .exit) ≡ programmedBy (now (b .entry)) .board) ⌝ }
-{
-    if registers::spends_cycle(*b) {
-        return spend_board(b, asked);
-    }
-    keep_board(b, asked)
-}
-
-fn set_board(b: &mut Board, asked: Request) -> Outcome
-    ensures { λ r. ⌜ (r ≡ setBy (now (b .entry)) asked .outcome) × (now (b .exit) ≡ setBy (now (b .entry)) asked .board) ⌝ }
-{
-    if registers::asks_staging(asked) {
-        return stage_board(b, asked);
-    }
-    tell_board(b, asked)
-}
-
-fn write_board(b: &mut Board, asked: Request) -> Outcome
-    ensures { λ r. ⌜ (r ≡ writtenBy (now (b .entry)) asked .outcome) × (now (b .exit) ≡ writtenBy (now (b .entry)) asked .board) ⌝ }
-{
-    if registers::asks_programming(asked) {
-        return program_board(b, asked);
-    }
-    set_board(b, asked)
-}
-
-// A frame that was sent to one board: it stores only where it changes something.
-fn obey_board(b: &mut Board, asked: Request) -> Outcome
-    ensures { λ r. ⌜ (r ≡ obeyedOf (now (b .entry)) asked .outcome) × (now (b .exit) ≡ obeyedOf (now (b .entry)) asked .board) ⌝ }
-{
-    if registers::asks_write(asked) {
-        return write_board(b, asked);
-    }
-    tell_board(b, asked)
-}
-
 fn asked_place(asked: Request) -> usize
     ensures { λ r. ⌜ r ≡ askedPlace asked ⌝ }
 {
@@ -289,7 +222,7 @@ fn obey_at(row: &mut [Board], asked: Request) -> Outcome
 {
     let at = asked_place(asked);
     if at < row.len() {
-        return obey_board(&mut row[at], asked);
+        return registers::obey_board(&mut row[at], asked);
     }
     no_outcome()
 }

@@ -8,7 +8,7 @@ is-write-requires : tie.Need-is-write-requires
 is-write-requires c κs = search needs
 
 returns : tie.Need-returns
-returns c = rw (c .before .before .is-write .ensures)
+returns c = rw (c .before .is-write .ensures)
 
 pub asks-programming-spec : {M : Type 1} → statement M
 asks-programming-spec = tie.close (tie.spec is-write-requires returns)

@@ -4,14 +4,31 @@ use borrow.Author.Needs.{needs}
 use Rattle.registers.proofs.bar_of.Statement.{statement}
 use Rattle.registers.proofs.bar_of.Tie as tie
 
+is-write-requires : tie.Need-is-write-requires
+is-write-requires c κs = search needs
+
 no-register-requires : tie.Need-no-register-requires
 no-register-requires c κs = search needs
 
+refused-requires : tie.Need-refused-requires
+refused-requires c κs = search needs
+
 returns : tie.Need-returns
-returns c = rw (← (c .before .no-register .ensures), c .if1 .taken)
+returns c = rw (c .refused .ensures, ← (c .before .before .before .is-write .ensures), ← (c .before .before .no-register .ensures), c .before .if1 .taken)
+
+refused-requires-2 : tie.Need-refused-requires-2
+refused-requires-2 c κs = search needs
 
 returns-2 : tie.Need-returns-2
-returns-2 c = rw (← (c .before .no-register .ensures), c .if1 .left)
+returns-2 c = rw (c .refused2 .ensures, ← (c .before .before .before .is-write .ensures), ← (c .before .before .no-register .ensures), c .before .if1 .left)
 
 pub bar-of-spec : {M : Type 1} → statement M
-bar-of-spec = tie.close (tie.spec no-register-requires returns returns-2)
+bar-of-spec =
+    tie.close
+    (tie.spec
+    is-write-requires
+    no-register-requires
+    refused-requires
+    returns
+    refused-requires-2
+    returns-2)

@@ -1,6 +1,6 @@
 -- `registers::spend` meets its contract: the fields that are set are the ones that differ in the definition.
 -- Assumes nothing.
-use Rattle.registers.specs.Registers.{spentBy}
+use Rattle.registers.specs.Way.{spentBy}
 use borrow.Author.Needs.{needs}
 use Rattle.registers.proofs.spend.Statement.{statement}
 use Rattle.registers.proofs.spend.Tie as tie

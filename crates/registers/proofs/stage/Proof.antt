@@ -1,6 +1,6 @@
 -- `registers::stage` meets its contract: one byte of the staged settings is another.
 -- Assumes nothing.
-use Rattle.registers.specs.Registers.{stagedBy}
+use Rattle.registers.specs.Way.{stagedBy}
 use borrow.Author.Needs.{needs}
 use Rattle.registers.proofs.stage.Statement.{statement}
 use Rattle.registers.proofs.stage.Tie as tie

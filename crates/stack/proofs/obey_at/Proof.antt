@@ -24,11 +24,11 @@ use Rattle.walks.proofs.Hands.{param, at, after-handed, newest, every}
 use Rattle.walks.proofs.Pieces.{answers, nothing, meets}
 use Rattle.walks.proofs.Rows.{at-place, lends-at}
 use Rattle.stack.proofs.Known as known
-use Rattle.stack.proofs.Obeying.{obeying}
+use Rattle.registers.proofs.Obeying.{obeying}
 use Rattle.stack.proofs.asked_place.Symbol.{name as #asked-place}
 use Rattle.stack.proofs.asked_place.Met as asked-place′
-use Rattle.stack.proofs.obey_board.Symbol.{name as #obey-board}
-use Rattle.stack.proofs.obey_board.Met as obey-board′
+use Rattle.registers.proofs.obey_board.Symbol.{name as #obey-board}
+use Rattle.registers.proofs.obey_board.Met as obey-board′
 use Rattle.stack.proofs.no_outcome.Symbol.{name as #no-outcome}
 use Rattle.stack.proofs.no_outcome.Met as no-outcome′
 use Rattle.stack.proofs.obey_at.Key as key
@@ -53,5 +53,5 @@ obey-at-spec 𝓤 H 𝓜 𝓖 𝓡 =
     let row = now (a .0) in
     let asked = a .1 .0 in
     at-place (param (after-handed at)) askedPlace #asked-place (cited 𝓤 H _ 𝓜 𝓡 code.env #asked-place _ code.calls-stack·asked-place (asked-place′.met 𝓤 H 𝓜 𝓖 𝓡))
-    (λ l. lends-at newest (fresh 0) (value Requests.the-row ∷ []) (every _) (obeying obeyedOf .says-of) #obey-board (cited 𝓤 H _ 𝓜 𝓡 code.env #obey-board _ code.calls-stack·obey-board (obey-board′.met 𝓤 H 𝓜 𝓖 𝓡)) (λ ν. tt) l (λ ν δ r ws e. follows (e .0, ap (set row (askedPlace asked)) (e .1)) (inside row asked l)))
+    (λ l. lends-at newest (fresh 0) (value Requests.the-row ∷ []) (every _) (obeying obeyedOf .says-of) #obey-board (cited 𝓤 H _ 𝓜 𝓡 code.env #obey-board _ code.calls-registers·obey-board (obey-board′.met 𝓤 H 𝓜 𝓖 𝓡)) (λ ν. tt) l (λ ν δ r ws e. follows (e .0, ap (set row (askedPlace asked)) (e .1)) (inside row asked l)))
     (λ l. answers (nothing noOutcome #no-outcome (cited 𝓤 H _ 𝓜 𝓡 code.env #no-outcome _ code.calls-stack·no-outcome (no-outcome′.met 𝓤 H 𝓜 𝓖 𝓡))) (past row asked l))))

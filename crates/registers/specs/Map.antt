@@ -1,0 +1,53 @@
+-- The register map of a board (01, Frames and registers): one row for each register that there is.
+-- Assumes nothing.
+use Prim.Native.Nat.{ℕ}
+use mathlib.Core.Bool.{Bool, true, false, cond, not, _&&_}
+use mathlib.Core.List.{List, [], _∷_}
+use lib.Dec.{eqb}
+use Rattle.settings.specs.declared.Settings.{Settings}
+use Rattle.settings.specs.Bytes.{byteOf, allowed}
+
+-- what the registers show: the status, the working settings and the cycles spent
+pub record Shown : Type 0 where
+  pub status : ℕ
+  pub working : Settings
+  pub cycles : ℕ
+
+-- a row: the register's number, whether it can be written, the values that a write may carry, and what a read gives
+pub record Register : Type 0 where
+  pub number : ℕ
+  pub written : Bool
+  pub takes : ℕ → Bool
+  pub gives : Shown → ℕ
+
+-- a settings byte has its own rule of what may be written; a read gives the working one
+abbrev pub setting : ℕ → Register
+setting n = record { number = n; written = true; takes = allowed n; gives = λ x. byteOf (x .working) n }
+
+abbrev pub registerMap : List Register
+registerMap =
+    record { number = 0; written = false; takes = λ v. false; gives = λ x. x .status }
+    ∷ setting 6
+    ∷ setting 7
+    ∷ setting 8
+    ∷ setting 9
+    ∷ setting 10
+    ∷ record { number = 11; written = true; takes = λ v. eqb v 0x41; gives = λ x. x .cycles }
+    ∷ []
+
+-- what the row of a register says of it, or what is said of a register that is not there
+abbrev pub inMap : {A : Type 0} → List Register → ℕ → A → (Register → A) → A
+inMap [] register none says = none
+inMap (r ∷ rows) register none says = cond (eqb register (r .number)) (says r) (inMap rows register none says)
+
+-- refusal 9: the register is not there, or not to be written
+abbrev pub noRegister : Bool → ℕ → Bool
+noRegister writes register = inMap registerMap register true (λ r. not (r .written) && writes)
+
+-- refusal 10, where it does not: a read carries 0, a write what its register takes
+abbrev pub fits : Bool → ℕ → ℕ → Bool
+fits writes register v = cond writes (inMap registerMap register false (λ r. r .takes v)) (eqb v 0)
+
+-- what a read gives
+abbrev pub readValue : Shown → ℕ → ℕ
+readValue x register = inMap registerMap register 0 (λ r. r .gives x)
