@@ -1,7 +1,7 @@
 -- What `adomvik::fill` is made of, as a function of the shape Filling: for its own proof, and for that of the opening.
 -- Assumes nothing.
 use denote.Builtin.{u32}
-use Rattle.adomvik.specs.Open.{more, left, fillAt, fillRowAt, fillEnd, fillRow}
+use Rattle.adomvik.specs.Way.{more, left, fillAt, fillRowAt, fillEnd, fillRow}
 use Rattle.board.proofs.Board as Boards
 use Rattle.adomvik.proofs.Progress as State
 use Rattle.adomvik.proofs.Filling.{Shape}

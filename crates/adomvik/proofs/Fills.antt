@@ -18,7 +18,8 @@ use Rattle.stack.specs.Row.{badCount, boardAt}
 use Rattle.stack.specs.Open.{goodCounts}
 use Rattle.stack.proofs.Counts.{within}
 use Rattle.adomvik.specs.declared.Progress.{Progress}
-use Rattle.adomvik.specs.Open.{openNumber, openRow, fillFrom, refusedFill, startOf, more, left, byteCount, putOf, fillAt, fillRowAt, turnsEnd, turnsRow, fillEnd, fillRow}
+use Rattle.adomvik.specs.Open.{openNumber, openRow}
+use Rattle.adomvik.specs.Way.{fillFrom, refusedFill, startOf, more, left, byteCount, putOf, fillAt, fillRowAt, turnsEnd, turnsRow, fillEnd, fillRow}
 
 -- a record is put at a place of the row, and past its end the filling is refused
 module _ (row : List Board) (x : Progress) (counts : List ℕ) where

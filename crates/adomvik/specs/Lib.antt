@@ -1,3 +1,4 @@
 pub mod Told
 pub mod Open
 pub mod Acts
+pub mod Way

@@ -15,7 +15,8 @@ use Rattle.marks.specs.Marks.{number, marks}
 use Rattle.marks.proofs.Laws.{marks-number, number-below, lowest-zero}
 use Rattle.board.specs.declared.Board.{Board}
 use Rattle.reading.specs.declared.Summary.{Summary}
-use Rattle.reading.specs.Reading.{summaryOf, lineUp, chgOn, dsgOn, place, firstFlagged, readOf, latchedOf, up, someFlag, seenOf, withBoard, seenWith, wholeOf}
+use Rattle.reading.specs.Reading.{summaryOf, lineUp, chgOn, dsgOn, place, firstFlagged, readOf}
+use Rattle.reading.specs.Way.{latchedOf, up, someFlag, seenOf, withBoard, seenWith, wholeOf}
 
 -- ---- one board more, north of the others
 number-on : (bs : List Bool) → number (bs ++ (true ∷ [])) ≡ number bs + 2 ^ length bs

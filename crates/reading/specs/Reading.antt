@@ -1,19 +1,16 @@
 -- The whole-stack reading of a row of boards, southernmost first (01, Whole-stack reading).
 -- Assumes nothing.
-use Prim.Native.Nat.{ℕ, _+_, _^_}
-use mathlib.Core.Bool.{Bool, false, cond, not, _&&_, _||_}
-use mathlib.Core.List.{List, [], _∷_, map}
-use lib.Bits.{bitOr}
-use lib.Dec.{leb, eqb}
-use lib.ListN.{length}
+use Prim.Native.Nat.{ℕ, _+_}
+use mathlib.Core.Bool.{Bool, false, cond, _||_}
+use mathlib.Core.List.{List, [], _∷_}
+use lib.Dec.{eqb}
 use Rattle.lists.specs.Every.{every}
-use Rattle.marks.specs.Marks.{bit, number, marks, lowest}
+use Rattle.marks.specs.Marks.{bit, marks, lowest}
 use Rattle.board.specs.declared.Board.{Board}
 use Rattle.latches.specs.Latches.{latchesOf, anyLatch}
 use Rattle.latches.specs.Latches as boards
 use Rattle.reading.specs.declared.Summary.{Summary}
 use Rattle.reading.specs.declared.Place.{Place}
-use Rattle.reading.specs.declared.Seen.{Seen}
 use Rattle.reading.specs.declared.Whole.{Whole}
 
 -- what the reading takes from a board's record
@@ -58,38 +55,3 @@ readOf boards =
 -- the answer's values in the paper's order: line, pack CHG, pack DSG, board, cell
 abbrev pub wholeSaid : Whole → List ℕ
 wholeSaid w = bit (w .line) ∷ bit (w .chg) ∷ bit (w .dsg) ∷ w .flagged .board ∷ w .flagged .cell ∷ []
-
--- ---- on the way: the line of the latches alone, board 1's first
-abbrev pub latchedOf : List Summary → List Bool
-latchedOf boards = map (λ board. board .latched) boards
-
-unfoldable pub up : List Bool → Bool
-up [] = false
-up (latched ∷ north) = latched || up north
-
--- ---- on the way: what a walk over the boards keeps of them, southernmost first
-unfoldable pub someFlag : List Summary → Bool
-someFlag [] = false
-someFlag (board ∷ north) = not (eqb (board .flags) 0) || someFlag north
-
-unfoldable pub seenOf : List Summary → Seen
-seenOf boards =
-    record { count = length boards; latched = number (latchedOf boards); chg = every chgOn boards; dsg = every dsgOn boards; flagged = someFlag boards }
-
--- the same with one more board north of all, at its place
-abbrev pub withBoard : ℕ → ℕ → Bool → ℕ
-withBoard set at is = cond is (bitOr set (2 ^ at)) set
-
-unfoldable pub seenWith : Seen → ℕ → Board → Seen
-seenWith seen at b =
-    cond (leb 16 at) seen (record {
-      count = at + 1;
-      latched = withBoard (seen .latched) at (summaryOf b .latched);
-      chg = seen .chg && summaryOf b .chg;
-      dsg = seen .dsg && summaryOf b .dsg;
-      flagged = seen .flagged || not (eqb (summaryOf b .flags) 0);
-    })
-
--- ---- on the way: the reading from what was kept and the flagged cell
-unfoldable pub wholeOf : Seen → Place → Whole
-wholeOf seen flagged = record { line = up (marks (seen .count) (seen .latched)); chg = seen .chg; dsg = seen .dsg; flagged = flagged }

@@ -3,7 +3,8 @@ ghost use mathlib.Core.Path.{_≡_};
 ghost use mathlib.Core.List.{[]};
 ghost use Prim.Native.Nat.{_<_};
 ghost use Rattle.marks.specs.Marks.{marks};
-ghost use Rattle.reading.specs.Reading.{summaryOf, withBoard, seenOf, seenWith, up, wholeOf};
+ghost use Rattle.reading.specs.Reading.{summaryOf};
+ghost use Rattle.reading.specs.Way.{withBoard, seenOf, seenWith, up, wholeOf};
 use board::Board;
 
 // What the reading takes from one board; the flagged cells as a number.

@@ -19,12 +19,14 @@ use Rattle.board.specs.declared.Board.{Board}
 use Rattle.reading.specs.declared.Seen.{Seen}
 use Rattle.reading.specs.declared.Summary.{Summary}
 use Rattle.reading.specs.declared.Whole.{Whole}
-use Rattle.reading.specs.Reading.{summaryOf, readOf, wholeSaid, place, firstFlagged, someFlag, seenOf, seenWith}
+use Rattle.reading.specs.Reading.{summaryOf, readOf, wholeSaid, place, firstFlagged}
+use Rattle.reading.specs.Way.{someFlag, seenOf, seenWith}
 use Rattle.reading.proofs.Turns.{seen-more, whole-seen, none-flagged}
 use Rattle.stack.specs.declared.View.{View}
 use Rattle.stack.specs.declared.View.the-variants.{Read, Refused}
 use Rattle.stack.specs.Row.{goodRow}
-use Rattle.stack.specs.Read.{wholeSaying, viewSaid, viewSaying, readingOf, noRowView, seenRow, firstFrom, lookOf}
+use Rattle.stack.specs.Read.{wholeSaying, viewSaid, viewSaying, readingOf}
+use Rattle.stack.specs.Way.{noRowView, seenRow, firstFrom, lookOf}
 use Rattle.stack.proofs.Ways.{row-size}
 use Rattle.stack.proofs.Searching.{first-good}
 

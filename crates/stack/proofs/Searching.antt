@@ -19,7 +19,7 @@ use Rattle.board.specs.Sample.{badBoard}
 use Rattle.reading.specs.declared.Place.{Place}
 use Rattle.reading.specs.Reading.{summaryOf, place, firstFlagged}
 use Rattle.stack.specs.Row.{goodRow, badCount}
-use Rattle.stack.specs.Read.{placeAt, firstOn, firstFrom}
+use Rattle.stack.specs.Way.{placeAt, firstOn, firstFrom}
 use Rattle.stack.proofs.Counts as counts
 use Rattle.stack.proofs.Ways.{row-size}
 

@@ -27,8 +27,9 @@ use Rattle.frame.specs.Check.{checkOf, checkAfter}
 use Rattle.frame.specs.Reply.{replyBytes, outcomeSaying, replySaying, replyBy, replyOf, putOf}
 use Rattle.registers.specs.Registers.{accessBars, replyValue, obeyedOf}
 use Rattle.stack.specs.Row.{badCount, goodRow, noBoard, placeOf, boardAt}
-use Rattle.stack.specs.Sample.{noRowSample, sampleAnswerAt, sampleRowAt, sampleAnswer, sampleRow}
-use Rattle.stack.specs.Frame.{framePlace, frameBoard, boardFramed, obeyOutcomeAt, obeyRowAt, noRowReply, takenAnswer, takenRow, takenBuffer, frameAnswerIn, frameRowIn, frameBufferIn, frameAnswer, frameRow, frameBuffer}
+use Rattle.stack.specs.Sample.{sampleAnswer, sampleRow}
+use Rattle.stack.specs.Way.{noRowSample, sampleAnswerAt, sampleRowAt, obeyOutcomeAt, obeyRowAt, noRowReply, takenAnswer, takenRow, takenBuffer, frameAnswerIn, frameRowIn, frameBufferIn}
+use Rattle.stack.specs.Frame.{framePlace, frameBoard, boardFramed, frameAnswer, frameRow, frameBuffer}
 use Rattle.stack.proofs.Counts.{within}
 
 -- a record that is new only where the act is accepted

@@ -3,3 +3,4 @@ pub mod Open
 pub mod Sample
 pub mod Frame
 pub mod Read
+pub mod Way

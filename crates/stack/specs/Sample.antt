@@ -1,17 +1,14 @@
 -- A sample of one board of the row (01, The stack and its readings; Refusal numbers 1, 2, 3, 4, 5).
 -- Assumes nothing.
 use Prim.Native.Nat.{ℕ}
-use mathlib.Core.Bool.{cond, not}
+use mathlib.Core.Bool.{not}
 use mathlib.Core.List.{List, _∷_}
-use lib.Dec.{ltb}
-use lib.ListN.{length, set}
-use Rattle.refusal.specs.Refusals.{numbered}
+use lib.ListN.{set}
 use Rattle.refusal.specs.Said.{Bar, bar, judged, kept}
 use Rattle.board.specs.declared.Board.{Board}
 use Rattle.board.specs.declared.Readings.{Readings}
 use Rattle.board.specs.declared.Answer.{Answer}
-use Rattle.board.specs.declared.Answer.the-variants.{Refused}
-use Rattle.board.specs.Sample.{readingBars, boardNext, sampleValues, sampleOf, answerSaying}
+use Rattle.board.specs.Sample.{readingBars, boardNext, sampleValues, answerSaying}
 use Rattle.stack.specs.Row.{goodRow, noBoard, placeOf, boardAt}
 
 -- refusals 1, 2, 3, 4, 5 in order
@@ -24,16 +21,3 @@ sampleAnswer row n x mv = answerSaying (judged (sampleRowBars row n x mv) (sampl
 
 unfoldable pub sampleRow : List Board → ℕ → Readings → List ℕ → List Board
 sampleRow row n x mv = kept (sampleRowBars row n x mv) row (set row (placeOf n) (boardNext (boardAt row (placeOf n)) x mv))
-
--- ---- the same on the way: by the record at its place, in a row that was found good
-abbrev pub noSample : Answer
-noSample = Refused (numbered 2)
-
-abbrev pub noRowSample : Answer
-noRowSample = Refused (numbered 1)
-
-unfoldable pub sampleAnswerAt : List Board → ℕ → Readings → List ℕ → Answer
-sampleAnswerAt row n x mv = cond (ltb (placeOf n) (length row)) (sampleOf (boardAt row (placeOf n)) x mv .answer) noSample
-
-unfoldable pub sampleRowAt : List Board → ℕ → Readings → List ℕ → List Board
-sampleRowAt row n x mv = cond (ltb (placeOf n) (length row)) (set row (placeOf n) (sampleOf (boardAt row (placeOf n)) x mv .board)) row

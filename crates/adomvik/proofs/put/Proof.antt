@@ -1,6 +1,6 @@
 use borrow.Author.Needs.{needs}
 use borrow.Author.Tests.{lt-ltb, le-ltb}
-use Rattle.adomvik.specs.Open.{putOf}
+use Rattle.adomvik.specs.Way.{putOf}
 use Rattle.adomvik.proofs.put.Statement.{statement}
 use Rattle.adomvik.proofs.put.Tie as tie
 

@@ -7,7 +7,7 @@ use denote.Builtin.{u32}
 use denote.Ref.{now}
 use Rattle.board.specs.Sample.{fresh}
 use Rattle.adomvik.specs.declared.Progress.{Progress}
-use Rattle.adomvik.specs.Open.{refusedFill, putOf}
+use Rattle.adomvik.specs.Way.{refusedFill, putOf}
 use Rattle.adomvik.proofs.Fills.{put-inside, put-past}
 use Rattle.board.proofs.Board as Boards
 use Rattle.adomvik.proofs.Progress as State

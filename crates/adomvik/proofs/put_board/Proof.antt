@@ -1,7 +1,7 @@
 -- `adomvik::put_board` meets its contract, by Beside.
 -- Assumes nothing.
 use denote.Builtin.{u32}
-use Rattle.adomvik.specs.Open.{putOf}
+use Rattle.adomvik.specs.Way.{putOf}
 use Rattle.board.proofs.Board as Board
 use Rattle.adomvik.proofs.Progress as Progress
 use Rattle.adomvik.proofs.Placed as Placed

@@ -1,6 +1,6 @@
 use borrow.Author.Needs.{needs}
 use borrow.Author.Tests.{eq-eqb, ne-eqb}
-use Rattle.adomvik.specs.Open.{startOf}
+use Rattle.adomvik.specs.Way.{startOf}
 use Rattle.adomvik.proofs.start.Statement.{statement}
 use Rattle.adomvik.proofs.start.Tie as tie
 

@@ -5,7 +5,7 @@ use mathlib.Core.Path.{sym, _∙_}
 use borrow.Author.Tests.{eq-eqb, ne-eqb}
 use borrow.Author.Needs.{needs}
 use Rattle.marks.specs.Marks.{marks}
-use Rattle.reading.specs.Reading.{up}
+use Rattle.reading.specs.Way.{up}
 use Rattle.reading.proofs.Turns.{up-none, up-next}
 use borrow.Fn.Kinds.{In}
 use borrow.Fn.PlainCycle.{Measures, is, falls, and}

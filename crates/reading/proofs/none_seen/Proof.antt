@@ -1,7 +1,7 @@
 use mathlib.Core.Path.{refl}
 use Rattle.lists.specs.Every.{every}
 use Rattle.marks.specs.Marks.{number}
-use Rattle.reading.specs.Reading.{someFlag, seenOf}
+use Rattle.reading.specs.Way.{someFlag, seenOf}
 use Rattle.reading.proofs.none_seen.Statement.{statement}
 use Rattle.reading.proofs.none_seen.Tie as tie
 

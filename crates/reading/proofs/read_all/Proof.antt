@@ -1,7 +1,7 @@
 -- `read_all`: the line by its own function.
 -- Assumes nothing.
 use borrow.Author.Needs.{needs}
-use Rattle.reading.specs.Reading.{wholeOf}
+use Rattle.reading.specs.Way.{wholeOf}
 use Rattle.reading.proofs.read_all.Statement.{statement}
 use Rattle.reading.proofs.read_all.Tie as tie
 

@@ -1,6 +1,6 @@
 use borrow.Author.Tests.{le-leb, lt-leb}
 use borrow.Author.Needs.{needs}
-use Rattle.reading.specs.Reading.{seenWith}
+use Rattle.reading.specs.Way.{seenWith}
 use Rattle.reading.proofs.see.Statement.{statement}
 use Rattle.reading.proofs.see.Tie as tie
 

@@ -15,7 +15,7 @@ use Rattle.frame.specs.declared.Reply.{Reply}
 use Rattle.frame.specs.declared.Reply.the-variants.{Refused}
 use Rattle.frame.specs.Frame.{takenApart, isRefused, requestOf, whyOf}
 use Rattle.frame.specs.Reply.{replyOf, putOf}
-use Rattle.stack.specs.Frame.{obeyOutcomeAt, obeyRowAt, takenAnswer, takenRow, takenBuffer, frameAnswerIn, frameRowIn, frameBufferIn}
+use Rattle.stack.specs.Way.{obeyOutcomeAt, obeyRowAt, takenAnswer, takenRow, takenBuffer, frameAnswerIn, frameRowIn, frameBufferIn}
 use Rattle.board.proofs.Board as Boards
 use Rattle.frame.proofs.Taken as Takens
 use Rattle.frame.proofs.Request as Requests

@@ -4,7 +4,8 @@ use denote.Builtin.{u8}
 use denote.Ref.{now}
 use Rattle.walks.proofs.Walk.{is-true, is-false, follows-two}
 use Rattle.stack.specs.Row.{goodRow}
-use Rattle.stack.specs.Frame.{noRowReply, frameAnswerIn, frameRowIn, frameBufferIn, frameAnswer, frameRow, frameBuffer}
+use Rattle.stack.specs.Frame.{frameAnswer, frameRow, frameBuffer}
+use Rattle.stack.specs.Way.{noRowReply, frameAnswerIn, frameRowIn, frameBufferIn}
 use Rattle.stack.proofs.Ways.{frame-good, frame-bad}
 use Rattle.board.proofs.Board as Boards
 use Rattle.frame.proofs.Reply as Replies

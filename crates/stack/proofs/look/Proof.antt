@@ -9,7 +9,7 @@ use Rattle.board.specs.declared.Board.{Board}
 use Rattle.reading.specs.declared.Place.{Place as Cell}
 use Rattle.reading.specs.declared.Seen.{Seen as Gathered}
 use Rattle.reading.specs.Reading.{place}
-use Rattle.stack.specs.Read.{seenRow, firstFrom, viewOf, lookOf}
+use Rattle.stack.specs.Way.{seenRow, firstFrom, viewOf, lookOf}
 use Rattle.board.proofs.Board as Boards
 use Rattle.reading.proofs.Place as Place
 use Rattle.reading.proofs.Seen as Seen

@@ -11,7 +11,7 @@ use Rattle.frame.specs.declared.Request.{Request}
 use Rattle.board.specs.Sample.{fresh}
 use Rattle.registers.specs.Registers.{obeyedOf}
 use Rattle.stack.specs.Row.{boardAt}
-use Rattle.stack.specs.Frame.{askedPlace, noOutcome, obeyOutcomeAt, obeyRowAt}
+use Rattle.stack.specs.Way.{askedPlace, noOutcome, obeyOutcomeAt, obeyRowAt}
 use Rattle.board.proofs.Board as Boards
 use Rattle.frame.proofs.Request as Requests
 use Rattle.frame.proofs.Outcome as Outcome

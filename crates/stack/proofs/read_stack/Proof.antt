@@ -4,7 +4,8 @@ use mathlib.Core.Path.{_≡_, _∙_}
 use Rattle.walks.proofs.Walk.{is-true, is-false}
 use denote.Ref.{now}
 use Rattle.stack.specs.Row.{goodRow}
-use Rattle.stack.specs.Read.{noRowView, lookOf, readingOf}
+use Rattle.stack.specs.Read.{readingOf}
+use Rattle.stack.specs.Way.{noRowView, lookOf}
 use Rattle.stack.proofs.Scanned.{read-good, read-bad}
 use Rattle.board.proofs.Board as Boards
 use Rattle.stack.proofs.View as View

@@ -11,7 +11,7 @@ use Rattle.board.specs.declared.Board.{Board}
 use Rattle.board.specs.declared.Readings.{Readings}
 use Rattle.board.specs.Sample.{fresh, sampleOf}
 use Rattle.stack.specs.Row.{placeOf, boardAt}
-use Rattle.stack.specs.Sample.{noSample, sampleAnswerAt, sampleRowAt}
+use Rattle.stack.specs.Way.{noSample, sampleAnswerAt, sampleRowAt}
 use Rattle.board.proofs.Board as Boards
 use Rattle.board.proofs.Readings as Read
 use Rattle.board.proofs.Answer as Answer

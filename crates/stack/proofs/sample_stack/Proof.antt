@@ -4,7 +4,8 @@ use denote.Builtin.{u32}
 use denote.Ref.{now}
 use Rattle.walks.proofs.Walk.{is-true, is-false, follows}
 use Rattle.stack.specs.Row.{goodRow}
-use Rattle.stack.specs.Sample.{noRowSample, sampleAnswerAt, sampleRowAt, sampleAnswer, sampleRow}
+use Rattle.stack.specs.Sample.{sampleAnswer, sampleRow}
+use Rattle.stack.specs.Way.{noRowSample, sampleAnswerAt, sampleRowAt}
 use Rattle.stack.proofs.Ways.{sample-good, sample-bad}
 use Rattle.board.proofs.Board as Boards
 use Rattle.board.proofs.Readings as Read

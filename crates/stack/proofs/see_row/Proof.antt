@@ -2,8 +2,8 @@
 -- Assumes nothing.
 use mathlib.Core.List.{[]}
 use Rattle.board.specs.Sample.{fresh}
-use Rattle.reading.specs.Reading.{seenOf, seenWith}
-use Rattle.stack.specs.Read.{seenRow}
+use Rattle.reading.specs.Way.{seenOf, seenWith}
+use Rattle.stack.specs.Way.{seenRow}
 use Rattle.stack.proofs.Scanned.{row-folds}
 use Rattle.board.proofs.Board as Boards
 use Rattle.reading.proofs.Seen as Seen

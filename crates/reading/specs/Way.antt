@@ -1,0 +1,52 @@
+-- On the way to a whole-stack reading: what a walk over the boards keeps of them, and the reading from that. That it is the paper's is shown in
+-- proofs/Turns.antt; nobody need believe it.
+-- Assumes nothing.
+use Prim.Native.Nat.{ℕ, _+_, _^_}
+use mathlib.Core.Bool.{Bool, false, cond, not, _&&_, _||_}
+use mathlib.Core.List.{List, [], _∷_, map}
+use lib.Bits.{bitOr}
+use lib.Dec.{leb, eqb}
+use lib.ListN.{length}
+use Rattle.lists.specs.Every.{every}
+use Rattle.marks.specs.Marks.{number, marks}
+use Rattle.board.specs.declared.Board.{Board}
+use Rattle.reading.specs.declared.Summary.{Summary}
+use Rattle.reading.specs.declared.Place.{Place}
+use Rattle.reading.specs.declared.Seen.{Seen}
+use Rattle.reading.specs.declared.Whole.{Whole}
+use Rattle.reading.specs.Reading.{summaryOf, chgOn, dsgOn}
+
+-- ---- the line of the latches alone, board 1's first
+abbrev pub latchedOf : List Summary → List Bool
+latchedOf boards = map (λ board. board .latched) boards
+
+unfoldable pub up : List Bool → Bool
+up [] = false
+up (latched ∷ north) = latched || up north
+
+-- ---- what a walk over the boards keeps of them, southernmost first
+unfoldable pub someFlag : List Summary → Bool
+someFlag [] = false
+someFlag (board ∷ north) = not (eqb (board .flags) 0) || someFlag north
+
+unfoldable pub seenOf : List Summary → Seen
+seenOf boards =
+    record { count = length boards; latched = number (latchedOf boards); chg = every chgOn boards; dsg = every dsgOn boards; flagged = someFlag boards }
+
+-- the same with one more board north of all, at its place
+abbrev pub withBoard : ℕ → ℕ → Bool → ℕ
+withBoard set at is = cond is (bitOr set (2 ^ at)) set
+
+unfoldable pub seenWith : Seen → ℕ → Board → Seen
+seenWith seen at b =
+    cond (leb 16 at) seen (record {
+      count = at + 1;
+      latched = withBoard (seen .latched) at (summaryOf b .latched);
+      chg = seen .chg && summaryOf b .chg;
+      dsg = seen .dsg && summaryOf b .dsg;
+      flagged = seen .flagged || not (eqb (summaryOf b .flags) 0);
+    })
+
+-- ---- the reading from what was kept and the flagged cell
+unfoldable pub wholeOf : Seen → Place → Whole
+wholeOf seen flagged = record { line = up (marks (seen .count) (seen .latched)); chg = seen .chg; dsg = seen .dsg; flagged = flagged }

@@ -1,0 +1,110 @@
+-- On the way to an act on a row: by the record at its place, by the frame taken apart, by what a walk over the row keeps. That these
+-- come to the acts is shown in proofs/Ways.antt and proofs/Scanned.antt; nobody need believe them.
+-- Assumes nothing.
+use Prim.Native.Nat.{ℕ, zero, suc, _+_}
+use mathlib.Core.Bool.{cond}
+use mathlib.Core.List.{List, [], _∷_, map}
+use lib.Dec.{ltb, leb}
+use lib.ListN.{length, set, take}
+use Rattle.refusal.specs.Refusals.{numbered}
+use Rattle.marks.specs.Marks.{marked}
+use Rattle.board.specs.declared.Board.{Board}
+use Rattle.board.specs.declared.Readings.{Readings}
+use Rattle.board.specs.declared.Answer.{Answer}
+use Rattle.board.specs.declared.Answer.the-variants as answer
+use Rattle.board.specs.Sample.{sampleOf}
+use Rattle.frame.specs.declared.Taken.{Taken}
+use Rattle.frame.specs.declared.Request.{Request}
+use Rattle.frame.specs.declared.Reply.{Reply}
+use Rattle.frame.specs.declared.Reply.the-variants as reply
+use Rattle.frame.specs.declared.Outcome.{Outcome}
+use Rattle.frame.specs.Frame.{boardOf, takenApart, isRefused, requestOf, whyOf}
+use Rattle.frame.specs.Reply.{replyOf, putOf}
+use Rattle.registers.specs.Registers.{obeyedOf}
+use Rattle.registers.specs.Way.{denies}
+use Rattle.reading.specs.declared.Place.{Place}
+use Rattle.reading.specs.declared.Seen.{Seen}
+use Rattle.reading.specs.Reading.{summaryOf, place}
+use Rattle.reading.specs.Way.{seenOf, wholeOf}
+use Rattle.stack.specs.declared.View.{View}
+use Rattle.stack.specs.declared.View.the-variants as view
+use Rattle.stack.specs.Row.{placeOf, boardAt}
+
+-- ---- by the record at its place, in a row that was found good
+abbrev pub noSample : Answer
+noSample = answer.Refused (numbered 2)
+
+abbrev pub noRowSample : Answer
+noRowSample = answer.Refused (numbered 1)
+
+unfoldable pub sampleAnswerAt : List Board → ℕ → Readings → List ℕ → Answer
+sampleAnswerAt row n x mv = cond (ltb (placeOf n) (length row)) (sampleOf (boardAt row (placeOf n)) x mv .answer) noSample
+
+unfoldable pub sampleRowAt : List Board → ℕ → Readings → List ℕ → List Board
+sampleRowAt row n x mv = cond (ltb (placeOf n) (length row)) (set row (placeOf n) (sampleOf (boardAt row (placeOf n)) x mv .board)) row
+
+-- ---- by the frame taken apart, in a row that was found good
+abbrev pub noOutcome : Outcome
+noOutcome = denies (numbered 2)
+
+abbrev pub noRowReply : Reply
+noRowReply = reply.Refused (numbered 1)
+
+abbrev pub askedPlace : Request → ℕ
+askedPlace asked = placeOf (boardOf (asked .address))
+
+unfoldable pub obeyOutcomeAt : List Board → Request → Outcome
+obeyOutcomeAt row asked =
+    let at = askedPlace asked in
+    cond (ltb at (length row)) (obeyedOf (boardAt row at) asked .outcome) noOutcome
+
+unfoldable pub obeyRowAt : List Board → Request → List Board
+obeyRowAt row asked =
+    let at = askedPlace asked in
+    cond (ltb at (length row)) (set row at (obeyedOf (boardAt row at) asked .board)) row
+
+-- a frame that was refused as it stands is answered so; any other goes to its board
+abbrev pub takenAnswer : List Board → Taken → Reply
+takenAnswer row t = cond (isRefused t) (reply.Refused (whyOf t)) (replyOf t (obeyOutcomeAt row (requestOf t)))
+
+abbrev pub takenRow : List Board → Taken → List Board
+takenRow row t = cond (isRefused t) row (obeyRowAt row (requestOf t))
+
+abbrev pub takenBuffer : List Board → List ℕ → Taken → List ℕ
+takenBuffer row buffer t = cond (isRefused t) buffer (putOf buffer (replyOf t (obeyOutcomeAt row (requestOf t))))
+
+unfoldable pub frameAnswerIn : List Board → List ℕ → List ℕ → Reply
+frameAnswerIn row bytes buffer = takenAnswer row (takenApart bytes (length buffer))
+
+unfoldable pub frameRowIn : List Board → List ℕ → List ℕ → List Board
+frameRowIn row bytes buffer = takenRow row (takenApart bytes (length buffer))
+
+unfoldable pub frameBufferIn : List Board → List ℕ → List ℕ → List ℕ
+frameBufferIn row bytes buffer = takenBuffer row buffer (takenApart bytes (length buffer))
+
+-- ---- what a walk over the row keeps of it
+abbrev pub noRowView : View
+noRowView = view.Refused (numbered 1)
+
+-- a row has 16 boards at most
+unfoldable pub seenRow : List Board → Seen
+seenRow row = seenOf (take 16 (map summaryOf row))
+
+-- the search for a flagged cell, cell by cell and board by board; both are counted from 0 here
+abbrev pub placeAt : ℕ → ℕ → Place
+placeAt board cell = cond (leb 16 board) (place 0 0) (cond (leb 16 cell) (place 0 0) (place (board + 1) (cell + 1)))
+
+-- on the board at place i, from the cell at place j on, of which so many are left; or else further north
+unfoldable pub firstOn : Board → ℕ → ℕ → ℕ → Place → Place
+firstOn b i j zero north = north
+firstOn b i j (suc left) north = cond (marked (b .flags) j) (placeAt i j) (firstOn b i (j + 1) left north)
+
+unfoldable pub firstFrom : ℕ → List Board → Place
+firstFrom i [] = place 0 0
+firstFrom i (b ∷ north) = firstOn b i 0 (b .count) (firstFrom (i + 1) north)
+
+abbrev pub viewOf : Seen → Place → View
+viewOf seen flagged = view.Read (wholeOf seen flagged)
+
+unfoldable pub lookOf : List Board → View
+lookOf row = viewOf (seenRow row) (cond (seenRow row .flagged) (firstFrom 0 row) (place 0 0))
