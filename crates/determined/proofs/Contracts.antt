@@ -20,6 +20,9 @@ use Rattle.stack.specs.Sample.{sampleAnswer, sampleRow}
 use Rattle.stack.specs.Frame.{frameAnswer, frameRow, frameBuffer}
 use Rattle.stack.specs.declared.View.{View}
 use Rattle.stack.specs.Read.{readingOf}
+use Rattle.acts.specs.declared.Act.{Act}
+use Rattle.acts.specs.declared.Told.{Told}
+use Rattle.acts.specs.Acts.{actTold, actRow}
 use Rattle.adomvik.specs.declared.Sampled.{Sampled}
 use Rattle.adomvik.specs.declared.Reading.{Reading}
 use Rattle.adomvik.specs.Open.{openNumber, openRow}
@@ -68,10 +71,15 @@ use Rattle.reading.proofs.read_all.Reads as reading-read-all
 use Rattle.stack.proofs.open_stack.Reads as stack-open-stack
 use Rattle.stack.proofs.bad_count.Reads as stack-bad-count
 use Rattle.stack.proofs.good_counts.Reads as stack-good-counts
+use Rattle.held.proofs.row_count.Reads as held-row-count
 use Rattle.held.proofs.sample_held.Reads as held-sample-held
 use Rattle.held.proofs.read_held.Reads as held-read-held
+use Rattle.acts.proofs.sample_act.Reads as acts-sample-act
+use Rattle.acts.proofs.frame_act.Reads as acts-frame-act
+use Rattle.acts.proofs.reading_act.Reads as acts-reading-act
+use Rattle.acts.proofs.opening_told.Reads as acts-opening-told
 use Rattle.lines.proofs.line_at.Reads as lines-line-at
-use Rattle.lines.proofs.line_of.Reads as lines-line-of
+use Rattle.lines.proofs.end_line.Reads as lines-end-line
 use Rattle.lines.proofs.new_cutter.Reads as lines-new-cutter
 use Rattle.lines.proofs.emptied.Reads as lines-emptied
 use Rattle.lines.proofs.kept_len.Reads as lines-kept-len
@@ -236,18 +244,31 @@ pub stack-good-counts-one : (κs : _) (a : _) (r t : _) (s u : _) → stack-good
 stack-good-counts-one κs a r t s u = agree
 
 -- ---- held
+pub held-row-count-one : (κs : _) (a : _) (r t : _) (s u : _) → held-row-count.Learnt κs a r s → held-row-count.Learnt κs a t u → r ≡ t
+held-row-count-one κs a r t s u = agree
+
 pub held-sample-held-one : (κs : _) (a : _) (r t : _) (s u : _) → held-sample-held.Learnt κs a r s → held-sample-held.Learnt κs a t u → r ≡ t
 held-sample-held-one κs a r t s u = agree
 
 pub held-read-held-one : (κs : _) (a : _) (r t : _) (s u : _) → held-read-held.Learnt κs a r s → held-read-held.Learnt κs a t u → r ≡ t
 held-read-held-one κs a r t s u = agree
 
+-- ---- acts
+pub acts-sample-act-one : (κs : _) (a : _) (r t : _) (s u : _) → acts-sample-act.Learnt κs a r s → acts-sample-act.Learnt κs a t u → r ≡ t
+acts-sample-act-one κs a r t s u = agree
+
+pub acts-frame-act-one : (κs : _) (a : _) (r t : _) (s u : _) → acts-frame-act.Learnt κs a r s → acts-frame-act.Learnt κs a t u → r ≡ t
+acts-frame-act-one κs a r t s u = agree
+
+pub acts-reading-act-one : (κs : _) (a : _) (r t : _) (s u : _) → acts-reading-act.Learnt κs a r s → acts-reading-act.Learnt κs a t u → r ≡ t
+acts-reading-act-one κs a r t s u = agree
+
+pub acts-opening-told-one : (κs : _) (a : _) (r t : _) (s u : _) → acts-opening-told.Learnt κs a r s → acts-opening-told.Learnt κs a t u → r ≡ t
+acts-opening-told-one κs a r t s u = agree
+
 -- ---- lines
 pub lines-line-at-one : (κs : _) (a : _) (r t : _) (s u : _) → lines-line-at.Learnt κs a r s → lines-line-at.Learnt κs a t u → r ≡ t
 lines-line-at-one κs a r t s u = agree
-
-pub lines-line-of-one : (κs : _) (a : _) (r t : _) (s u : _) → lines-line-of.Learnt κs a r s → lines-line-of.Learnt κs a t u → r ≡ t
-lines-line-of-one κs a r t s u = agree
 
 -- ---- lines out of blocks
 pub lines-new-cutter-one : (κs : _) (a : _) (r t : _) (s u : _) → lines-new-cutter.Learnt κs a r s → lines-new-cutter.Learnt κs a t u → r ≡ t
@@ -259,6 +280,9 @@ lines-emptied-one κs a r t s u = agree
 pub lines-kept-len-one : (κs : _) (a : _) (r t : _) (s u : _) → lines-kept-len.Learnt κs a r s → lines-kept-len.Learnt κs a t u → r ≡ t
 lines-kept-len-one κs a r t s u = agree
 
+pub lines-end-line-one : (κs : _) (a : _) (r t : _) (s u : _) → lines-end-line.Learnt κs a r s → lines-end-line.Learnt κs a t u → r ≡ t
+lines-end-line-one κs a r t s u = agree
+
 pub lines-line-end-one : (κs : _) (a : _) (r t : _) (s u : _) → lines-line-end.Learnt κs a r s → lines-line-end.Learnt κs a t u → r ≡ t
 lines-line-end-one κs a r t s u = agree
 
@@ -266,7 +290,7 @@ pub lines-keep-one : (κs : _) (a : _) (r t : _) (s u : _) → lines-keep.Learnt
 lines-keep-one κs a r t s u p q = agree (p .whole) (q .whole)
 
 pub text-put-told-one : (κs : _) (a : _) (r t : _) (s u : _) → text-put-told.Learnt κs a r s → text-put-told.Learnt κs a t u → r ≡ t
-text-put-told-one κs a r t s u p q = agree (p .line .after) (q .line .after)
+text-put-told-one κs a r t s u p q = agree (p .after) (q .after)
 
 pub held-frame-held-one : (κs : _) (a : _) (r t : _) (s u : _) → held-frame-held.Learnt κs a r s → held-frame-held.Learnt κs a t u → r ≡ t
 held-frame-held-one κs a r t s u p q = agree (p .0) (q .0)
@@ -287,6 +311,9 @@ registers-obey-board-two b asked = two (obeyedOf b asked .outcome) (obeyedOf b a
 -- the answer, and the row
 pub stack-sample-stack-two : (row : List Board) (n : ℕ) (x : Readings) (mv : List ℕ) → Determined (λ (o : Answer × List Board). (o .0 ≡ sampleAnswer row n x mv) × (o .1 ≡ sampleRow row n x mv))
 stack-sample-stack-two row n x mv = two (sampleAnswer row n x mv) (sampleRow row n x mv)
+
+pub acts-act-row-two : (row : List Board) (a : Act) → Determined (λ (o : Told × List Board). (o .0 ≡ actTold row a) × (o .1 ≡ actRow row a))
+acts-act-row-two row a = two (actTold row a) (actRow row a)
 
 -- the answer, the row and the buffer
 pub stack-frame-stack-three : (row : List Board) (bytes buffer : List ℕ)

@@ -5,14 +5,10 @@ use mathlib.Core.Bool.{cond}
 use mathlib.Core.List.{List, _++_}
 use lib.Dec.{ltb}
 use lib.ListN.{take, drop}
-use Rattle.refusal.specs.Refusals.{numbered}
 use Rattle.board.specs.declared.Board.{Board}
 use Rattle.board.specs.declared.Readings.{Readings}
-use Rattle.board.specs.declared.Answer.the-variants as answer
-use Rattle.frame.specs.declared.Reply.the-variants as reply
 use Rattle.stack.specs.declared.Stack.{Stack}
 use Rattle.stack.specs.declared.View.{View}
-use Rattle.stack.specs.declared.View.the-variants as view
 use Rattle.stack.specs.Sample.{sampleAnswer, sampleRow}
 use Rattle.stack.specs.Frame.{frameAnswer, frameRow, frameBuffer}
 use Rattle.stack.specs.Read.{readingOf}
@@ -21,31 +17,29 @@ use Rattle.held.specs.declared.FramedRow.{FramedRow}
 use Rattle.held.specs.declared.SampledStack.{SampledStack}
 use Rattle.held.specs.declared.FramedStack.{FramedStack}
 
+-- how many records are the row; of a stack that says it has more than 16 boards none, so that every act gets 1
+unfoldable pub rowCount : Stack → ℕ
+rowCount s = cond (ltb 16 (s .count)) 0 (s .count)
+
 -- the row of a stack
 abbrev pub heldRow : Stack → List Board
-heldRow s = take (s .count) (s .boards)
+heldRow s = take (rowCount s) (s .boards)
 
 -- a stack with another row of the same length
 abbrev pub withRow : Stack → List Board → Stack
-withRow s row = record { boards = row ++ drop (s .count) (s .boards); count = s .count }
+withRow s row = record { boards = row ++ drop (rowCount s) (s .boards); count = s .count }
 
 unfoldable pub sampledOf : Stack → ℕ → Readings → List ℕ → SampledStack
-sampledOf s board x mv =
-    cond (ltb 16 (s .count))
-    (record { stack = s; answer = answer.Refused (numbered 1) })
-    (record { stack = withRow s (sampleRow (heldRow s) board x mv); answer = sampleAnswer (heldRow s) board x mv })
+sampledOf s board x mv = record { stack = withRow s (sampleRow (heldRow s) board x mv); answer = sampleAnswer (heldRow s) board x mv }
 
 unfoldable pub framedOf : Stack → List ℕ → List ℕ → FramedStack
-framedOf s bytes buffer =
-    cond (ltb 16 (s .count))
-    (record { stack = s; answer = reply.Refused (numbered 1) })
-    (record { stack = withRow s (frameRow (heldRow s) bytes buffer); answer = frameAnswer (heldRow s) bytes buffer })
+framedOf s bytes buffer = record { stack = withRow s (frameRow (heldRow s) bytes buffer); answer = frameAnswer (heldRow s) bytes buffer }
 
 unfoldable pub framedBuffer : Stack → List ℕ → List ℕ → List ℕ
-framedBuffer s bytes buffer = cond (ltb 16 (s .count)) buffer (frameBuffer (heldRow s) bytes buffer)
+framedBuffer s bytes buffer = frameBuffer (heldRow s) bytes buffer
 
 unfoldable pub readOf : Stack → View
-readOf s = cond (ltb 16 (s .count)) (view.Refused (numbered 1)) (readingOf (heldRow s))
+readOf s = readingOf (heldRow s)
 
 -- ---- the same of an array of records and how many of them are the row
 unfoldable pub sampledIn : List Board → ℕ → ℕ → Readings → List ℕ → SampledRow

@@ -1,12 +1,11 @@
 // A stack that a program holds by value: its row is lent to the public library for one act and comes back.
 ghost use mathlib.Core.Path.{_≡_};
 ghost use Prim.Native.Nat.{_≤_};
-ghost use Rattle.held.specs.Held.{sampledIn, framedIn, framedReply, readIn, sampledOf, framedOf, framedBuffer, readOf};
+ghost use Rattle.held.specs.Held.{rowCount, sampledIn, framedIn, framedReply, readIn, sampledOf, framedOf, framedBuffer, readOf};
 use board::Answer;
 use board::Board;
 use board::Readings;
 use frame::Reply;
-use refusal::Refusal;
 use stack::Stack;
 use stack::View;
 
@@ -28,6 +27,17 @@ pub struct SampledStack {
 pub struct FramedStack {
     pub stack: Stack,
     pub answer: Reply,
+}
+
+// How many records are the row. One of more than 16 boards is no row: then none are, and every act is refused with 1.
+pub fn row_count(s: Stack) -> usize
+    ensures { λ r. ⌜ r ≡ rowCount s ⌝ }
+{
+    let n = s.count;
+    if 16 < n {
+        return 0;
+    }
+    n
 }
 
 // The first n records are lent as the row; so below.
@@ -62,17 +72,11 @@ fn read_in(boards: [Board; 16], n: usize) -> View
     stack::read_stack(&boards[..n])
 }
 
-// A sample of a stack; one that says it has more than 16 boards is a bad row.
+// A sample of a stack.
 pub fn sample_held(s: Stack, board: u32, x: Readings, mv: &[u32]) -> SampledStack
     ensures { λ r. ⌜ r ≡ sampledOf s board x (now (mv .entry)) ⌝ }
 {
-    let n = s.count;
-    if 16 < n {
-        return SampledStack {
-            stack: s,
-            answer: Answer::Refused(Refusal::BadRow),
-        };
-    }
+    let n = row_count(s);
     let boards = s.boards;
     let r = sample_in(boards, n, board, x, mv);
     let after = r.boards;
@@ -89,13 +93,7 @@ pub fn sample_held(s: Stack, board: u32, x: Readings, mv: &[u32]) -> SampledStac
 pub fn frame_held(s: Stack, bytes: &[u8], reply: &mut [u8]) -> FramedStack
     ensures { λ r. ⌜ (r ≡ framedOf s (now (bytes .entry)) (now (reply .entry))) × (now (reply .exit) ≡ framedBuffer s (now (bytes .entry)) (now (reply .entry))) ⌝ }
 {
-    let n = s.count;
-    if 16 < n {
-        return FramedStack {
-            stack: s,
-            answer: Reply::Refused(Refusal::BadRow),
-        };
-    }
+    let n = row_count(s);
     let boards = s.boards;
     let r = frame_in(boards, n, bytes, reply);
     let after = r.boards;
@@ -112,10 +110,7 @@ pub fn frame_held(s: Stack, bytes: &[u8], reply: &mut [u8]) -> FramedStack
 pub fn read_held(s: Stack) -> View
     ensures { λ r. ⌜ r ≡ readOf s ⌝ }
 {
-    let n = s.count;
-    if 16 < n {
-        return View::Refused(Refusal::BadRow);
-    }
+    let n = row_count(s);
     let boards = s.boards;
     read_in(boards, n)
 }

@@ -4,8 +4,8 @@ ghost use mathlib.Core.Path.{_≡_};
 ghost use Prim.Native.Nat.{_+_, _≤_};
 ghost use lib.ListN.{getD, length, drop};
 ghost use Rattle.lines.specs.Lines.{upTo};
-ghost use Rattle.lines.specs.Kept.{held, nothing, emptiedOf, byteKept, Kept};
-ghost use Rattle.lines.specs.Line.{isDigit, letter, rulesOf, blank, malformed, lineOf};
+ghost use Rattle.lines.specs.Kept.{held, nothing, emptiedOf, byteKept, Kept, oneLine, lineEnded};
+ghost use Rattle.lines.specs.Line.{isDigit, letter, rulesOf, blank, malformed};
 ghost use Rattle.lines.specs.Field.{restAt, endAt, digitsFrom, numberAt, fieldAt, foundAt};
 
 pub enum Kind {
@@ -43,9 +43,10 @@ enum Field {
     Bad,
 }
 
-// The first bytes of a line that has not ended. A line is at most 200 bytes long, so 201 are enough to know one that is too long.
+// The first bytes of a line that has not ended. A line is at most 200 bytes long, so 201 are enough to know one that is too long;
+// one place more is for its newline.
 pub struct Cutter {
-    pub bytes: [u8; 201],
+    pub bytes: [u8; 202],
     pub len: usize,
 }
 
@@ -268,24 +269,13 @@ pub fn line_at(s: &[u8], start: usize) -> Found
     }
 }
 
-// What all the bytes say as one line; with a newline among them they are none.
-pub fn line_of(s: &[u8]) -> Line
-    ensures { λ r. ⌜ r ≡ lineOf (now (s .entry)) ⌝ }
-{
-    let found = line_at(s, 0);
-    if found.end < s.len() {
-        return malformed_line();
-    }
-    found.line
-}
-
 // ---- lines out of blocks
 
 pub fn new_cutter() -> Cutter
     ensures { λ r. ⌜ r ≡ nothing ⌝ }
 {
     Cutter {
-        bytes: [0; 201],
+        bytes: [0; 202],
         len: 0,
     }
 }
@@ -331,7 +321,35 @@ pub fn kept_len(c: Cutter) -> usize
 {
     let bytes = c.bytes;
     let len = c.len;
-    if len < bytes.len() { len } else { bytes.len() }
+    if len < bytes.len() {
+        len
+    } else {
+        bytes.len() - 1
+    }
+}
+
+// How many of them make a line: none where a newline is among them, since such bytes are no line, and no more is an empty one.
+fn one_len(c: Cutter) -> usize
+    ensures { λ r. ⌜ r ≡ length (oneLine c) ⌝ }
+{
+    let bytes = c.bytes;
+    let len = kept_len(c);
+    if line_end(&bytes[..len], 0) < len {
+        0
+    } else {
+        len
+    }
+}
+
+// What is kept as a block of one line, with the newline that ends it.
+pub fn end_line(c: Cutter) -> Cutter
+    ensures { λ r. ⌜ r ≡ lineEnded c ⌝ }
+{
+    let len = one_len(c);
+    let mut next = c;
+    next.bytes[len] = 10;
+    next.len = len + 1;
+    next
 }
 
 // The place of the first newline from at on, or the end.

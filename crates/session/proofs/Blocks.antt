@@ -20,7 +20,7 @@ use Rattle.session.proofs.Lasts.{finished}
 pub data Session : Cutter → Stack → List (List ℕ) → List ℕ → Cutter → Stack → Type 0 where
   stop : {c : Cutter} {s : Stack} → Session c s [] [] c s
   more : {c c′ c″ : Cutter} {s s′ s″ : Stack} {part old new text : List ℕ} {parts : List (List ℕ)} {w : ℕ}
-      → Fold c s part old new c′ s′ w → Session c′ s′ parts text c″ s″ → Session c s (part ∷ parts) (take w new ++ text) c″ s″
+      → Fold (held c) s part 0 old new (held c′) s′ w → Session c′ s′ parts text c″ s″ → Session c s (part ∷ parts) (take w new ++ text) c″ s″
 
 -- what it leaves, and what it wrote, by its parts
 record Done (c : Cutter) (s : Stack) (parts : List (List ℕ)) (text : List ℕ) (c′ : Cutter) (s′ : Stack) : Type 0 where

@@ -1,89 +1,63 @@
--- Feeding nothing, one line more, and a block's rest.
+-- Feeding a line's beginning, a line, and one part after another.
 -- Assumes nothing.
-use Prim.Native.Nat.{ℕ, _+_, _<_, _≤_}
+use Prim.Native.Nat.{ℕ, _+_, _≤_}
 use native.Mathlib.Omega.{arith}
-use mathlib.Core.Path.{_≡_, refl, sym, ap, _∙_}
-use mathlib.Core.Logic.{_⊎_}
+use native.Mathlib.Nat.{add-zero}
+use mathlib.Core.Path.{_≡_, refl, sym}
 use mathlib.Core.List.{List, [], _∷_, _++_, append-nil}
-use lib.ListN.{length, take, drop}
-use lib.Seq.{take-all}
-use Rattle.lines.specs.declared.Line.{Line}
-use Rattle.lines.specs.Line.{lineOf}
-use Rattle.text.specs.Text.{textOf, Put, Printed}
-use Rattle.text.proofs.Puts.{put-then, put-same, placed-all}
+use lib.ListN.{length}
 use Rattle.stack.specs.declared.Stack.{Stack}
-use Rattle.lines.specs.declared.Cutter.{Cutter}
-use Rattle.lines.specs.Lines.{ended, left, upTo}
-use Rattle.lines.specs.Kept.{most, clip, held, emptiedOf}
-use Rattle.lines.proofs.Clips.{clip-append}
-use Rattle.lines.proofs.Pieces.{ended-none, left-none}
-use Rattle.lines.proofs.Ends.{part, ended-line, left-line, ended-rest, left-rest}
-use Rattle.lines.proofs.Keeping.{held-clip}
+use Rattle.text.specs.Text.{textOf, Put}
+use Rattle.text.proofs.Puts.{put-then, put-same}
+use Rattle.lines.specs.Lines.{before, ended, left, upTo}
+use Rattle.lines.specs.Kept.{clip}
+use Rattle.lines.proofs.Pieces.{ended-newline, left-newline}
+use Rattle.lines.proofs.Blocks.{ended-append, left-append}
+use Rattle.lines.proofs.Ends.{ended-free, left-free}
 use Rattle.session.specs.declared.Acted.{Acted}
-use Rattle.session.specs.Acts.{actOf}
 use Rattle.session.specs.Session.{stepOf, stackAfter, outputOf, Fold}
-use Rattle.session.proofs.Alike.{line-clip, stack-append, output-append}
+use Rattle.session.proofs.Alike.{stack-append, output-append}
 
--- nothing used and nothing written, or some byte used, for which there was room
-abbrev pub Begun : ℕ → ℕ → ℕ → Type 0
-Begun room at wrote = ((at ≡ 0) × (wrote ≡ 0)) ⊎ ((0 < at) × (32 ≤ room))
-
--- a block is fed up to at
-pub record Sofar (c : Cutter) (s : Stack) (block old new : List ℕ) (c′ : Cutter) (s′ : Stack) (at wrote : ℕ) : Type 0 where
-  pub within : at ≤ length block
-  pub fed : Fold c s (take at block) old new c′ s′ wrote
-  pub begun : Begun (length old) at wrote
-
-pub fold-none : (c : Cutter) (s : Stack) (old : List ℕ) → length (c .bytes) ≡ most → Fold c s [] old old c s 0
+-- bytes without a newline are kept behind what has begun
+pub fold-rest : (p t : List ℕ) (s : Stack) (from : ℕ) (old : List ℕ) → upTo t ≡ t → from ≤ length old → Fold p s t from old old (clip (p ++ t)) s from
 unfolding stackAfter outputOf
-fold-none c s old long =
+fold-rest p t s from old e h =
+    let none : ended p t ≡ [] = rw e at (ended-free p t) in
+    let all : left p t ≡ p ++ t = rw e at (left-free p t) in
+    record { keeps = rw all; stack = rw none; text = rw none (record { after = sym (add-zero from); whole = refl }); inside = h }
+
+-- nothing is fed
+pub fold-none : (p : List ℕ) (s : Stack) (from : ℕ) (old : List ℕ) → clip p ≡ p → from ≤ length old → Fold p s [] from old old p s from
+unfolding before
+fold-none p s from old e h = rw (append-nil p, e) at (fold-rest p [] s from old refl h)
+
+-- with a newline behind them they are a line, which is answered
+pub fold-line : (p t : List ℕ) (s : Stack) (from : ℕ) (old new : List ℕ) (wrote : ℕ) (acted : Acted) → acted ≡ stepOf s (p ++ upTo t) → Put from (textOf (acted .told)) old new wrote
+    → wrote ≤ length old → Fold p s (upTo t ++ (10 ∷ [])) from old new [] (acted .stack) wrote
+unfolding stackAfter outputOf clip
+fold-line p t s from old new wrote acted e put h =
+    let one : ended p (upTo t ++ (10 ∷ [])) ≡ (p ++ upTo t) ∷ [] = rw (ended-append p (upTo t) (10 ∷ []), ended-free p t, left-free p t, ended-newline) in
+    let none : left p (upTo t ++ (10 ∷ [])) ≡ [] = rw (left-append p (upTo t) (10 ∷ []), left-newline) in
+    record { keeps = rw none; stack = rw (one, e); text = rw (one, ← e, append-nil (textOf (acted .told))) put; inside = h }
+
+-- nothing kept of a line is nothing of it
+pub clip-none : (l : List ℕ) → [] ≡ clip l → l ≡ []
+unfolding clip
+clip-none [] e = refl
+clip-none (b ∷ l) e = let z : _≡_ {A = ℕ} 0 1 = cc in absurd (omega arith)
+
+-- one part and then another, where no line is open between them
+pub fold-then : {p a b old mid new kept : List ℕ} {s s′ s″ : Stack} {from w w′ : ℕ} → Fold p s a from old mid [] s′ w → Fold [] s′ b w mid new kept s″ w′ → Fold p s (a ++ b) from old new kept s″ w′
+fold-then {p} {a} {b} {s = s} f g =
+    let none : left p a ≡ [] = clip-none (left p a) (f .keeps) in
+    let lines : ended p (a ++ b) ≡ ended p a ++ ended [] b = rw (ended-append p a b, none) in
     record {
-      keeps = rw (left-none (held c)) (sym (held-clip c long));
-      stack = rw (ended-none (held c));
-      text = rw (ended-none (held c)) (record { after = refl; whole = refl });
-      inside = omega arith;
+      keeps = rw (left-append p a b, none) (g .keeps);
+      stack = rw (lines, stack-append s (ended p a) (ended [] b), ← (f .stack)) (g .stack);
+      text = rw (lines, output-append s (ended p a) (ended [] b), ← (f .stack)) (put-then (f .text) (g .text));
+      inside = omega (arith, g .inside, put-same (f .text));
     }
 
-pub emptied-holds : (c c′ : Cutter) → c′ ≡ emptiedOf c → held c′ ≡ []
-unfolding held emptiedOf
-emptied-holds c c′ e = rw e
-
--- a block is fed up to at, and the next line ends at e
-module _ (c : Cutter) (s : Stack) (block old : List ℕ) (at : ℕ) (mid : List ℕ) (c′ : Cutter) (s′ : Stack) (w : ℕ) (f : Fold c s (take at block) old mid c′ s′ w) (e : ℕ) (end : e ≡ at + length (upTo (drop at block))) where
-  -- within the block: it is answered, and its newline used
-  pub fold-line : (line : Line) (acted : Acted) (new : List ℕ) (c″ : Cutter) (w′ : ℕ) → e < length block → line ≡ lineOf (held c′ ++ part at e block)
-      → acted ≡ actOf s′ line → Printed (acted .told) w mid new w′ → length mid ≡ length old → w + 32 ≤ length mid → held c″ ≡ []
-      → Fold c s (take (e + 1) block) old new c″ (acted .stack) w′
-  unfolding stackAfter outputOf clip
-  fold-line line acted new c″ w′ l p q t same room empty =
-      let before = left (held c) (take at block) in
-      let lines = ended (held c) (take at block) in
-      let read : line ≡ lineOf (before ++ part at e block) =
-      p ∙ sym (line-clip (held c′ ++ part at e block)) ∙ ap lineOf (rw (f .keeps) (clip-append before (part at e block))) ∙ line-clip (before ++ part at e block) in
-      let done : acted ≡ stepOf (stackAfter s lines) (before ++ part at e block) = q ∙ rw (read, f .stack) in
-      let put : Put w (textOf (acted .told)) mid new w′ = rw (placed-all (length mid) w (acted .told) room) at (t .line) in
-      record {
-        keeps = rw (left-line (held c) block at e end l) empty;
-        stack = rw (ended-line (held c) block at e end l, stack-append s lines ((before ++ part at e block) ∷ []), done);
-        text =
-            rw (ended-line (held c) block at e end l, output-append s lines ((before ++ part at e block) ∷ []), ← done, append-nil (textOf (acted .told)))
-            (put-then (f .text) put);
-        inside = omega (arith, t .inside (omega arith));
-      }
-
-  -- past its end: the rest is kept
-  pub fold-rest : (kept : Cutter) → length block ≤ e → held kept ≡ clip (held c′ ++ part at (length block) block)
-      → Fold c s (take (length block) block) old mid kept s′ w
-  fold-rest kept l p =
-      let before = left (held c) (take at block) in
-      rw (take-all (length block) block (omega arith))
-      (record {
-        keeps = rw (left-rest (held c) block at e end l, p, f .keeps) (clip-append before (part at (length block) block));
-        stack = rw (ended-rest (held c) block at e end l) (f .stack);
-        text = rw (ended-rest (held c) block at e end l) (f .text);
-        inside = f .inside;
-      })
-
 -- what a caller reads off: what was written lies within the buffer
-pub fold-inside : {c c′ : Cutter} {s s′ : Stack} {bytes old new : List ℕ} {w : ℕ} → Fold c s bytes old new c′ s′ w → w ≤ length new
+pub fold-inside : {p bytes old new kept : List ℕ} {s s′ : Stack} {from w : ℕ} → Fold p s bytes from old new kept s′ w → w ≤ length new
 fold-inside f = omega (arith, put-same (f .text), f .inside)

@@ -11,11 +11,13 @@ use Rattle.text.proofs.Puts.{put-take}
 use Rattle.stack.specs.declared.Stack.{Stack}
 use Rattle.lines.specs.declared.Cutter.{Cutter}
 use Rattle.lines.specs.Lines.{ended, lastLine}
-use Rattle.lines.specs.Kept.{clip, held}
-use Rattle.lines.proofs.Pieces.{ended-none, left-none, ended-newline}
+use Rattle.lines.specs.Kept.{held}
+use Rattle.lines.proofs.Keeping.{held-clip}
+use Rattle.lines.proofs.Pieces.{ended-none, ended-newline}
 use Rattle.session.specs.declared.Fed.{Fed}
 use Rattle.session.specs.Session.{stackAfter, outputOf, Run, lacking}
 use Rattle.session.proofs.Alike.{none-held}
+use Rattle.session.proofs.Folds.{fold-none}
 
 pub lacking-none : (p : List ℕ) → length p ≡ 0 → lacking p ≡ []
 unfolding lacking
@@ -28,7 +30,6 @@ lacking-one (b ∷ p) h = refl
 
 -- nothing is fed where nothing is kept
 pub run-none : (c : Cutter) (s : Stack) (old : List ℕ) → length (held c) ≡ 0 → Run c s (lacking (held c)) old old (record { cutter = c; stack = s; used = 0; wrote = 0 })
-unfolding clip stackAfter outputOf
 run-none c s old e =
     rw (lacking-none (held c) e)
     (record {
@@ -36,7 +37,7 @@ run-none c s old e =
       goes = λ room some. some;
       idle = λ short. refl;
       stops = inl refl;
-      fed = record { keeps = rw (none-held (held c) e, left-none []); stack = rw (ended-none (held c)); text = rw (ended-none (held c)) (record { after = refl; whole = refl }); inside = omega arith };
+      fed = fold-none (held c) s 0 old (held-clip c) (omega arith);
     })
 
 -- the lines that end in what the last line lacks are the last line, if there is one

@@ -4,6 +4,8 @@ pub mod Folds
 pub mod While
 pub mod Rows
 pub mod Runs
+pub mod Kept
+pub mod Feeds
 pub mod Lasts
 pub mod Blocks
 pub mod Known

@@ -7,7 +7,7 @@ use lib.Dec.{lit<}
 use mathlib.Core.Bool.{Bool, true, false}
 use borrow.Author.Tests.{lt-ltb}
 use lib.IntN.{pos, _-ℤ_}
-use Rattle.session.specs.Acts.{shuntOf}
+use Rattle.session.specs.LineActs.{shuntOf}
 use mir.Syntax.{w32}
 use mir.Val.{SFits, toZ}
 use mir.Facts.{toZ-pos}

@@ -5,7 +5,7 @@ use native.Mathlib.Omega.{arith}
 use mathlib.Core.Path.{_≡_, refl, sym}
 use mathlib.Core.Bool.{Bool, true, false}
 use Rattle.lists.proofs.Split.{split}
-use Rattle.session.specs.Turns.{whileOn}
+use Rattle.session.specs.Pace.{whileOn}
 
 module _ {A : Type 0} (on : A → Bool) (step : A → A) where
   pub while-stops : (n : ℕ) (a : A) → on a ≡ false → whileOn on step n a ≡ a
@@ -32,3 +32,9 @@ module _ {A : Type 0} (on : A → Bool) (step : A → A) where
     unfolding whileOn
     while-turns zero m a e h k = absurd (omega (arith, falls a e))
     while-turns (suc n) m a e h k = rw e (while-enough m n (step a) k (omega (arith, falls a e)))
+
+    -- and then it is over
+    pub while-over : (n : ℕ) (a : A) → left a ≤ n → on (whileOn on step n a) ≡ false
+    unfolding whileOn
+    while-over zero a h = split (on a) (λ e. absurd (omega (arith, falls a e))) (λ e. e)
+    while-over (suc n) a h = split (on a) (λ e. rw e (while-over n (step a) (omega (arith, falls a e)))) (λ e. rw (e, e))

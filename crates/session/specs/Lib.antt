@@ -1,3 +1,3 @@
-pub mod Acts
-pub mod Turns
+pub mod LineActs
 pub mod Session
+pub mod Pace

@@ -1,23 +1,22 @@
 // A session of the bench: blocks of input in, the text of the answers out (01, The bench program).
 ghost use mathlib.Core.Path.{_≡_};
-ghost use Prim.Native.Nat.{_≤_, min};
-ghost use mathlib.Core.List.{_++_};
-ghost use Rattle.lines.specs.Line.{lineOf};
+ghost use Prim.Native.Nat.{_≤_, _-_, min};
+ghost use lib.ListN.{length};
 ghost use Rattle.lines.specs.Kept.{held};
-ghost use Rattle.session.specs.Acts.{shuntOf, readingsOf, cellCount, cellPlaces, byteCount, bytesOf, noBytes, openingTold, sampleTold, replyTold, viewTold, opens, samples, frames, reads, actOf};
-ghost use Rattle.session.specs.Turns.{boardIn, readingsIn, cellsIn, cellCountIn, bytesIn, byteCountIn, isOpen, isSample, isFrame, sampledTold, sampledRow, framedTold, framedRow, viewedTold, askedTold, askedRow, rowTold, rowAfter, lineTold, tightAt, stopAt, turnOf, paceAfter, outAfter, lineDone, runDone, ranIn, ranInOut, paceAt, ranOf, ranOut};
+ghost use Rattle.session.specs.LineActs.{shuntOf, readingsOf, cellPlaces, bytesOf, sampleOf, frameOf, opens};
+ghost use Rattle.session.specs.Pace.{actOf, isOpen, lineTold, tightAt, stopAt, turnOf, actIn, paceAfter, outAfter, lineDone, runDone, ranIn, ranInOut, paceAt, ranOf, ranOut, Answered, Completed};
 ghost use Rattle.session.specs.Session.{Run, lacking};
-use board::Answer;
+use acts::Act;
+use acts::Frame;
+use acts::Sample;
+use acts::Told;
 use board::Board;
 use board::Readings;
-use frame::Reply;
 use lines::Cutter;
 use lines::Kind;
 use lines::Line;
 use stack::Opening;
 use stack::Stack;
-use stack::View;
-use text::Told;
 
 // A stack after a line, and what is told of it.
 pub struct Acted {
@@ -52,19 +51,13 @@ struct RanRow {
     pace: Pace,
 }
 
-// A stack after a run, and where the run ended.
+// A stack after some lines, and where they ended.
 struct Ran {
     stack: Stack,
     pace: Pace,
 }
 
 // ---- a line as an act
-
-fn at_most(n: usize, most: usize) -> usize
-    ensures { λ r. ⌜ r ≡ min n most ⌝ }
-{
-    if n < most { n } else { most }
-}
 
 // A line's number is at most 2,147,483,647; one that is not would be cut down to that.
 fn size_of(number: u32) -> u32
@@ -95,17 +88,7 @@ fn readings_of(numbers: [u32; 21], minus: bool) -> Readings
     }
 }
 
-// How many cells a sample has: the numbers from 5 on.
-fn cell_count(count: usize) -> usize
-    ensures { λ r. ⌜ r ≡ cellCount count ⌝ }
-{
-    if count < 5 {
-        return 0;
-    }
-    at_most(count - 5, 16)
-}
-
-// The places of the cells, 16 at most.
+// The cells are the numbers from 5 on.
 fn cells_of(numbers: [u32; 21]) -> [u32; 16]
     ensures { λ r. ⌜ r ≡ cellPlaces numbers ⌝ }
 {
@@ -118,7 +101,27 @@ fn cells_of(numbers: [u32; 21]) -> [u32; 16]
     cells
 }
 
-// The bytes of a frame, 16 at most.
+fn cell_count(count: usize) -> usize
+    ensures { λ r. ⌜ r ≡ count - 5 ⌝ }
+{
+    if count < 5 {
+        return 0;
+    }
+    count - 5
+}
+
+fn sample_of(line: Line) -> Sample
+    ensures { λ r. ⌜ r ≡ sampleOf line ⌝ }
+{
+    let numbers = line.numbers;
+    Sample {
+        board: numbers[0],
+        readings: readings_of(numbers, line.minus),
+        cells: cells_of(numbers),
+        count: cell_count(line.count),
+    }
+}
+
 fn bytes_of(numbers: [u32; 21]) -> [u8; 16]
     ensures { λ r. ⌜ r ≡ bytesOf numbers ⌝ }
 {
@@ -131,74 +134,48 @@ fn bytes_of(numbers: [u32; 21]) -> [u8; 16]
     bytes
 }
 
-// ---- what an answer tells
-
-fn opening_told(a: Opening) -> Told
-    ensures { λ r. ⌜ r ≡ openingTold a ⌝ }
+// The bench lends four bytes for a reply.
+fn frame_of(line: Line) -> Frame
+    ensures { λ r. ⌜ r ≡ frameOf line ⌝ }
 {
-    match a {
-        Opening::Opened => Told::Opened,
-        Opening::Refused(why) => Told::Refused(refusal::number(why)),
+    let numbers = line.numbers;
+    Frame {
+        bytes: bytes_of(numbers),
+        count: line.count,
+        room: 4,
     }
 }
 
-fn sample_told(a: Answer) -> Told
-    ensures { λ r. ⌜ r ≡ sampleTold a ⌝ }
+// A reading, which changes nothing, stands for what is no act: an opening is never run, and of a malformed line 12 is told.
+fn act_of(line: Line) -> Act
+    ensures { λ r. ⌜ r ≡ actOf line ⌝ }
 {
-    match a {
-        Answer::Sampled { status, bled } => Told::Status {
-            status: status,
-            bled: bled,
-        },
-        Answer::Refused(why) => Told::Refused(refusal::number(why)),
+    let kind = line.kind;
+    match kind {
+        Kind::Open => acts::reading_act(),
+        Kind::Sample => acts::sample_act(sample_of(line)),
+        Kind::Frame => acts::frame_act(frame_of(line)),
+        Kind::Read => acts::reading_act(),
+        Kind::Malformed => acts::reading_act(),
     }
 }
 
-fn reply_told(a: Reply) -> Told
-    ensures { λ r. ⌜ r ≡ replyTold a ⌝ }
+fn at_most(n: usize, most: usize) -> usize
+    ensures { λ r. ⌜ r ≡ min n most ⌝ }
 {
-    match a {
-        Reply::Replied {
-            address,
-            register,
-            value,
-            check,
-        } => Told::Reply {
-            address: address,
-            register: register,
-            value: value,
-            check: check,
-        },
-        Reply::Refused(why) => Told::Refused(refusal::number(why)),
-    }
+    if n < most { n } else { most }
 }
-
-fn view_told(v: View) -> Told
-    ensures { λ r. ⌜ r ≡ viewTold v ⌝ }
-{
-    match v {
-        View::Read(w) => Told::Reading {
-            line: w.line,
-            chg: w.chg,
-            dsg: w.dsg,
-            board: w.flagged.board,
-            cell: w.flagged.cell,
-        },
-        View::Refused(why) => Told::Refused(refusal::number(why)),
-    }
-}
-
-// ---- the acts
 
 // A good opening replaces the stack, a refused one leaves it.
-fn open_line(s: Stack, numbers: [u32; 21], count: usize) -> Acted
-    ensures { λ r. ⌜ r ≡ opens s numbers count ⌝ }
+fn open_line(s: Stack, line: Line) -> Acted
+    ensures { λ r. ⌜ r ≡ opens s line ⌝ }
 {
-    let end = at_most(count, 21);
+    let numbers = line.numbers;
+    let end = at_most(line.count, 21);
     let start = stack::open_stack(&numbers[..end]);
     let answer = start.answer;
     let opened = start.stack;
-    let told = opening_told(answer);
+    let told = acts::opening_told(answer);
     match answer {
         Opening::Opened => Acted {
             stack: opened,
@@ -209,187 +186,6 @@ fn open_line(s: Stack, numbers: [u32; 21], count: usize) -> Acted
             told: told,
         },
     }
-}
-
-fn sample_line(s: Stack, numbers: [u32; 21], minus: bool, count: usize) -> Acted
-    ensures { λ r. ⌜ r ≡ samples s numbers minus count ⌝ }
-{
-    let x = readings_of(numbers, minus);
-    let end = 5 + cell_count(count);
-    let r = held::sample_held(s, numbers[0], x, &numbers[5..end]);
-    let answer = r.answer;
-    let next = r.stack;
-    Acted {
-        stack: next,
-        told: sample_told(answer),
-    }
-}
-
-// The bench lends four bytes for a reply.
-fn frame_line(s: Stack, bytes: [u8; 16], count: usize) -> Acted
-    ensures { λ r. ⌜ r ≡ frames s bytes count ⌝ }
-{
-    let end = at_most(count, 16);
-    let mut reply = [0u8; 4];
-    let r = held::frame_held(s, &bytes[..end], &mut reply);
-    let answer = r.answer;
-    let next = r.stack;
-    Acted {
-        stack: next,
-        told: reply_told(answer),
-    }
-}
-
-fn read_line(s: Stack) -> Acted
-    ensures { λ r. ⌜ r ≡ reads s ⌝ }
-{
-    let view = held::read_held(s);
-    Acted {
-        stack: s,
-        told: view_told(view),
-    }
-}
-
-fn act(s: Stack, line: Line) -> Acted
-    ensures { λ r. ⌜ r ≡ actOf s line ⌝ }
-{
-    let kind = line.kind;
-    let numbers = line.numbers;
-    match kind {
-        Kind::Open => open_line(s, numbers, line.count),
-        Kind::Sample => sample_line(s, numbers, line.minus, line.count),
-        Kind::Frame => frame_line(s, bytes_of(numbers), line.count),
-        Kind::Read => read_line(s),
-        Kind::Malformed => Acted {
-            stack: s,
-            told: Told::Refused(12),
-        },
-    }
-}
-
-// ---- the acts in place, on a lent row
-
-fn board_in(d: Turn) -> u32
-    ensures { λ r. ⌜ r ≡ boardIn d ⌝ }
-{
-    let line = d.line;
-    line.numbers[0]
-}
-
-fn readings_in(d: Turn) -> Readings
-    ensures { λ r. ⌜ r ≡ readingsIn d ⌝ }
-{
-    let line = d.line;
-    let numbers = line.numbers;
-    readings_of(numbers, line.minus)
-}
-
-fn cells_in(d: Turn) -> [u32; 16]
-    ensures { λ r. ⌜ r ≡ cellsIn d ⌝ }
-{
-    let numbers = d.line.numbers;
-    cells_of(numbers)
-}
-
-fn cell_count_in(d: Turn) -> usize
-    ensures { λ r. ⌜ r ≡ cellCountIn d ⌝ }
-{
-    cell_count(d.line.count)
-}
-
-fn sample_row(row: &mut [Board], d: Turn) -> Told
-    ensures { λ r. ⌜ (r ≡ sampledTold (now (row .entry)) d) × (now (row .exit) ≡ sampledRow (now (row .entry)) d) ⌝ }
-{
-    let board = board_in(d);
-    let x = readings_in(d);
-    let cells = cells_in(d);
-    let n = cell_count_in(d);
-    let answer = stack::sample_stack(row, board, x, &cells[..n]);
-    sample_told(answer)
-}
-
-fn bytes_in(d: Turn) -> [u8; 16]
-    ensures { λ r. ⌜ r ≡ bytesIn d ⌝ }
-{
-    let numbers = d.line.numbers;
-    bytes_of(numbers)
-}
-
-fn byte_count_in(d: Turn) -> usize
-    ensures { λ r. ⌜ r ≡ byteCountIn d ⌝ }
-{
-    at_most(d.line.count, 16)
-}
-
-// The bench lends four bytes for a reply.
-fn no_bytes() -> [u8; 4]
-    ensures { λ r. ⌜ r ≡ noBytes ⌝ }
-{
-    [0; 4]
-}
-
-fn frame_row(row: &mut [Board], d: Turn) -> Told
-    ensures { λ r. ⌜ (r ≡ framedTold (now (row .entry)) d) × (now (row .exit) ≡ framedRow (now (row .entry)) d) ⌝ }
-{
-    let bytes = bytes_in(d);
-    let n = byte_count_in(d);
-    let mut reply = no_bytes();
-    let answer = stack::frame_stack(row, &bytes[..n], &mut reply);
-    reply_told(answer)
-}
-
-fn read_row(row: &mut [Board], d: Turn) -> Told
-    ensures { λ r. ⌜ (r ≡ viewedTold (now (row .entry)) d) × (now (row .exit) ≡ now (row .entry)) ⌝ }
-{
-    let view = stack::read_stack(row);
-    view_told(view)
-}
-
-fn is_sample(d: Turn) -> bool
-    ensures { λ r. ⌜ r ≡ isSample (d .line .kind) ⌝ }
-{
-    let line = d.line;
-    let kind = line.kind;
-    match kind {
-        Kind::Open => false,
-        Kind::Sample => true,
-        Kind::Frame => false,
-        Kind::Read => false,
-        Kind::Malformed => false,
-    }
-}
-
-fn is_frame(d: Turn) -> bool
-    ensures { λ r. ⌜ r ≡ isFrame (d .line .kind) ⌝ }
-{
-    let line = d.line;
-    let kind = line.kind;
-    match kind {
-        Kind::Open => false,
-        Kind::Sample => false,
-        Kind::Frame => true,
-        Kind::Read => false,
-        Kind::Malformed => false,
-    }
-}
-
-// What is no sample and no frame changes no board, and only a reading is told.
-fn ask_row(row: &mut [Board], d: Turn) -> Told
-    ensures { λ r. ⌜ (r ≡ askedTold (now (row .entry)) d) × (now (row .exit) ≡ askedRow (now (row .entry)) d) ⌝ }
-{
-    if is_frame(d) {
-        return frame_row(row, d);
-    }
-    read_row(row, d)
-}
-
-fn act_row(row: &mut [Board], d: Turn) -> Told
-    ensures { λ r. ⌜ (r ≡ rowTold (now (row .entry)) d) × (now (row .exit) ≡ rowAfter (now (row .entry)) d) ⌝ }
-{
-    if is_sample(d) {
-        return sample_row(row, d);
-    }
-    ask_row(row, d)
 }
 
 // ---- a run of lines in place
@@ -493,12 +289,20 @@ fn put_line(out: &mut [u8], d: Turn, told: Told) -> Pace
     next
 }
 
+fn act_in(d: Turn) -> Act
+    ensures { λ r. ⌜ r ≡ actIn d ⌝ }
+{
+    let line = d.line;
+    act_of(line)
+}
+
 // A line answered: taken from the block, acted on the row, and its text put.
 fn line_in(row: &mut [Board], p: Pace, block: &[u8], out: &mut [u8]) -> Pace
     ensures { λ r. ⌜ (r ≡ lineDone (now (row .entry)) p (now (block .entry)) (now (out .entry)) .pace) × ((now (row .exit) ≡ lineDone (now (row .entry)) p (now (block .entry)) (now (out .entry)) .row) × (now (out .exit) ≡ lineDone (now (row .entry)) p (now (block .entry)) (now (out .entry)) .out)) ⌝ }
 {
     let d = take_line(p, block);
-    let told = act_row(row, d);
+    let a = act_in(d);
+    let told = acts::act_row(row, a);
     put_line(out, d, told)
 }
 
@@ -531,14 +335,11 @@ fn run_in(boards: [Board; 16], n: usize, p: Pace, block: &[u8], out: &mut [u8]) 
     }
 }
 
-// A run on a stack, from a line on that has no kept beginning.
+// A run on a stack's row.
 fn run_lines(s: Stack, p: Pace, block: &[u8], out: &mut [u8]) -> Ran
     ensures { λ r. ⌜ (r ≡ ranOf s p (now (block .entry)) (now (out .entry))) × (now (out .exit) ≡ ranOut s p (now (block .entry)) (now (out .entry))) ⌝ }
 {
-    let n = s.count;
-    if 16 < n {
-        return Ran { stack: s, pace: p };
-    }
+    let n = held::row_count(s);
     let boards = s.boards;
     let r = run_in(boards, n, p, block, out);
     let after = r.boards;
@@ -551,70 +352,112 @@ fn run_lines(s: Stack, p: Pace, block: &[u8], out: &mut [u8]) -> Ran
     }
 }
 
-// ---- lines out of blocks
+// ---- the lines of a block
 
-// The line that is kept.
-fn kept_line(c: Cutter) -> Line
-    ensures { λ r. ⌜ r ≡ lineOf (held c) ⌝ }
+// The lines that end in the block are answered one after the other, their texts put from a place on, while there is room for one
+// more: runs of lines in place, and between two of them an opening.
+fn answer_lines(stack: Stack, block: &[u8], from: usize, out: &mut [u8]) -> Ran
+    requires { ⌜ from ≤ length (now out) ⌝ }
+    ensures { λ r. ⌜ Answered stack (now (block .entry)) from (now (out .entry)) (now (out .exit)) r ⌝ }
 {
-    let bytes = c.bytes;
-    let len = lines::kept_len(c);
-    lines::line_of(&bytes[..len])
+    let mut s = stack;
+    let mut p = pace_at(0, from, out.len());
+    loop {
+        let ran = run_lines(s, p, block, out);
+        let pace = ran.pace;
+        if tight(pace) {
+            return ran;
+        }
+        let at = pace.at;
+        let found = lines::line_at(block, at);
+        let end = found.end;
+        if block.len() <= end {
+            return ran;
+        }
+        let line = found.line;
+        let before = ran.stack;
+        let acted = open_line(before, line);
+        let told = acted.told;
+        let next = acted.stack;
+        let put = text::put_told(out, pace.wrote, told);
+        s = next;
+        p = pace_at(end + 1, put, out.len());
+    }
 }
 
-// The line that what is kept and s make; where nothing is kept it is read where it lies.
-fn whole_line(c: Cutter, s: &[u8]) -> Line
-    ensures { λ r. ⌜ r ≡ lineOf (held c ++ now (s .entry)) ⌝ }
+// ---- lines out of blocks
+
+// A line whose beginning is kept: where it ends in the block it is put together in the cutter's places and run as a block of one line.
+fn complete_line(cutter: Cutter, stack: Stack, block: &[u8], out: &mut [u8]) -> Fed
+    requires { ⌜ 32 ≤ length (now out) ⌝ }
+    ensures { λ r. ⌜ Completed cutter stack (now (block .entry)) (now (out .entry)) (now (out .exit)) r ⌝ }
 {
-    if lines::kept_len(c) == 0 {
-        return lines::line_of(s);
+    if lines::kept_len(cutter) == 0 {
+        return Fed {
+            cutter: cutter,
+            stack: stack,
+            used: 0,
+            wrote: 0,
+        };
     }
-    kept_line(lines::keep(c, s))
+    let end = lines::line_end(block, 0);
+    let kept = lines::keep(cutter, &block[..end]);
+    if block.len() <= end {
+        return Fed {
+            cutter: kept,
+            stack: stack,
+            used: end,
+            wrote: 0,
+        };
+    }
+    let whole = lines::end_line(kept);
+    let bytes = whole.bytes;
+    let len = whole.len;
+    let ran = answer_lines(stack, &bytes[..len], 0, out);
+    let after = ran.stack;
+    Fed {
+        cutter: lines::emptied(kept),
+        stack: after,
+        used: end + 1,
+        wrote: ran.pace.wrote,
+    }
 }
 
 // The lines that end in the block are answered one after the other, until it is used up or out has no room for one more text.
-// The first line, which may have a kept beginning, and every opening are answered by value, and the run of lines behind each in place.
 pub fn feed(cutter: Cutter, stack: Stack, block: &[u8], out: &mut [u8]) -> Fed
     ensures { λ r. ⌜ Run cutter stack (now (block .entry)) (now (out .entry)) (now (out .exit)) r ⌝ }
 {
-    let mut c = cutter;
-    let mut s = stack;
-    let mut at = 0;
-    let mut wrote = 0;
-    while at < block.len() {
-        if out.len() - wrote < 32 {
-            return Fed {
-                cutter: c,
-                stack: s,
-                used: at,
-                wrote: wrote,
-            };
-        }
-        let end = lines::line_end(block, at);
-        if block.len() <= end {
-            let kept = lines::keep(c, &block[at..]);
-            return Fed {
-                cutter: kept,
-                stack: s,
-                used: block.len(),
-                wrote: wrote,
-            };
-        }
-        let acted = act(s, whole_line(c, &block[at..end]));
-        let told = acted.told;
-        let next = acted.stack;
-        let put = text::put_told(out, wrote, told);
-        c = lines::emptied(c);
-        let ran = run_lines(next, pace_at(end + 1, put, out.len()), block, out);
-        let after = ran.stack;
-        s = after;
-        at = ran.pace.at;
-        wrote = ran.pace.wrote;
+    if out.len() < 32 {
+        return Fed {
+            cutter: cutter,
+            stack: stack,
+            used: 0,
+            wrote: 0,
+        };
+    }
+    let first = complete_line(cutter, stack, block, out);
+    let at = first.used;
+    if block.len() <= at {
+        return first;
+    }
+    let c = first.cutter;
+    let s = first.stack;
+    let ran = answer_lines(s, &block[at..], first.wrote, out);
+    let after = ran.stack;
+    let end = at + ran.pace.at;
+    let wrote = ran.pace.wrote;
+    if out.len() - wrote < 32 {
+        return Fed {
+            cutter: c,
+            stack: after,
+            used: end,
+            wrote: wrote,
+        };
     }
     Fed {
-        cutter: c,
-        stack: s,
-        used: at,
+        cutter: lines::keep(c, &block[end..]),
+        stack: after,
+        used: block.len(),
         wrote: wrote,
     }
 }

@@ -10,8 +10,8 @@ use lib.Dec.{ltb, eqb}
 use lib.ListN.{getD}
 use borrow.Author.Tests.{le-ltb}
 use Rattle.marks.specs.Marks.{bit}
-use Rattle.text.specs.declared.Told.{Told}
-use Rattle.text.specs.declared.Told.the-variants.{Opened, Refused, Status, Reply, Reading}
+use Rattle.acts.specs.declared.Told.{Told}
+use Rattle.acts.specs.declared.Told.the-variants.{Opened, Refused, Status, Reply, Reading}
 use Rattle.text.specs.Text.{bytes, digit, decimal, wordsOf, textOf, Typed}
 use Rattle.text.proofs.Decimal.{decimal-fold}
 

@@ -5,14 +5,15 @@ use native.Mathlib.Omega.{arith}
 use mathlib.Core.Path.{_≡_, refl}
 use mathlib.Core.Bool.{Bool, true, false, not}
 use mathlib.Core.List.{List, [], _∷_, _++_, append-assoc, append-nil}
-use lib.Dec.{eqb}
+use lib.Dec.{eqb, leb}
 use lib.ListN.{length, length-append}
-use borrow.Author.Tests.{ne-eqb}
+use borrow.Author.Tests.{ne-eqb, leb-true}
 use Rattle.marks.specs.Marks.{bit}
 use Rattle.lists.specs.Every.{every}
-use Rattle.text.specs.declared.Told.{Told}
-use Rattle.text.specs.declared.Told.the-variants.{Opened, Refused, Status, Reply, Reading}
-use Rattle.text.specs.Text.{digit, decimal, wordsOf, textOf, Typed}
+use Rattle.lists.proofs.Split.{split}
+use Rattle.acts.specs.declared.Told.{Told}
+use Rattle.acts.specs.declared.Told.the-variants.{Opened, Refused, Status, Reply, Reading}
+use Rattle.text.specs.Text.{digit, decimal, wordsOf, textOf, placed, Typed}
 use Rattle.text.proofs.Decimal.{decimal-five as five, decimal-fold, flag-digit}
 
 abbrev pub plain : ℕ → Bool
@@ -55,3 +56,9 @@ text-short (Status status bled) = simp (number-long, length-append) (omega (arit
 text-short (Reply address register value check) =
     simp (number-long, length-append) (omega (arith, five address, five register, five value, five check))
 text-short (Reading line chg dsg board cell) = simp (number-long, length-append, flag-digit) (omega (arith, five board, five cell))
+
+-- so no line leaves its buffer
+pub placed-inside : (room at : ℕ) (told : Told) → at ≤ room → at + length (placed room at told) ≤ room
+unfolding placed
+placed-inside room at told h =
+    split (leb (at + 32) room) (λ e. rw e (omega (arith, leb-true (at + 32) room e, text-short told))) (λ e. rw e (omega arith))

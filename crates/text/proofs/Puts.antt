@@ -9,8 +9,8 @@ use mathlib.Core.List.{List, [], _∷_, _++_}
 use lib.ListN.{length, getD, set, take, drop, length-append}
 use lib.Seq.{sets, length-sets, sets-eq, length-take-le, take-suc, take-all, take-at}
 use borrow.Author.Tests.{le-leb, lt-leb}
-use Rattle.text.specs.declared.Told.{Told}
-use Rattle.text.specs.Text.{wordsOf, textOf, placed, Put, Printed}
+use Rattle.acts.specs.declared.Told.{Told}
+use Rattle.text.specs.Text.{wordsOf, textOf, placed, Put}
 
 sets-append : (l : List ℕ) (i : ℕ) (a b : List ℕ) → sets l i (a ++ b) ≡ sets (sets l i a) (i + length a) b
 sets-append l i [] b = rw (add-zero i)
@@ -48,15 +48,13 @@ pub placed-all : (room at : ℕ) (told : Told) → at + 32 ≤ room → placed r
 unfolding placed
 placed-all room at told h = rw (le-leb (at + 32) room h)
 
-pub printed-none : {at : ℕ} {old : List ℕ} (told : Told) → length old < at + 32 → Printed told at old old at
-printed-none {at} {old} told h =
-    record { line = rw (placed-none (length old) at told h) (record { after = sym (add-zero at); whole = refl }); inside = λ k. k }
+pub put-none : {at : ℕ} {old : List ℕ} (told : Told) → length old < at + 32 → Put at (placed (length old) at told) old old at
+put-none {at} {old} told h = rw (placed-none (length old) at told h) (record { after = sym (add-zero at); whole = refl })
 
-pub printed-line : {at m r : ℕ} {old mid new : List ℕ} (told : Told) → at + 32 ≤ length old → Put at (wordsOf told) old mid m × (m ≤ at + 31) → Put m (10 ∷ []) mid new r
-    → Printed told at old new r
+pub put-line : {at m r : ℕ} {old mid new : List ℕ} (told : Told) → at + 32 ≤ length old → Put at (wordsOf told) old mid m → Put m (10 ∷ []) mid new r
+    → Put at (placed (length old) at told) old new r
 unfolding textOf
-printed-line {at} {m} {r} {old} told h p q =
-    record { line = rw (placed-all (length old) at told h) (put-then (p .0) q); inside = λ k. omega (arith, p .1, q .after) }
+put-line {at} {old = old} told h p q = rw (placed-all (length old) at told h) (put-then p q)
 
 -- what a caller reads off: the buffer's length stays, and the bytes up to the next place are those before and the text
 pub put-same : {at r : ℕ} {text old new : List ℕ} → Put at text old new r → length new ≡ length old
@@ -67,7 +65,3 @@ put-take {at} {r} {text} {old} p h =
     let fits : at + length text ≤ length old = omega (arith, p .after) in
     let len : length (take at old ++ text) ≡ r = length-append (take at old) text ∙ rw (length-take-le at old (omega arith)) (sym (p .after)) in
     rw (p .whole, sets-eq text old at fits, take-at (take at old ++ text) (drop (at + length text) old) r len)
-
--- any two outcomes of printing are the same
-pub printed-once : {at r r′ : ℕ} {old new new′ : List ℕ} {told : Told} → Printed told at old new r → Printed told at old new′ r′ → (r ≡ r′) × (new ≡ new′)
-printed-once p q = (p .line .after ∙ sym (q .line .after), p .line .whole ∙ sym (q .line .whole))

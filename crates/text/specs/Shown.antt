@@ -2,7 +2,7 @@
 -- Assumes nothing.
 use mathlib.Core.Path.{_≡_, refl}
 use mathlib.Core.Bool.{true, false}
-use Rattle.text.specs.declared.Told.the-variants.{Opened, Refused, Status, Reply, Reading}
+use Rattle.acts.specs.declared.Told.the-variants.{Opened, Refused, Status, Reply, Reading}
 use Rattle.text.specs.Text.{bytes, placeOf, decimal, wordsOf, textOf}
 
 pub record Shown : Type 0 where

@@ -1,6 +1,6 @@
 -- The line that answers an act, as its bytes (01, The bench program).
 -- Assumes nothing.
-use Prim.Native.Nat.{ℕ, _+_, _/_, _%_, _<_, _≤_}
+use Prim.Native.Nat.{ℕ, _+_, _/_, _%_, _<_}
 use Prim.Native.Char.{code}
 use Prim.Native.String as string
 use mathlib.Core.Path.{_≡_}
@@ -10,8 +10,8 @@ use lib.Dec.{leb}
 use lib.ListN.{length}
 use lib.Seq.{sets}
 use Rattle.marks.specs.Marks.{bit}
-use Rattle.text.specs.declared.Told.{Told}
-use Rattle.text.specs.declared.Told.the-variants.{Opened, Refused, Status, Reply, Reading}
+use Rattle.acts.specs.declared.Told.{Told}
+use Rattle.acts.specs.declared.Told.the-variants.{Opened, Refused, Status, Reply, Reading}
 
 -- a word as its bytes
 abbrev pub bytes : string.String → List ℕ
@@ -53,11 +53,6 @@ placed room at told = cond (leb (at + 32) room) (textOf told) []
 pub record Put (at : ℕ) (text old new : List ℕ) (next : ℕ) : Type 0 where
   pub after : next ≡ at + length text
   pub whole : new ≡ sets old at text
-
--- an answer printed from at on into old: its line is put, or nothing, and next is no further out of the buffer than at was
-pub record Printed (told : Told) (at : ℕ) (old new : List ℕ) (next : ℕ) : Type 0 where
-  pub line : Put at (placed (length old) at told) old new next
-  pub inside : at ≤ length old → next ≤ length old
 
 -- the numbers of an answer are within their types: bytes, and the bled cells sixteen bits
 abbrev pub Typed : Told → Type 0

@@ -1,32 +1,11 @@
 // The line that answers an act, put into a lent buffer (01, The bench program).
-ghost use mathlib.Core.Path.{_≡_};
 ghost use mathlib.Core.List.{[], _∷_, _++_};
 ghost use Prim.Native.Nat.{_+_, _<_, _≤_};
 ghost use lib.ListN.{length};
 ghost use Rattle.marks.specs.Marks.{bit};
-ghost use Rattle.text.specs.Text.{Put, Printed, digit, placeOf, decimal, wordsOf};
-
-pub enum Told {
-    Opened,
-    Refused(u8),
-    Status {
-        status: u8,
-        bled: u16,
-    },
-    Reply {
-        address: u8,
-        register: u8,
-        value: u8,
-        check: u8,
-    },
-    Reading {
-        line: bool,
-        chg: bool,
-        dsg: bool,
-        board: u8,
-        cell: u8,
-    },
-}
+ghost use Rattle.acts.specs.declared.Told.the-variants as told;
+ghost use Rattle.text.specs.Text.{Put, placed, digit, placeOf, decimal, wordsOf};
+use acts::Told;
 
 // Puts s into out from at on, and gives the place after it.
 fn put_bytes(out: &mut [u8], at: usize, s: &[u8]) -> usize
@@ -97,7 +76,7 @@ fn put_flag(out: &mut [u8], at: usize, word: &[u8], flag: bool) -> usize
 
 fn put_status(out: &mut [u8], at: usize, status: u8, bled: u16) -> usize
     requires { ⌜ at + 31 ≤ length (now out) ⌝ }
-    ensures { λ r. ⌜ Put at (wordsOf (Told.Status status bled)) (now (out .entry)) (now (out .exit)) r ⌝ }
+    ensures { λ r. ⌜ Put at (wordsOf (told.Status status bled)) (now (out .entry)) (now (out .exit)) r ⌝ }
     ensures { λ r. ⌜ r ≤ at + 31 ⌝ }
 {
     let status_end = put_field(out, at, b"st ", status as u16);
@@ -106,7 +85,7 @@ fn put_status(out: &mut [u8], at: usize, status: u8, bled: u16) -> usize
 
 fn put_reply(out: &mut [u8], at: usize, address: u8, register: u8, value: u8, check: u8) -> usize
     requires { ⌜ at + 31 ≤ length (now out) ⌝ }
-    ensures { λ r. ⌜ Put at (wordsOf (Told.Reply address register value check)) (now (out .entry)) (now (out .exit)) r ⌝ }
+    ensures { λ r. ⌜ Put at (wordsOf (told.Reply address register value check)) (now (out .entry)) (now (out .exit)) r ⌝ }
     ensures { λ r. ⌜ r ≤ at + 31 ⌝ }
 {
     let address_end = put_field(out, at, b"re ", address as u16);
@@ -125,7 +104,7 @@ fn put_reading(
     cell: u8,
 ) -> usize
     requires { ⌜ at + 31 ≤ length (now out) ⌝ }
-    ensures { λ r. ⌜ Put at (wordsOf (Told.Reading line chg dsg board cell)) (now (out .entry)) (now (out .exit)) r ⌝ }
+    ensures { λ r. ⌜ Put at (wordsOf (told.Reading line chg dsg board cell)) (now (out .entry)) (now (out .exit)) r ⌝ }
     ensures { λ r. ⌜ r ≤ at + 31 ⌝ }
 {
     let line_end = put_flag(out, at, b"ln ", line);
@@ -163,7 +142,7 @@ fn put_words(out: &mut [u8], at: usize, told: Told) -> usize
 
 // The line of an answer, and the place after it; where 32 bytes are not free from at on, nothing, and at.
 pub fn put_told(out: &mut [u8], at: usize, told: Told) -> usize
-    ensures { λ r. ⌜ Printed told at (now (out .entry)) (now (out .exit)) r ⌝ }
+    ensures { λ r. ⌜ Put at (placed (length (now (out .entry))) at told) (now (out .entry)) (now (out .exit)) r ⌝ }
 {
     if out.len() < 32 {
         return at;

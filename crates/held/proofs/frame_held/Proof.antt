@@ -1,24 +1,21 @@
-use borrow.Author.Tests.{lt-ltb, le-ltb}
+-- `held::frame_held` meets its contract: the frame to the lent row.
+-- Assumes nothing.
+use mathlib.Core.Path.{_∙_}
 use Rattle.held.specs.Held.{framedOf, framedBuffer, framedIn, framedReply}
+use Rattle.held.proofs.Rows.{row-few}
 use borrow.Author.Needs.{needs}
 use Rattle.held.proofs.frame_held.Statement.{statement}
 use Rattle.held.proofs.frame_held.Tie as tie
 
-returns : tie.Need-returns
-unfolding framedOf framedBuffer
-returns c = (rw (lt-ltb _ _ (c .if1 .taken)), rw (lt-ltb _ _ (c .if1 .taken)))
-
 frame-in-requires : tie.Need-frame-in-requires
-frame-in-requires c κs = search needs
+frame-in-requires c κs = rw (c .before .before .row-count .ensures) (row-few _)
 
-same-length : tie.Need-same-length
-same-length c = search needs
-
-returns-2 : tie.Need-returns-2
+returns : tie.Need-returns
 unfolding framedOf framedBuffer framedIn framedReply
-returns-2 c =
-    let c3 = c .before .before .before in
-    (rw (le-ltb _ _ (c3 .before .before .before .if1 .left), c3 .frame-in .ensures .0), rw (le-ltb _ _ (c3 .before .before .before .if1 .left)) (c3 .frame-in .ensures .1))
+returns c =
+    let f = c .before .before .before in
+    let many = f .before .before .before .row-count .ensures in
+    (rw (f .frame-in .ensures .0, many), f .frame-in .ensures .1 ∙ rw many)
 
 pub frame-held-spec : {M : Type 1} → statement M
-frame-held-spec = tie.close (tie.spec returns frame-in-requires same-length returns-2)
+frame-held-spec = tie.close (tie.spec (λ c κs. search needs) frame-in-requires (λ c. search needs) returns)

@@ -1,19 +1,17 @@
-use borrow.Author.Tests.{lt-ltb, le-ltb}
+-- `held::read_held` meets its contract: the reading of the lent row.
+-- Assumes nothing.
 use Rattle.held.specs.Held.{readOf, readIn}
+use Rattle.held.proofs.Rows.{row-few}
 use borrow.Author.Needs.{needs}
 use Rattle.held.proofs.read_held.Statement.{statement}
 use Rattle.held.proofs.read_held.Tie as tie
 
-returns : tie.Need-returns
-unfolding readOf
-returns c = rw (lt-ltb _ _ (c .if1 .taken))
-
 read-in-requires : tie.Need-read-in-requires
-read-in-requires c κs = search needs
+read-in-requires c κs = rw (c .before .row-count .ensures) (row-few _)
 
-returns-2 : tie.Need-returns-2
+returns : tie.Need-returns
 unfolding readOf readIn
-returns-2 c = rw (le-ltb _ _ (c .before .before .if1 .left), c .read-in .ensures)
+returns c = rw (c .read-in .ensures, c .before .before .row-count .ensures)
 
 pub read-held-spec : {M : Type 1} → statement M
-read-held-spec = tie.close (tie.spec returns read-in-requires returns-2)
+read-held-spec = tie.close (tie.spec (λ c κs. search needs) read-in-requires returns)

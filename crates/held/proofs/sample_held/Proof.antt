@@ -1,19 +1,17 @@
-use borrow.Author.Tests.{lt-ltb, le-ltb}
+-- `held::sample_held` meets its contract: the sample of the lent row.
+-- Assumes nothing.
 use Rattle.held.specs.Held.{sampledOf, sampledIn}
+use Rattle.held.proofs.Rows.{row-few}
 use borrow.Author.Needs.{needs}
 use Rattle.held.proofs.sample_held.Statement.{statement}
 use Rattle.held.proofs.sample_held.Tie as tie
 
-returns : tie.Need-returns
-unfolding sampledOf
-returns c = rw (lt-ltb _ _ (c .if1 .taken))
-
 sample-in-requires : tie.Need-sample-in-requires
-sample-in-requires c κs = search needs
+sample-in-requires c κs = rw (c .before .row-count .ensures) (row-few _)
 
-returns-2 : tie.Need-returns-2
+returns : tie.Need-returns
 unfolding sampledOf sampledIn
-returns-2 c = rw (le-ltb _ _ (c .before .before .before .if1 .left), c .before .sample-in .ensures)
+returns c = rw (c .before .sample-in .ensures, c .before .before .before .row-count .ensures)
 
 pub sample-held-spec : {M : Type 1} → statement M
-sample-held-spec = tie.close (tie.spec returns sample-in-requires returns-2)
+sample-held-spec = tie.close (tie.spec (λ c κs. search needs) sample-in-requires returns)

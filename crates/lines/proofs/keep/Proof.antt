@@ -1,6 +1,7 @@
 -- `lines::keep` meets its contract: the invariant is that keeping the rest of s makes the whole.
 -- Assumes nothing.
 use Prim.Native.Nat.{_-_}
+use native.Mathlib.Omega.{arith}
 use mathlib.Core.Path.{_≡_, refl}
 use lib.ListN.{length, drop}
 use Rattle.lines.specs.Kept.{listKept}
@@ -23,8 +24,8 @@ loop-again c =
 returns : tie.Need-returns Inv-loop μ-loop
 returns c =
     let a = c .before .before .before .args in
-    let long : length (a .c .bytes) ≡ 201 = search needs in
-    kept-all (a .c) _ (a .s .now) (c .before .loop .i) (c .before .loop .inv) (c .loop-test .left) long
+    let long : length (a .c .bytes) ≡ 202 = search needs in
+    kept-all (a .c) _ (a .s .now) (c .before .loop .i) (c .before .loop .inv) (c .loop-test .left) (omega arith)
 
 pub keep-spec : {M : Type 1} → statement M
 keep-spec =

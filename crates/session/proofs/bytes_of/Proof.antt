@@ -7,7 +7,7 @@ use lib.ListN.{length, take, length-map}
 use lib.Seq.{getD-take, length-take-le}
 use borrow.Author.Needs.{needs}
 use Rattle.lists.proofs.Fill.{filled, fill-none, fill-map, fill-all}
-use Rattle.session.specs.Acts.{bytesOf}
+use Rattle.session.specs.LineActs.{bytesOf}
 use Rattle.session.proofs.bytes_of.Statement.{statement}
 use Rattle.session.proofs.bytes_of.Tie as tie
 
@@ -19,24 +19,6 @@ abbrev μ-loop : tie.MeasureT-loop
 
 loop-holds : tie.Need-loop-holds Inv-loop μ-loop
 loop-holds c = (search needs, search needs, fill-none 0 16 (map (λ n. n % 256) (take 16 (c .args .t1))))
-
-mul-bytes : tie.Need-mul-bytes Inv-loop μ-loop
-mul-bytes c = search needs
-
-array-read-bytes : tie.Need-array-read-bytes Inv-loop μ-loop
-array-read-bytes c = search needs
-
-cast-bytes : tie.Need-cast-bytes Inv-loop μ-loop
-cast-bytes c = search needs
-
-array-write-bytes : tie.Need-array-write-bytes Inv-loop μ-loop
-array-write-bytes c = search needs
-
-add-i : tie.Need-add-i Inv-loop μ-loop
-add-i c = search needs
-
-loop-less : tie.Need-loop-less Inv-loop μ-loop
-loop-less c = search needs
 
 loop-again : tie.Need-loop-again Inv-loop μ-loop
 loop-again c =
@@ -64,14 +46,5 @@ pub bytes-of-spec : {M : Type 1} → statement M
 bytes-of-spec =
     tie.close
     (tie.spec
-    Inv-loop
-    μ-loop
-    loop-holds
-    mul-bytes
-    array-read-bytes
-    cast-bytes
-    array-write-bytes
-    add-i
-    loop-less
-    loop-again
-    returns)
+    Inv-loop μ-loop loop-holds (λ c. search needs) (λ c. search needs) (λ c. search needs) (λ c. search needs)
+    (λ c. search needs) (λ c. search needs) loop-again returns)

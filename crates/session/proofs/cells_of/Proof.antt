@@ -8,7 +8,7 @@ use mathlib.Core.List.{append-nil}
 use lib.ListN.{length, take, drop, getD}
 use lib.Seq.{getD-take, getD-drop}
 use Rattle.lists.proofs.Fill.{filled, fill-none, fill-turn, fill-all}
-use Rattle.session.specs.Acts.{cellPlaces}
+use Rattle.session.specs.LineActs.{cellPlaces}
 use Rattle.session.proofs.Rows.{sixteen}
 use Rattle.session.proofs.cells_of.Statement.{statement}
 use Rattle.session.proofs.cells_of.Tie as tie
@@ -21,27 +21,6 @@ abbrev μ-loop : tie.MeasureT-loop
 
 loop-holds : tie.Need-loop-holds Inv-loop μ-loop
 loop-holds c = (search needs, search needs, fill-none 0 16 (take 16 (drop 5 (c .args .t1))))
-
-add-cells : tie.Need-add-cells Inv-loop μ-loop
-add-cells c = search needs
-
-mul-cells : tie.Need-mul-cells Inv-loop μ-loop
-mul-cells c = search needs
-
-array-read-cells : tie.Need-array-read-cells Inv-loop μ-loop
-array-read-cells c = search needs
-
-mul-cells-2 : tie.Need-mul-cells-2 Inv-loop μ-loop
-mul-cells-2 c = search needs
-
-array-write-cells : tie.Need-array-write-cells Inv-loop μ-loop
-array-write-cells c = search needs
-
-add-i : tie.Need-add-i Inv-loop μ-loop
-add-i c = search needs
-
-loop-less : tie.Need-loop-less Inv-loop μ-loop
-loop-less c = search needs
 
 loop-again : tie.Need-loop-again Inv-loop μ-loop
 loop-again c =
@@ -67,15 +46,5 @@ pub cells-of-spec : {M : Type 1} → statement M
 cells-of-spec =
     tie.close
     (tie.spec
-    Inv-loop
-    μ-loop
-    loop-holds
-    add-cells
-    mul-cells
-    array-read-cells
-    mul-cells-2
-    array-write-cells
-    add-i
-    loop-less
-    loop-again
-    returns)
+    Inv-loop μ-loop loop-holds (λ c. search needs) (λ c. search needs) (λ c. search needs) (λ c. search needs)
+    (λ c. search needs) (λ c. search needs) (λ c. search needs) loop-again returns)

@@ -7,20 +7,8 @@ use borrow.Author.Needs.{needs}
 use Rattle.session.proofs.finish.Statement.{statement}
 use Rattle.session.proofs.finish.Tie as tie
 
-kept-len-requires : tie.Need-kept-len-requires
-kept-len-requires c κs = search needs
-
 returns : tie.Need-returns
 returns c = run-none _ _ _ (sym (c .before .kept-len .ensures) ∙ c .if1 .taken)
-
-slice-aggregate-feed : tie.Need-slice-aggregate-feed
-slice-aggregate-feed c = search needs
-
-feed-requires : tie.Need-feed-requires
-feed-requires c κs = search needs
-
-same-length : tie.Need-same-length
-same-length c = search needs
 
 returns-2 : tie.Need-returns-2
 returns-2 c =
@@ -31,4 +19,5 @@ returns-2 c =
 pub finish-spec : {M : Type 1} → statement M
 finish-spec =
     tie.close
-    (tie.spec kept-len-requires returns slice-aggregate-feed feed-requires same-length returns-2)
+    (tie.spec
+    (λ c κs. search needs) returns (λ c. search needs) (λ c κs. search needs) (λ c. search needs) returns-2)

@@ -1,27 +1,21 @@
--- `session::run_lines` meets its contract: none, or the run on the lent row.
+-- `session::run_lines` meets its contract: the run on the lent row.
 -- Assumes nothing.
-use borrow.Author.Tests.{lt-ltb, le-ltb}
-use Rattle.session.specs.Turns.{ranOf, ranOut, ranIn, ranInOut}
+use mathlib.Core.Path.{_∙_}
+use Rattle.held.proofs.Rows.{row-few}
+use Rattle.session.specs.Pace.{ranOf, ranOut, ranIn, ranInOut}
 use borrow.Author.Needs.{needs}
 use Rattle.session.proofs.run_lines.Statement.{statement}
 use Rattle.session.proofs.run_lines.Tie as tie
 
-returns : tie.Need-returns
-unfolding ranOf ranOut
-returns c = (rw (lt-ltb _ _ (c .if1 .taken)), rw (lt-ltb _ _ (c .if1 .taken)))
-
 run-in-requires : tie.Need-run-in-requires
-run-in-requires c κs = search needs
+run-in-requires c κs = rw (c .before .before .row-count .ensures) (row-few _)
 
-same-length : tie.Need-same-length
-same-length c = search needs
-
-returns-2 : tie.Need-returns-2
+returns : tie.Need-returns
 unfolding ranOf ranOut ranIn ranInOut
-returns-2 c =
+returns c =
     let r = c .before .before .before .before in
-    let few = le-ltb _ _ (r .before .before .before .if1 .left) in
-    (rw (few, r .run-in .ensures .0), rw few (r .run-in .ensures .1))
+    let many = r .before .before .before .row-count .ensures in
+    (rw (r .run-in .ensures .0, many), r .run-in .ensures .1 ∙ rw many)
 
 pub run-lines-spec : {M : Type 1} → statement M
-run-lines-spec = tie.close (tie.spec returns run-in-requires same-length returns-2)
+run-lines-spec = tie.close (tie.spec (λ c κs. search needs) run-in-requires (λ c. search needs) returns)

@@ -1,16 +1,10 @@
 use native.Mathlib.Omega.{arith}
 use mir.Facts.{toZ-ofZ}
-use Rattle.session.specs.Acts.{shuntOf}
+use Rattle.session.specs.LineActs.{shuntOf}
 use Rattle.session.proofs.Minus.{size-is, minus-fits}
 use borrow.Author.Needs.{needs}
 use Rattle.session.proofs.shunt_of.Statement.{statement}
 use Rattle.session.proofs.shunt_of.Tie as tie
-
-size-of-requires : tie.Need-size-of-requires
-size-of-requires c κs = search needs
-
-cast-top : tie.Need-cast-top
-cast-top c = search needs
 
 sub-result : tie.Need-sub-result
 sub-result c =
@@ -33,4 +27,4 @@ returns-2 c =
     rw (c .if1 .left, size-is n (omega arith), small)
 
 pub shunt-of-spec : {M : Type 1} → statement M
-shunt-of-spec = tie.close (tie.spec size-of-requires cast-top sub-result returns returns-2)
+shunt-of-spec = tie.close (tie.spec (λ c κs. search needs) (λ c. search needs) sub-result returns returns-2)

@@ -1,7 +1,7 @@
 -- `session::stop_at` meets its contract: the same place, with no line.
 -- Assumes nothing.
 use borrow.Author.Needs.{needs}
-use Rattle.session.specs.Turns.{stopAt}
+use Rattle.session.specs.Pace.{stopAt}
 use Rattle.session.proofs.stop_at.Statement.{statement}
 use Rattle.session.proofs.stop_at.Tie as tie
 

@@ -4,26 +4,14 @@ use borrow.Author.Tests.{le-leb, lt-leb}
 use mathlib.Core.Path.{ap}
 use Rattle.lines.specs.declared.Found.{Found}
 use Rattle.lines.specs.Field.{foundAt}
-use Rattle.session.specs.Turns.{turnOf, goOn}
+use Rattle.session.specs.Pace.{turnOf, goOn}
 use borrow.Author.Needs.{needs}
 use Rattle.session.proofs.take_line.Statement.{statement}
 use Rattle.session.proofs.take_line.Tie as tie
 
-tight-requires : tie.Need-tight-requires
-tight-requires c κs = search needs
-
-stop-at-requires : tie.Need-stop-at-requires
-stop-at-requires c κs = search needs
-
 returns : tie.Need-returns
 unfolding turnOf
 returns c = rw (c .stop-at .ensures, ← (c .before .before .tight .ensures), c .before .if1 .taken)
-
-line-at-requires : tie.Need-line-at-requires
-line-at-requires c κs = search needs
-
-stop-at-requires-2 : tie.Need-stop-at-requires-2
-stop-at-requires-2 c κs = search needs
 
 returns-2 : tie.Need-returns-2
 unfolding turnOf foundAt
@@ -31,12 +19,6 @@ returns-2 c =
     let l = c .before .before in
     let end = ap (λ (f : Found). f .end) (l .line-at .ensures) in
     rw (c .stop-at2 .ensures, ← (l .before .before .tight .ensures), l .before .if1 .left, ← end, le-leb _ _ (c .before .if2 .taken))
-
-is-open-requires : tie.Need-is-open-requires
-is-open-requires c κs = search needs
-
-stop-at-requires-3 : tie.Need-stop-at-requires-3
-stop-at-requires-3 c κs = search needs
 
 returns-3 : tie.Need-returns-3
 unfolding turnOf foundAt
@@ -46,12 +28,6 @@ returns-3 c =
     let end = ap (λ (f : Found). f .end) (l .line-at .ensures) in
     let line = ap (λ (f : Found). f .line) (l .line-at .ensures) in
     rw (c .stop-at3 .ensures, ← (l .before .before .tight .ensures), l .before .if1 .left, ← end, lt-leb _ _ (o .before .before .if2 .left), ← line, ← (o .is-open .ensures), c .before .if3 .taken)
-
-add-pace-at : tie.Need-add-pace-at
-add-pace-at c = search needs
-
-pace-at-requires : tie.Need-pace-at-requires
-pace-at-requires c κs = search needs
 
 returns-4 : tie.Need-returns-4
 unfolding turnOf goOn foundAt
@@ -66,15 +42,5 @@ pub take-line-spec : {M : Type 1} → statement M
 take-line-spec =
     tie.close
     (tie.spec
-    tight-requires
-    stop-at-requires
-    returns
-    line-at-requires
-    stop-at-requires-2
-    returns-2
-    is-open-requires
-    stop-at-requires-3
-    returns-3
-    add-pace-at
-    pace-at-requires
-    returns-4)
+    (λ c κs. search needs) (λ c κs. search needs) returns (λ c κs. search needs) (λ c κs. search needs) returns-2
+    (λ c κs. search needs) (λ c κs. search needs) returns-3 (λ c. search needs) (λ c κs. search needs) returns-4)
