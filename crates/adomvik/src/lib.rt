@@ -4,7 +4,7 @@ ghost use mathlib.Core.Path.{_≡_};
 ghost use Rattle.stack.specs.Sample.{sampleRow};
 ghost use Rattle.stack.specs.Frame.{frameRow, frameBuffer};
 ghost use Rattle.board.specs.Sample.{sampleOf};
-ghost use Rattle.marks.specs.Marks.{bit};
+ghost use Rattle.lists.specs.Marks.{bit};
 ghost use Rattle.adomvik.specs.Open.{openNumber, openRow};
 ghost use Rattle.adomvik.specs.Way.{byteCount, refusedFill, startOf, more, putOf, fillAt, fillRowAt, fillEnd, fillRow};
 ghost use Rattle.adomvik.specs.Told.{toldSample, toldReading, numberOfReply};

@@ -13,7 +13,7 @@ use Rattle.refusal.specs.Said.{accepts}
 use Rattle.settings.specs.Levels.{ocdLevel, scdLevel}
 use Rattle.settings.specs.Faults.{SCD, OCD, delay}
 use Rattle.runs.specs.Kept.{runNext, stood}
-use Rattle.marks.specs.Marks.{number}
+use Rattle.lists.specs.Marks.{number}
 use Rattle.cells.specs.declared.Swept.{Swept}
 use Rattle.cells.specs.Ends.{spanOf}
 use Rattle.cells.specs.Cells.{calmOf}

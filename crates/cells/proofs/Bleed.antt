@@ -11,8 +11,8 @@ use lib.Dec.{eqb}
 use lib.ListN.{length, drop, length-drop, drop-of-length-le}
 use lib.Seq.{drop-cons}
 use lib.Pow.{pow-mono}
-use Rattle.marks.specs.Marks.{number, marked, marks}
-use Rattle.marks.proofs.Laws.{marks-length, marks-at, number-below}
+use Rattle.lists.specs.Marks.{number, marked, marks}
+use Rattle.lists.proofs.Marks.{marks-length, marks-at, number-below}
 use Rattle.cells.specs.Bleed.{next, bled, markNext}
 
 -- a cell below others, and the number with it

@@ -10,13 +10,13 @@ use lib.Dec.{ltb}
 use lib.ListN.{length, take, drop, set, take-append-drop, length-append, length-take, length-drop, List·getD-append}
 use lib.Seq.{getD-take}
 use Rattle.runs.specs.Kept.{runNext, stood}
-use Rattle.marks.specs.Marks.{number, marked, marks}
-use Rattle.marks.proofs.Laws.{number-below, marks-number}
+use Rattle.lists.specs.Marks.{number, marked, marks}
+use Rattle.lists.proofs.Marks.{number-below, marks-number}
 use Rattle.cells.specs.declared.Cell.{Cell}
-use Rattle.cells.specs.Each.{each}
+use Rattle.lists.specs.Each.{each}
 use Rattle.cells.specs.Bleed.{bled, markNext}
 use Rattle.cells.specs.Cells.{cellBy, cellAt, readingAt, cellCount, flagAt, Limits, nextAt, ovStoodAt, uvStoodAt, flaggedAt, sweepBy}
-use Rattle.cells.proofs.Each.{each-length, each-down, each-none, each-same, set-front}
+use Rattle.lists.proofs.Each.{each-length, each-down, each-none, each-same, set-front}
 use Rattle.cells.proofs.Bleed.{mark-turn, below-ten}
 use Rattle.cells.proofs.Sets.{set-at}
 

@@ -7,11 +7,11 @@ use lib.ListN.{length, drop, List·getD-append}
 use Rattle.settings.specs.declared.Settings.{Settings}
 use Rattle.settings.specs.Levels.{ovDelay, uvDelay}
 use Rattle.runs.specs.Kept.{stood}
-use Rattle.marks.specs.Marks.{marked}
+use Rattle.lists.specs.Marks.{marked}
 use Rattle.cells.specs.declared.Cell.{Cell}
-use Rattle.cells.specs.Each.{each}
+use Rattle.lists.specs.Each.{each}
 use Rattle.cells.specs.Cells.{cellNext, flagNext, cellAt, readingAt, cellCount, limitsOf, nextAt, ovStoodAt, uvStoodAt, flaggedAt, sweepBy, sweepOf}
-use Rattle.cells.proofs.Each.{each-length, each-place}
+use Rattle.lists.proofs.Each.{each-length, each-place}
 use Rattle.cells.proofs.Sets.{set-at}
 
 module _ (s : Settings) (elapsed : ℕ) (cells : List Cell) (flags : ℕ) (mv : List ℕ) where

@@ -1,4 +1,3 @@
-pub mod Each
 pub mod Bleed
 pub mod Sets
 pub mod Ends

@@ -9,11 +9,11 @@ use mathlib.Core.List.{List, [], _∷_}
 use borrow.Author.Tests.{ne-eqb}
 use lib.Bits.{bitOr}
 use lib.Dec.{eqb}
-use Rattle.marks.specs.Marks.{number, marked, marks, lowest}
-use Rattle.marks.proofs.Laws.{without, number-at, number-marks, or-turn, without-turn, lowest-zero}
-use Rattle.cells.specs.Each.{each, some}
+use Rattle.lists.specs.Marks.{number, marked, marks, lowest}
+use Rattle.lists.proofs.Marks.{without, number-at, number-marks, or-turn, without-turn, lowest-zero}
+use Rattle.lists.specs.Each.{each, some}
 use Rattle.cells.specs.Cells.{flagAt}
-use Rattle.cells.proofs.Each.{each-length, each-place}
+use Rattle.lists.proofs.Each.{each-length, each-place}
 
 module _ (f g : ℕ → Bool) where
   or-each : (i n : ℕ) → bitOr (number (each i n f)) (number (each i n g)) ≡ number (each i n (λ k. f k || g k))

@@ -14,14 +14,14 @@ use Rattle.lists.proofs.Every.{every-at}
 use Rattle.settings.specs.declared.Settings.{Settings}
 use Rattle.settings.specs.Levels.{ovLevel, ovRelease, uvLevel, uvRelease}
 use Rattle.runs.specs.Kept.{runNext, stood}
-use Rattle.marks.specs.Marks.{number}
-use Rattle.marks.proofs.Laws.{marked-above}
+use Rattle.lists.specs.Marks.{number}
+use Rattle.lists.proofs.Marks.{marked-above}
 use Rattle.cells.specs.declared.Cell.{Cell}
-use Rattle.cells.specs.Each.{each}
+use Rattle.lists.specs.Each.{each}
 use Rattle.cells.specs.Bleed.{bled}
 use Rattle.cells.specs.Cells.{cellBy, cellAt, readingAt, cellCount, limitsOf, nextAt, ovStoodAt, uvStoodAt, flaggedAt, sweepBy, sweepOf, readable, noRun, noRuns, calmOf}
 use Rattle.cells.specs.Ends.{lowOf, highOf, spanOf}
-use Rattle.cells.proofs.Each.{each-same}
+use Rattle.lists.proofs.Each.{each-same}
 use Rattle.cells.proofs.Ends.{every-within, all-below-release, all-above-release}
 
 -- ---- lists by places

@@ -9,11 +9,11 @@ use Rattle.lists.specs.Every.{every}
 use Rattle.settings.specs.declared.Settings.{Settings}
 use Rattle.settings.specs.Levels.{ovLevel, ovRelease, ovDelay, uvLevel, uvRelease, uvDelay}
 use Rattle.runs.specs.Kept.{runNext, stood}
-use Rattle.marks.specs.Marks.{number, marked}
+use Rattle.lists.specs.Marks.{number, marked}
 use Rattle.cells.specs.declared.Cell.{Cell}
 use Rattle.cells.specs.declared.Span.{Span}
 use Rattle.cells.specs.declared.Swept.{Swept}
-use Rattle.cells.specs.Each.{each}
+use Rattle.lists.specs.Each.{each}
 use Rattle.cells.specs.Bleed.{bled}
 
 -- OV is a cell above its level, UV a cell below its level; a cell keeps a run of each

@@ -1,4 +1,3 @@
-pub mod Each
 pub mod Bleed
 pub mod Ends
 pub mod Cells

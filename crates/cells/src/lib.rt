@@ -4,9 +4,9 @@ ghost use mathlib.Core.Path.{_≡_};
 ghost use Prim.Native.Nat.{min, max, _^_, _<_, _≤_};
 ghost use mathlib.Core.Bool.{cond};
 ghost use lib.Dec.{eqb};
-ghost use Rattle.marks.specs.Marks.{number, marks};
+ghost use Rattle.lists.specs.Marks.{number, marks};
 ghost use Rattle.cells.specs.Cells.{flagAt, sweepOf, noCells, noRuns, calmOf};
-ghost use Rattle.cells.specs.Each.{each};
+ghost use Rattle.lists.specs.Each.{each};
 ghost use Rattle.cells.specs.Bleed.{bled, markNext};
 ghost use Rattle.cells.specs.Ends.{spanOf};
 use settings::Settings;
@@ -113,7 +113,7 @@ fn bled_of(flags: u16, cells: usize) -> u16
     let mut i = cells_to_search(flags, cells);
     while 0 < i {
         i -= 1;
-        bleeds = marks::mark_at(flags, i) & !bleeds;
+        bleeds = lists::mark_at(flags, i) & !bleeds;
         out = mark_next(bleeds, out);
     }
     out

@@ -10,10 +10,10 @@ use lib.Dec.{ltb, eqb}
 use lib.ListN.{length, getD}
 use borrow.Author.Tests.{ltb-true, lt-ltb, eqb-true, eq-eqb}
 use Rattle.lists.proofs.Split.{split, both}
-use Rattle.marks.specs.Marks.{bit}
-use Rattle.marks.specs.Marks.{number, marks, lowest}
+use Rattle.lists.specs.Marks.{bit}
+use Rattle.lists.specs.Marks.{number, marks, lowest}
 use Rattle.lists.specs.Every.{every}
-use Rattle.cells.specs.Each.{each, all}
+use Rattle.lists.specs.Each.{each, all}
 use Rattle.cells.specs.Bleed.{bled}
 use Rattle.latches.specs.Latches.{latchesByte}
 use Rattle.board.specs.Shunt.{shuntAbove}

@@ -13,14 +13,14 @@ use Rattle.settings.specs.Levels.{ovRelease, uvRelease}
 use Rattle.settings.specs.declared.Settings.{Settings}
 use Rattle.settings.specs.Bytes.{withByte, same}
 use Rattle.settings.specs.Faults.{Fault, SCD, OCD, OV, UV, OT, delay}
-use Rattle.marks.specs.Marks.{number, marked}
+use Rattle.lists.specs.Marks.{number, marked}
 use Rattle.runs.specs.Run.{past, lasting, stretch, total}
 use Rattle.runs.specs.Kept.{kept, runNext, stood}
 use Rattle.runs.proofs.Laws.{kept-run, stood-delay}
 use Rattle.cells.specs.declared.Cell.{Cell}
 use Rattle.cells.specs.declared.Swept.{Swept}
-use Rattle.cells.specs.Each.{each, some as someOf}
-use Rattle.cells.proofs.Each.{all-places}
+use Rattle.lists.specs.Each.{each, some as someOf}
+use Rattle.lists.proofs.Each.{all-places}
 use Rattle.cells.proofs.Sets.{some-number, set-at}
 use Rattle.cells.specs.Bleed.{bled}
 use Rattle.cells.specs.Cells.{cellBy, cellAt, readingAt, cellCount, noCells, limitsOf, nextAt, flaggedAt, flagBy, sweepBy}

@@ -7,10 +7,10 @@ use mathlib.Core.Path.{_≡_, refl, sym, ap, ap₂, _∙_}
 use mathlib.Core.Bool.{Bool, true, false, true≢false}
 use mathlib.Core.List.{List, _∷_, _++_}
 use lib.ListN.{length, getD, drop, replicate, List·getD-append}
-use Rattle.marks.specs.Marks.{number}
+use Rattle.lists.specs.Marks.{number}
 use Rattle.lists.proofs.Split.{split, both}
-use Rattle.cells.specs.Each.{each, some, all}
-use Rattle.cells.proofs.Each.{each-length, each-place}
+use Rattle.lists.specs.Each.{each, some, all}
+use Rattle.lists.proofs.Each.{each-length, each-place}
 
 -- two rules that agree at every place
 each-from : {A : Type 0} (i n : ℕ) (f g : ℕ → A) → ((k : ℕ) → k < i + n → f k ≡ g k) → each i n f ≡ each i n g

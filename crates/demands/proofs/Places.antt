@@ -11,7 +11,7 @@ use lib.ListN.{length, getD, take, drop, length-map, List·getD-map}
 use lib.Seq.{split-at}
 use borrow.Author.Tests.{ltb-true, lt-ltb, eqb-true, eqb-false, eq-eqb, ne-eqb}
 use Rattle.lists.proofs.Split.{split}
-use Rattle.marks.specs.Marks.{bit}
+use Rattle.lists.specs.Marks.{bit}
 use Rattle.demands.specs.Shuffle.{picked, times, turn, Shuffle, Free, TakenOut}
 
 -- ---- an order whose places are called otherwise

@@ -4,8 +4,8 @@ use Prim.Native.Nat.{ℕ}
 use mathlib.Core.Path.{_≡_, refl, ap, _∙_}
 use mathlib.Core.List.{List, map}
 use Rattle.lists.specs.Every.{every}
-use Rattle.marks.specs.Marks.{number, marks, lowest}
-use Rattle.cells.specs.Each.{each}
+use Rattle.lists.specs.Marks.{number, marks, lowest}
+use Rattle.lists.specs.Each.{each}
 use Rattle.cells.specs.Bleed.{bled}
 use Rattle.latches.specs.Latches.{latchesByte, register0}
 use Rattle.board.specs.Shunt.{shuntAbove}

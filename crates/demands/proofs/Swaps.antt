@@ -9,7 +9,7 @@ use mathlib.Core.List.{List, [], _∷_, _++_, map}
 use lib.Dec.{ltb, eqb, leb·suc-suc, eqb·zero-suc, eqb·suc-zero, eqb·suc-suc}
 use lib.ListN.{length, getD}
 use borrow.Author.Tests.{ltb-true, lt-ltb, le-ltb}
-use Rattle.marks.specs.Marks.{bit}
+use Rattle.lists.specs.Marks.{bit}
 use Rattle.demands.specs.Shuffle.{picked, times, turn, Shuffle, Shuffled, Free, TakenOut, Swaps, as-it-is, swap}
 use Rattle.demands.proofs.Places.{same-place, renamed-times, renamed-turn, renamed-picked, taken-out}
 

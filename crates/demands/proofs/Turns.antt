@@ -14,7 +14,7 @@ use Rattle.lists.proofs.Split.{split}
 use Rattle.settings.specs.Levels.{ovLevel, ocdLevel, scdLevel}
 use Rattle.settings.specs.Faults.{Fault, SCD, OCD, OV, delay}
 use Rattle.runs.specs.Run.{run, stretch, lasting, past}
-use Rattle.cells.specs.Each.{each, some}
+use Rattle.lists.specs.Each.{each, some}
 use Rattle.cells.specs.Cells.{readingAt}
 use Rattle.board.specs.declared.Readings.{Readings}
 use Rattle.board.proofs.Signed.{above-none}

@@ -8,7 +8,7 @@ use lib.Dec.{eqb}
 use lib.ListN.{length, getD, set, drop}
 use Rattle.refusal.specs.Said.{accepts, first, judged, kept}
 use Rattle.settings.specs.Bytes.{byteOf}
-use Rattle.marks.specs.Marks.{number}
+use Rattle.lists.specs.Marks.{number}
 use Rattle.cells.specs.Bleed.{bled}
 use Rattle.latches.specs.Latches.{anyLatch, chgOn, dsgOn, register0}
 use Rattle.board.specs.declared.Board.{Board}

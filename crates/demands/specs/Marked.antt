@@ -9,8 +9,8 @@ use lib.IntN.{ℤ, pos, negsuc}
 use Rattle.settings.specs.declared.Settings.{Settings}
 use Rattle.settings.specs.Levels.{uvRelease, ocdDelay}
 use Rattle.settings.specs.Faults.{Fault, SCD, OV}
-use Rattle.marks.specs.Marks.{bit, number}
-use Rattle.cells.specs.Each.{each}
+use Rattle.lists.specs.Marks.{bit, number}
+use Rattle.lists.specs.Each.{each}
 use Rattle.cells.specs.Bleed.{bled}
 use Rattle.latches.specs.Latches.{register0}
 use Rattle.board.specs.Shunt.{shuntAbove}

@@ -10,11 +10,11 @@ use Rattle.settings.specs.declared.Settings.{Settings}
 use Rattle.settings.specs.Levels.{factory, ovLevel, ovRelease, uvLevel, uvRelease, ocdLevel, scdLevel}
 use Rattle.settings.specs.Bytes.{withByte, same}
 use Rattle.settings.specs.Faults.{Fault, SCD, OCD, OV, UV, OT, delay}
-use Rattle.marks.specs.Marks.{number}
+use Rattle.lists.specs.Marks.{number}
 use Rattle.runs.specs.Run.{run, past}
 use Rattle.runs.specs.Kept.{kept}
 use Rattle.cells.specs.declared.Cell.{Cell}
-use Rattle.cells.specs.Each.{each, some, all}
+use Rattle.lists.specs.Each.{each, some, all}
 use Rattle.cells.specs.Cells.{flagNext, readingAt, noCells}
 use Rattle.latches.specs.declared.Latches.{Latches}
 use Rattle.latches.specs.Latches.{latches, latchNext, latchesByte}

@@ -6,8 +6,8 @@ use mathlib.Core.Bool.{Bool, true, false, cond, not, _&&_, _||_}
 use mathlib.Core.List.{List, [], _∷_, _++_, map}
 use lib.Dec.{ltb, eqb}
 use lib.ListN.{length, getD}
-use Rattle.marks.specs.Marks.{bit}
-use Rattle.cells.specs.Each.{each, all}
+use Rattle.lists.specs.Marks.{bit}
+use Rattle.lists.specs.Each.{each, all}
 
 -- ---- by places
 

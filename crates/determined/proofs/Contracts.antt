@@ -44,7 +44,7 @@ use Rattle.settings.proofs.Settings.byte.Reads as settings-byte
 use Rattle.settings.proofs.Settings.with_byte.Reads as settings-with-byte
 use Rattle.settings.proofs.Settings.same.Reads as settings-same
 use Rattle.settings.proofs.Settings.allows.Reads as settings-allows
-use Rattle.marks.proofs.mark_at.Reads as marks-mark-at
+use Rattle.lists.proofs.mark_at.Reads as lists-mark-at
 use Rattle.runs.proofs.advance.Reads as runs-advance
 use Rattle.runs.proofs.has_stood.Reads as runs-has-stood
 use Rattle.cells.proofs.sweep.Reads as cells-sweep
@@ -154,9 +154,9 @@ settings-same-one κs a r t s u = agree
 pub settings-allows-one : (κs : _) (a : _) (r t : _) (s u : _) → settings-allows.Learnt κs a r s → settings-allows.Learnt κs a t u → r ≡ t
 settings-allows-one κs a r t s u = agree
 
--- ---- marks
-pub marks-mark-at-one : (κs : _) (a : _) (r t : _) (s u : _) → marks-mark-at.Learnt κs a r s → marks-mark-at.Learnt κs a t u → r ≡ t
-marks-mark-at-one κs a r t s u = agree
+-- ---- lists
+pub lists-mark-at-one : (κs : _) (a : _) (r t : _) (s u : _) → lists-mark-at.Learnt κs a r s → lists-mark-at.Learnt κs a t u → r ≡ t
+lists-mark-at-one κs a r t s u = agree
 
 -- ---- runs
 pub runs-advance-one : (κs : _) (a : _) (r t : _) (s u : _) → runs-advance.Learnt κs a r s → runs-advance.Learnt κs a t u → r ≡ t

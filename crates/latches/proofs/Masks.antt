@@ -8,7 +8,7 @@ use lib.Dec.{eqb}
 use borrow.Author.Tests.{eqb-true}
 use Rattle.lists.proofs.Split.{both}
 use Rattle.lists.proofs.Below.{right-below, right-at}
-use Rattle.marks.specs.Marks.{number}
+use Rattle.lists.specs.Marks.{number}
 use Rattle.latches.specs.Latches.{anyLatch, chgOn, dsgOn, latchesOf, latchesByte}
 
 -- what the three masks say of a byte, and what its lower five bits do

@@ -5,8 +5,8 @@ use native.Mathlib.Omega.{arith}
 use mathlib.Core.Path.{_≡_}
 use mathlib.Core.Bool.{Bool}
 use mathlib.Core.List.{List, [], _∷_}
-use Rattle.marks.specs.Marks.{bit, number}
-use Rattle.marks.proofs.Laws.{number-at}
+use Rattle.lists.specs.Marks.{bit, number}
+use Rattle.lists.proofs.Marks.{number-at}
 use Rattle.latches.specs.declared.Latches.{Latches}
 use Rattle.latches.specs.Latches.{chgOn, dsgOn, register0, latchesByte, latchesOf}
 

@@ -4,7 +4,7 @@ use Prim.Native.Nat.{ℕ}
 use mathlib.Core.Bool.{Bool, false, cond, not, _||_}
 use mathlib.Core.List.{[], _∷_}
 use Rattle.settings.specs.Faults.{Fault, SCD, OCD, OV, UV, OT}
-use Rattle.marks.specs.Marks.{number, marked}
+use Rattle.lists.specs.Marks.{number, marked}
 use Rattle.latches.specs.declared.Latches.{Latches}
 
 -- one latch

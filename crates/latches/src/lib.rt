@@ -1,7 +1,7 @@
 // The latches of the five faults, the switches, and register 0 (01, Frames and registers; When a fault latches and lets go).
 ghost use mathlib.Core.Path.{_≡_};
 ghost use Prim.Native.Nat.{_≤_};
-ghost use Rattle.marks.specs.Marks.{bit};
+ghost use Rattle.lists.specs.Marks.{bit};
 ghost use Rattle.latches.specs.Latches.{latchNext, latchesOf, latchesByte, anyLatch, chgOn, dsgOn, register0};
 
 // Which faults are latched.

@@ -2,3 +2,5 @@ pub mod Split
 pub mod Every
 pub mod Fill
 pub mod Below
+pub mod Each
+pub mod Marks

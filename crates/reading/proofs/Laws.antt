@@ -7,8 +7,8 @@ use mathlib.Core.Bool.{Bool, true, false, cond, _&&_, _||_, or-assoc}
 use mathlib.Core.List.{List, [], _∷_, _++_}
 use borrow.Author.Tests.{ne-eqb}
 use lib.Dec.{eqb}
-use Rattle.marks.specs.Marks.{number, marks}
-use Rattle.marks.proofs.Laws.{lowest-zero}
+use Rattle.lists.specs.Marks.{number, marks}
+use Rattle.lists.proofs.Marks.{lowest-zero}
 use Rattle.reading.specs.declared.Summary.{Summary}
 use Rattle.reading.specs.declared.Place.{Place}
 use Rattle.lists.specs.Every.{every}

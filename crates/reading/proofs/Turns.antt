@@ -11,8 +11,8 @@ use lib.Dec.{eqb}
 use lib.ListN.{length, length-map, length-append}
 use borrow.Author.Tests.{eqb-true, lt-leb, not-false}
 use Rattle.lists.specs.Every.{every}
-use Rattle.marks.specs.Marks.{number, marks}
-use Rattle.marks.proofs.Laws.{marks-number, number-below, lowest-zero}
+use Rattle.lists.specs.Marks.{number, marks}
+use Rattle.lists.proofs.Marks.{marks-number, number-below, lowest-zero}
 use Rattle.board.specs.declared.Board.{Board}
 use Rattle.reading.specs.declared.Summary.{Summary}
 use Rattle.reading.specs.Reading.{summaryOf, lineUp, chgOn, dsgOn, place, firstFlagged, readOf}

@@ -5,7 +5,7 @@ use mathlib.Core.Bool.{Bool, false, cond, _||_}
 use mathlib.Core.List.{List, [], _∷_}
 use lib.Dec.{eqb}
 use Rattle.lists.specs.Every.{every}
-use Rattle.marks.specs.Marks.{bit, marks, lowest}
+use Rattle.lists.specs.Marks.{bit, marks, lowest}
 use Rattle.board.specs.declared.Board.{Board}
 use Rattle.latches.specs.Latches.{latchesOf, anyLatch}
 use Rattle.latches.specs.Latches as boards

@@ -8,7 +8,7 @@ use lib.Bits.{bitOr}
 use lib.Dec.{leb, eqb}
 use lib.ListN.{length}
 use Rattle.lists.specs.Every.{every}
-use Rattle.marks.specs.Marks.{number, marks}
+use Rattle.lists.specs.Marks.{number, marks}
 use Rattle.board.specs.declared.Board.{Board}
 use Rattle.reading.specs.declared.Summary.{Summary}
 use Rattle.reading.specs.declared.Place.{Place}

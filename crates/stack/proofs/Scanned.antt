@@ -14,7 +14,7 @@ use Rattle.lists.proofs.Split.{split}
 use Rattle.walks.proofs.Fold.{folded}
 use Rattle.refusal.specs.Said.{accepts}
 use Rattle.refusal.proofs.Laws.{said-refused}
-use Rattle.marks.specs.Marks.{bit}
+use Rattle.lists.specs.Marks.{bit}
 use Rattle.board.specs.declared.Board.{Board}
 use Rattle.reading.specs.declared.Seen.{Seen}
 use Rattle.reading.specs.declared.Summary.{Summary}

@@ -13,7 +13,7 @@ use borrow.Author.Tests.{ne-eqb, lt-leb}
 use Rattle.lists.specs.Every.{every}
 use Rattle.lists.proofs.Split.{split, both}
 use Rattle.walks.proofs.Sought.{within, sought}
-use Rattle.marks.specs.Marks.{marked, marks, lowest}
+use Rattle.lists.specs.Marks.{marked, marks, lowest}
 use Rattle.board.specs.declared.Board.{Board}
 use Rattle.board.specs.Sample.{badBoard}
 use Rattle.reading.specs.declared.Place.{Place}

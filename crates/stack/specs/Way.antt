@@ -7,7 +7,7 @@ use mathlib.Core.List.{List, [], _∷_, map}
 use lib.Dec.{ltb, leb}
 use lib.ListN.{length, set, take}
 use Rattle.refusal.specs.Refusals.{numbered}
-use Rattle.marks.specs.Marks.{marked}
+use Rattle.lists.specs.Marks.{marked}
 use Rattle.board.specs.declared.Board.{Board}
 use Rattle.board.specs.declared.Readings.{Readings}
 use Rattle.board.specs.declared.Answer.{Answer}

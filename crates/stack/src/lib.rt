@@ -11,7 +11,7 @@ ghost use Rattle.stack.specs.Open.{goodCounts, freshRow, noStack, openOf
 ghost use Rattle.stack.specs.Sample.{sampleAnswer, sampleRow};
 ghost use Rattle.stack.specs.Way.{sampleAnswerAt, sampleRowAt, noSample, noRowSample, askedPlace, obeyOutcomeAt, obeyRowAt, frameAnswerIn, frameRowIn, frameBufferIn, noOutcome, noRowReply, seenRow, placeAt, firstFrom, lookOf, viewOf, noRowView};
 ghost use Rattle.stack.specs.Frame.{frameAnswer, frameRow, frameBuffer};
-ghost use Rattle.marks.specs.Marks.{marked};
+ghost use Rattle.lists.specs.Marks.{marked};
 ghost use Rattle.reading.specs.Reading.{place};
 ghost use Rattle.stack.specs.Read.{readingOf};
 use board::Answer;
@@ -297,7 +297,7 @@ fn cell_count(b: Board) -> usize
 fn is_flagged(b: Board, cell: usize) -> bool
     ensures { λ r. ⌜ r ≡ marked (b .flags) cell ⌝ }
 {
-    marks::mark_at(b.flags, cell)
+    lists::mark_at(b.flags, cell)
 }
 
 // The southernmost board with a flagged cell, and the lowest such cell on it: the first one found ends both loops.

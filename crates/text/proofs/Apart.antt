@@ -9,7 +9,7 @@ use mathlib.Core.List.{List, [], _∷_, _++_, append-assoc}
 use lib.Dec.{ltb, eqb}
 use lib.ListN.{getD}
 use borrow.Author.Tests.{le-ltb}
-use Rattle.marks.specs.Marks.{bit}
+use Rattle.lists.specs.Marks.{bit}
 use Rattle.acts.specs.declared.Told.{Told}
 use Rattle.acts.specs.declared.Told.the-variants.{Opened, Refused, Status, Reply, Reading}
 use Rattle.text.specs.Text.{bytes, digit, decimal, wordsOf, textOf, Typed}

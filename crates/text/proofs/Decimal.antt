@@ -10,7 +10,7 @@ use lib.ListN.{length, length-append}
 use borrow.Author.Tests.{leb-false}
 use borrow.Table.Steps.{cases}
 use mir.Val.{boolByte}
-use Rattle.marks.specs.Marks.{bit}
+use Rattle.lists.specs.Marks.{bit}
 use Rattle.text.specs.Text.{digit, placeOf, decimal}
 
 -- a place takes one digit at most, so five are enough

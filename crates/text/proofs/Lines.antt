@@ -8,7 +8,7 @@ use mathlib.Core.List.{List, [], _∷_, _++_, append-assoc, append-nil}
 use lib.Dec.{eqb, leb}
 use lib.ListN.{length, length-append}
 use borrow.Author.Tests.{ne-eqb, leb-true}
-use Rattle.marks.specs.Marks.{bit}
+use Rattle.lists.specs.Marks.{bit}
 use Rattle.lists.specs.Every.{every}
 use Rattle.lists.proofs.Split.{split}
 use Rattle.acts.specs.declared.Told.{Told}

@@ -2,7 +2,7 @@
 ghost use mathlib.Core.List.{[], _∷_, _++_};
 ghost use Prim.Native.Nat.{_+_, _<_, _≤_};
 ghost use lib.ListN.{length};
-ghost use Rattle.marks.specs.Marks.{bit};
+ghost use Rattle.lists.specs.Marks.{bit};
 ghost use Rattle.acts.specs.declared.Told.the-variants as told;
 ghost use Rattle.text.specs.Text.{Put, placed, digit, placeOf, decimal, wordsOf};
 use acts::Told;

@@ -4,7 +4,7 @@ use Prim.Native.Nat.{_<_}
 use native.Mathlib.Omega.{arith}
 use borrow.Author.Needs.{needs}
 use lib.Pow.{pow-pos}
-use Rattle.marks.proofs.Laws.{place-worth}
+use Rattle.lists.proofs.Marks.{place-worth}
 use Rattle.cells.proofs.Sets.{flags-set}
 use Rattle.cells.proofs.flags_next.Statement.{statement}
 use Rattle.cells.proofs.flags_next.Tie as tie

@@ -4,7 +4,7 @@ use Prim.Native.Nat.{ℕ, _<_}
 use mathlib.Core.Path.{sym, _∙_}
 use borrow.Author.Tests.{eq-eqb, ne-eqb}
 use borrow.Author.Needs.{needs}
-use Rattle.marks.specs.Marks.{marks}
+use Rattle.lists.specs.Marks.{marks}
 use Rattle.reading.specs.Way.{up}
 use Rattle.reading.proofs.Turns.{up-none, up-next}
 use borrow.Fn.Kinds.{In}

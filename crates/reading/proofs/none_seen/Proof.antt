@@ -1,6 +1,6 @@
 use mathlib.Core.Path.{refl}
 use Rattle.lists.specs.Every.{every}
-use Rattle.marks.specs.Marks.{number}
+use Rattle.lists.specs.Marks.{number}
 use Rattle.reading.specs.Way.{someFlag, seenOf}
 use Rattle.reading.proofs.none_seen.Statement.{statement}
 use Rattle.reading.proofs.none_seen.Tie as tie

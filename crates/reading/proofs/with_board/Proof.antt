@@ -1,5 +1,5 @@
 use borrow.Author.Needs.{needs}
-use Rattle.marks.proofs.Laws.{place-worth}
+use Rattle.lists.proofs.Marks.{place-worth}
 use Rattle.reading.proofs.with_board.Statement.{statement}
 use Rattle.reading.proofs.with_board.Tie as tie
 

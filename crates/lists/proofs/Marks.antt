@@ -12,7 +12,7 @@ use lib.Bits.{bitAnd, bitOr, bitXor, differ, and-step, or-step, xor-step}
 use lib.Dec.{eqb, lit<}
 use lib.ListN.{length, getD}
 use lib.Pow.{pow-mono, mod-pow-add, shl-exact}
-use Rattle.marks.specs.Marks.{bit, number, marked, marks, lowest}
+use Rattle.lists.specs.Marks.{bit, number, marked, marks, lowest}
 
 -- a number of w places has no cell from place w up
 pub marked-above : (w set at : ℕ) → set < 2 ^ w → w ≤ at → marked set at ≡ false

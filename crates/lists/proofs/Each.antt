@@ -8,8 +8,8 @@ use mathlib.Core.Bool.{Bool}
 use mathlib.Core.List.{List, [], _∷_, _++_}
 use lib.ListN.{length, getD, take, drop, set, drop-of-length-le}
 use lib.Seq.{drop-cons}
 use Rattle.lists.specs.Every.{every}
-use Rattle.cells.specs.Each.{each, all}
+use Rattle.lists.specs.Each.{each, all}
 
 module _ {A : Type 0} (f : ℕ → A) where
   pub each-length : (i n : ℕ) → length (each i n f) ≡ n

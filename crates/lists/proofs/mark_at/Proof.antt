@@ -2,9 +2,9 @@
 -- Assumes nothing.
 use mathlib.Core.Path.{sym}
 use borrow.Author.Needs.{needs}
-use Rattle.marks.proofs.Laws.{marked-above}
-use Rattle.marks.proofs.mark_at.Statement.{statement}
-use Rattle.marks.proofs.mark_at.Tie as tie
+use Rattle.lists.proofs.Marks.{marked-above}
+use Rattle.lists.proofs.mark_at.Statement.{statement}
+use Rattle.lists.proofs.mark_at.Tie as tie
 
 returns : tie.Need-returns
 returns c = sym (marked-above 16 (c .before .args .set) (c .before .args .at) (search needs) (search needs))
