@@ -13,12 +13,6 @@ use Rattle.adomvik.proofs.Sampled as Sampled
 use Rattle.adomvik.proofs.Sampled.Laws as Sampled′
 use Rattle.adomvik.proofs.Reading as Reading
 use Rattle.adomvik.proofs.Reading.Laws as Reading′
-use Rattle.board.proofs.Board as Board
-use Rattle.stack.proofs.Known as stack
-use Rattle.adomvik.proofs.Progress as Progress
-use Rattle.adomvik.proofs.Progress.Laws as Progress′
-use Rattle.adomvik.proofs.Placed as Placed
-use Rattle.adomvik.proofs.Placed.Laws as Placed′
 use Rattle.adomvik.proofs.ToldSample as ToldSample
 use Rattle.adomvik.proofs.ToldSample.Laws as ToldSample′
 use Rattle.adomvik.proofs.ToldReading as ToldReading
@@ -33,9 +27,6 @@ module _ {M : Type 1} (𝓤 : URA M) (H : Heap 𝓤) (A : Atoms 𝓤) (W : Given
 
   abbrev pub reading : PlainType 𝓤 H A Reading.the-row
   reading = struct 𝓤 H A W Reading.the-type Reading′.the-laws Reading′.the-plain Reading′.the-copy
-
-  abbrev pub progress : PlainType 𝓤 H A Progress.the-row
-  progress = struct 𝓤 H A W Progress.the-type Progress′.the-laws Progress′.the-plain Progress′.the-copy
 
   -- what the functions by value return
   abbrev pub told-sample : PlainPair 𝓤 H A ToldSample.the-type Sampled.the-row u8 (λ z. z .out) (λ z. z .number)
@@ -58,15 +49,4 @@ module _ {M : Type 1} (𝓤 : URA M) (H : Heap 𝓤) (A : Atoms 𝓤) (W : Given
         laid-out = refl;
         spelled = λ z. refl;
         owed = λ z is. (LL.owed ToldReading.the-type ToldReading′.the-laws z _ is .0, LL.owed ToldReading.the-type ToldReading′.the-laws z _ is .1 .0);
-      }
-
-  abbrev pub placed : PlainPair 𝓤 H A Placed.the-type Board.the-row Progress.the-row (λ z. z .board) (λ z. z .next)
-  placed =
-      record {
-        both = struct 𝓤 H A W Placed.the-type Placed′.the-laws Placed′.the-plain Placed′.the-copy;
-        first = stack.board 𝓤 H A W;
-        second = progress;
-        laid-out = refl;
-        spelled = λ z. refl;
-        owed = λ z is. (LL.owed Placed.the-type Placed′.the-laws z _ is .0, LL.owed Placed.the-type Placed′.the-laws z _ is .1 .0);
       }

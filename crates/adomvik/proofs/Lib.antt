@@ -3,9 +3,4 @@ pub mod OnPlace
 pub mod TellsRow
 pub mod TellsOne
 pub mod TellsBeside
-pub mod NumbersFrame
-pub mod Filling
-pub mod Opening
-pub mod Fills
-pub mod FillShape
 pub mod Laws

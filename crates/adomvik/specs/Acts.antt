@@ -6,6 +6,7 @@ use Rattle.board.specs.declared.Board.{Board}
 use Rattle.board.specs.declared.Readings.{Readings}
 use Rattle.board.specs.Sample.{sampleOf, answerSaid}
 use Rattle.frame.specs.Reply.{replySaid}
+use Rattle.stack.specs.Open.{openingSaid, openAnswer}
 use Rattle.stack.specs.Sample.{sampleAnswer}
 use Rattle.stack.specs.Frame.{frameAnswer}
 use Rattle.stack.specs.Read.{viewSaid}
@@ -13,6 +14,10 @@ use Rattle.stack.specs.Read as stack
 use Rattle.adomvik.specs.declared.Sampled.{Sampled}
 use Rattle.adomvik.specs.declared.Reading.{Reading}
 use Rattle.adomvik.specs.Told.{placed, sampledOf, readingOf}
+
+-- the opening of the row
+unfoldable pub openNumber : List Board → List ℕ → ℕ
+openNumber row counts = openingSaid (openAnswer row counts) .number
 
 -- a sample of one board of the row
 unfoldable pub sampleNumber : List Board → ℕ → Readings → List ℕ → ℕ

@@ -1,4 +1,2 @@
 pub mod Told
-pub mod Open
 pub mod Acts
-pub mod Way

@@ -8,7 +8,9 @@ use Rattle.board.specs.declared.Answer.{Answer}
 use Rattle.board.specs.Sample.{answerSaid}
 use Rattle.frame.specs.declared.Reply.{Reply}
 use Rattle.frame.specs.Reply.{replySaid}
+use Rattle.stack.specs.declared.Opening.{Opening}
 use Rattle.stack.specs.declared.View.{View}
+use Rattle.stack.specs.Open.{openingSaid}
 use Rattle.stack.specs.Read.{viewSaid}
 use Rattle.adomvik.specs.declared.Sampled.{Sampled}
 use Rattle.adomvik.specs.declared.Reading.{Reading}
@@ -34,3 +36,6 @@ toldReading out v = record { out = placed (viewSaid v) out (readingOf (viewSaid 
 
 unfoldable pub numberOfReply : Reply → ℕ
 numberOfReply a = replySaid a .number
+
+unfoldable pub numberOfOpening : Opening → ℕ
+numberOfOpening a = openingSaid a .number

@@ -5,14 +5,14 @@ ghost use Rattle.stack.specs.Sample.{sampleRow};
 ghost use Rattle.stack.specs.Frame.{frameRow, frameBuffer};
 ghost use Rattle.board.specs.Sample.{sampleOf};
 ghost use Rattle.lists.specs.Marks.{bit};
-ghost use Rattle.adomvik.specs.Open.{openNumber, openRow};
-ghost use Rattle.adomvik.specs.Way.{byteCount, refusedFill, startOf, more, putOf, fillAt, fillRowAt, fillEnd, fillRow};
-ghost use Rattle.adomvik.specs.Told.{toldSample, toldReading, numberOfReply};
-ghost use Rattle.adomvik.specs.Acts.{sampleNumber, sampleOut, boardNumber, boardOut, frameNumber, readNumber, readOut};
+ghost use Rattle.stack.specs.Open.{openRow};
+ghost use Rattle.adomvik.specs.Told.{toldSample, toldReading, numberOfReply, numberOfOpening};
+ghost use Rattle.adomvik.specs.Acts.{openNumber, sampleNumber, sampleOut, boardNumber, boardOut, frameNumber, readNumber, readOut};
 use board::Answer;
 use board::Board;
 use board::Readings;
 use frame::Reply;
+use stack::Opening;
 use stack::View;
 
 // An accepted sample: register 0, and the bled cells as a number.
@@ -120,124 +120,13 @@ fn reply_number(a: Reply) -> u8
     }
 }
 
-// ---- the opening
-
-// How far the records of an opening are put: the place of the next, how many there are, and the number of a refusal.
-struct Progress {
-    at: usize,
-    many: usize,
-    number: u8,
-}
-
-struct Placed {
-    board: Board,
-    next: Progress,
-}
-
-fn refused_fill() -> Progress
-    ensures { λ r. ⌜ r ≡ refusedFill ⌝ }
+fn opening_number(a: Opening) -> u8
+    ensures { λ r. ⌜ r ≡ numberOfOpening a ⌝ }
 {
-    Progress {
-        at: 0,
-        many: 0,
-        number: 1,
+    match a {
+        Opening::Opened => 0,
+        Opening::Refused(why) => refusal::number(why),
     }
-}
-
-// The counts are good or nothing is put: a row of as many records as counts.
-fn start(counts: &[u32], boards: usize) -> Progress
-    ensures { λ r. ⌜ r ≡ startOf (now (counts .entry)) boards ⌝ }
-{
-    if counts.len() != boards {
-        return refused_fill();
-    }
-    if stack::bad_count(boards) {
-        return refused_fill();
-    }
-    if stack::good_counts(counts) {
-        return Progress {
-            at: 0,
-            many: boards,
-            number: 0,
-        };
-    }
-    refused_fill()
-}
-
-fn more_left(x: Progress) -> bool
-    ensures { λ r. ⌜ r ≡ more x ⌝ }
-{
-    x.at < x.many
-}
-
-fn place_in(x: Progress) -> usize
-    ensures { λ r. ⌜ r ≡ x .at ⌝ }
-{
-    x.at
-}
-
-// A good count fits a byte.
-fn byte_count(n: u32) -> u8
-    ensures { λ r. ⌜ r ≡ byteCount n ⌝ }
-{
-    if n < 256 { n as u8 } else { 0 }
-}
-
-fn put(b: Board, x: Progress, counts: &[u32]) -> Placed
-    ensures { λ r. ⌜ r ≡ putOf b x (now (counts .entry)) ⌝ }
-{
-    let at = x.at;
-    if at < counts.len() {
-        let board = board::fresh_board(byte_count(counts[at]));
-        let next = Progress {
-            at: at + 1,
-            many: x.many,
-            number: x.number,
-        };
-        return Placed {
-            board: board,
-            next: next,
-        };
-    }
-    let next = refused_fill();
-    Placed {
-        board: b,
-        next: next,
-    }
-}
-
-fn put_board(b: &mut Board, x: Progress, counts: &[u32]) -> Progress
-    ensures { λ r. ⌜ (r ≡ putOf (now (b .entry)) x (now (counts .entry)) .next) × (now (b .exit) ≡ putOf (now (b .entry)) x (now (counts .entry)) .board) ⌝ }
-{
-    let s = put(*b, x, counts);
-    *b = s.board;
-    s.next
-}
-
-fn put_at(row: &mut [Board], x: Progress, counts: &[u32]) -> Progress
-    ensures { λ r. ⌜ (r ≡ fillAt (now (row .entry)) x (now (counts .entry))) × (now (row .exit) ≡ fillRowAt (now (row .entry)) x (now (counts .entry))) ⌝ }
-{
-    let at = place_in(x);
-    if at < row.len() {
-        return put_board(&mut row[at], x, counts);
-    }
-    refused_fill()
-}
-
-fn fill(row: &mut [Board], x: Progress, counts: &[u32]) -> Progress
-    ensures { λ r. ⌜ (r ≡ fillEnd (now (row .entry)) x (now (counts .entry))) × (now (row .exit) ≡ fillRow (now (row .entry)) x (now (counts .entry))) ⌝ }
-{
-    let mut st = x;
-    while more_left(st) {
-        st = put_at(row, st, counts);
-    }
-    st
-}
-
-fn fill_number(x: Progress) -> u8
-    ensures { λ r. ⌜ r ≡ x .number ⌝ }
-{
-    x.number
 }
 
 // ---- the acts
@@ -247,9 +136,8 @@ fn fill_number(x: Progress) -> u8
 pub extern "C" fn adomvik_open(row: &mut [Board], counts: &[u32]) -> u8
     ensures { λ r. ⌜ (r ≡ openNumber (now (row .entry)) (now (counts .entry))) × (now (row .exit) ≡ openRow (now (row .entry)) (now (counts .entry))) ⌝ }
 {
-    let x = start(counts, row.len());
-    let end = fill(row, x, counts);
-    fill_number(end)
+    let a = stack::open_row(row, counts);
+    opening_number(a)
 }
 
 // A sample of one board of the row.

@@ -4,7 +4,7 @@ ghost use lib.ListN.{length};
 use libc::STDIN_FILENO;
 use libc::STDOUT_FILENO;
 use lines::Cutter;
-use stack::Stack;
+use held::Stack;
 
 // The line that is open, the stack, and whether the output still takes answers.
 struct Bench {
@@ -50,7 +50,7 @@ fn main() {
     let mut input = io::large_buffer();
     let mut out = io::large_buffer();
     let mut cutter = lines::new_cutter();
-    let start = stack::open_stack(&[]);
+    let start = held::open_held(&[]);
     let mut stack = start.stack;
     let mut turns = u64::MAX;
     while turns > 0 {

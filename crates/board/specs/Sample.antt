@@ -122,6 +122,10 @@ outOfRange x mv = not (readable mv) || ltb 5000 (x .thermistor) || shuntOutside 
 abbrev pub badBoard : Board → Bool
 badBoard b = outside 5 10 (b .count)
 
+-- a plan says what a board is to be, its cell count: one without 5 to 10 cells
+abbrev pub badPlan : ℕ → Bool
+badPlan plan = outside 5 10 plan
+
 -- refusals 3, 4, 5 in order
 abbrev pub readingBars : Board → Readings → List ℕ → List Bar
 readingBars b x mv =

@@ -25,7 +25,11 @@ use Rattle.board.specs.declared.Stepped.{Stepped}
 use Rattle.board.specs.declared.Found.{Found}
 use Rattle.board.specs.declared.Found.the-variants.{Refused, Quiet, Changes}
 use Rattle.board.specs.Shunt.{shuntAbove, shuntOutside}
-use Rattle.board.specs.Sample.{currentsNext, hot, stands, letsGo, sweptAt, boardWith, sampleBars}
+use Rattle.board.specs.Sample.{fresh, currentsNext, hot, stands, letsGo, sweptAt, boardWith, sampleBars}
+
+-- a board by its plan: a count that fits no byte is none
+abbrev pub plannedOf : ℕ → Board
+plannedOf plan = fresh (cond (ltb plan 256) plan 0)
 
 -- refusal 5 by the highest cell (the law range-by)
 abbrev pub outOfRangeBy : Readings → Span → Bool

@@ -1,8 +1,8 @@
 // One board: its record, and a sample of it, by value and then where the record lies (01, The stack and its readings; When a fault latches and lets go).
 ghost use mathlib.Core.Path.{_≡_};
 ghost use Rattle.board.specs.Shunt.{shuntAbove, shuntOutside};
-ghost use Rattle.board.specs.Sample.{fresh, currentsNext, sampleOf};
-ghost use Rattle.board.specs.Way.{outOfRangeBy, quietOf, lookOf, isRefused, isQuiet, answerOf, spanFound, restedOf, latchesBy, acceptedBy};
+ghost use Rattle.board.specs.Sample.{fresh, currentsNext, badBoard, badPlan, sampleOf};
+ghost use Rattle.board.specs.Way.{plannedOf, outOfRangeBy, quietOf, lookOf, isRefused, isQuiet, answerOf, spanFound, restedOf, latchesBy, acceptedBy};
 use cells::Cell;
 use cells::Span;
 use cells::Swept;
@@ -74,6 +74,30 @@ pub fn fresh_board(count: u8) -> Board
         currents: currents,
         cells: cells,
     }
+}
+
+// Which record is bad: one that no opening gives.
+pub fn bad_board(b: Board) -> bool
+    ensures { λ r. ⌜ r ≡ badBoard b ⌝ }
+{
+    (b.count < 5) | (10 < b.count)
+}
+
+// Which plan is bad. A plan says what a board is to be: its cell count.
+pub fn bad_plan(plan: u32) -> bool
+    ensures { λ r. ⌜ r ≡ badPlan plan ⌝ }
+{
+    (plan < 5) | (10 < plan)
+}
+
+// A board as it starts by its plan; the count of a good one fits a byte.
+pub fn planned_board(plan: u32) -> Board
+    ensures { λ r. ⌜ r ≡ plannedOf plan ⌝ }
+{
+    if plan < 256 {
+        return fresh_board(plan as u8);
+    }
+    fresh_board(0)
 }
 
 // The shunt reads above a level; no charge current does.
@@ -202,7 +226,7 @@ fn look(b: Board, x: Readings, mv: &[u32]) -> Found
     ensures { λ r. ⌜ r ≡ lookOf b x (now (mv .entry)) ⌝ }
 {
     let count = b.count;
-    if (count < 5) | (10 < count) {
+    if bad_board(b) {
         return Found::Refused(Refusal::BadRow);
     }
     if mv.len() != count as usize {

@@ -1,23 +1,23 @@
 -- Demand 2: what the library does with any acts after any opening is what the paper tells of them.
 -- Assumes nothing.
-use Prim.Native.Nat.{ℕ, _-_}
+use Prim.Native.Nat.{ℕ}
 use mathlib.Core.Path.{_≡_, refl, ap, ap₂, sym, _∙_}
 use mathlib.Core.Bool.{Bool, true, false, true≢false, cond, not, _&&_, _||_}
 use mathlib.Core.List.{List, [], _∷_, map}
 use lib.Dec.{eqb}
-use lib.ListN.{length, replicate, length-map}
-use lib.Seq.{take-at, map-set-same}
+use lib.ListN.{length, replicate, length-replicate, length-map}
+use lib.Seq.{map-set-same}
 use Rattle.lists.specs.Every.{every}
 use Rattle.lists.proofs.Split.{both}
 use Rattle.refusal.specs.Said.{Bar, bar, first, kept}
 use Rattle.board.specs.declared.Board.{Board}
-use Rattle.board.specs.Sample.{fresh, outside, badBoard}
+use Rattle.board.specs.Sample.{fresh, badBoard, badPlan}
 use Rattle.stack.specs.Row.{badCount, goodRow, placeOf}
-use Rattle.stack.specs.Open.{goodCounts, opened, freshRow, openOf}
+use Rattle.stack.specs.Open.{goodPlans, opened, openRow}
 use Rattle.stack.specs.Frame.{framePlace}
 use Rattle.stack.proofs.Counts.{within}
 use Rattle.demands.specs.Paper.{Entry, sampled}
-use Rattle.demands.specs.Acts.{Act, sample, frame, reading, Outcome, bars, outcome, next, openedRow, final, answers}
+use Rattle.demands.specs.Acts.{Act, sample, frame, reading, Outcome, bars, outcome, next, final, answers}
 use Rattle.demands.specs.Demands.{Log, log, begun, logAt, joined, boardGiven, rowGiven, frameEntry, joins, taken, told, opens, Demand2}
 use Rattle.demands.proofs.Given.{given-start}
 use Rattle.demands.proofs.Clear.{clear}
@@ -41,9 +41,9 @@ same-counts logs (frame bytes buffer) = kept-counts (bars (rowGiven logs) (frame
 same-counts logs reading = refl
 
 abbrev pub goodOf : List ℕ → Bool
-goodOf counts = not (badCount (length counts)) && goodCounts counts
+goodOf counts = not (badCount (length counts)) && goodPlans counts
 
-every-count : (logs : List Log) → every (λ b. not (badBoard b)) (rowGiven logs) ≡ goodCounts (countsOf logs)
+every-count : (logs : List Log) → every (λ b. not (badBoard b)) (rowGiven logs) ≡ goodPlans (countsOf logs)
 unfolding every
 every-count [] = refl
 every-count (l ∷ logs) = rw (every-count logs)
@@ -58,31 +58,32 @@ pub begun-counts : (counts : List ℕ) → countsOf (begun counts) ≡ counts
 begun-counts [] = refl
 begun-counts (n ∷ counts) = ap (λ (l : List ℕ). n ∷ l) (begun-counts counts)
 
-neither : (a b : Bool) → (a || not b) ≡ false → (a ≡ false) × (b ≡ true)
-neither false true e = (refl, refl)
-neither false false e = (refl, sym e)
-neither true b e = absurd (true≢false e)
+all-good : (a b c : Bool) → (not a || b || not c) ≡ false → (b ≡ false) × (c ≡ true)
+all-good true false true e = (refl, refl)
+all-good true false false e = (refl, sym e)
+all-good true true c e = absurd (true≢false e)
+all-good false b c e = absurd (true≢false e)
 
-opens-good : (counts : List ℕ) → opens counts ≡ true → (badCount (length counts) ≡ false) × (goodCounts counts ≡ true)
-opens-good counts e = neither (badCount (length counts)) (goodCounts counts) (clear (bar 1 (badCount (length counts) || not (goodCounts counts))) [] refl e .0)
+opens-good : (counts : List ℕ) → opens counts ≡ true → (badCount (length counts) ≡ false) × (goodPlans counts ≡ true)
+opens-good counts e =
+    let same = eqb (length counts) (length counts) in
+    all-good same (badCount (length counts)) (goodPlans counts) (clear (bar 1 (not same || badCount (length counts) || not (goodPlans counts))) [] refl e .0)
 
 pub opens-fine : (counts : List ℕ) → opens counts ≡ true → goodOf counts ≡ true
 opens-fine counts e = let good = opens-good counts e in rw (good .0, good .1)
 
 -- a fresh board is the one that the paper gives of no acts
-fresh-given : (counts : List ℕ) → goodCounts counts ≡ true → opened counts ≡ rowGiven (begun counts)
+fresh-given : (counts : List ℕ) → goodPlans counts ≡ true → opened counts ≡ rowGiven (begun counts)
 unfolding every
 fresh-given [] e = refl
 fresh-given (n ∷ counts) e =
-    let good = both (not (outside 5 10 n)) (goodCounts counts) e in
+    let good = both (not (badPlan n)) (goodPlans counts) e in
     ap₂ (λ (b : Board) (row : List Board). b ∷ row) (sym (given-start n (within 5 10 n (good .0) .1))) (fresh-given counts (good .1))
 
-opened-given : (counts : List ℕ) → opens counts ≡ true → openedRow counts ≡ rowGiven (begun counts)
-unfolding openOf freshRow
-opened-given counts e =
-    let good = opens-good counts e in
-    let row = opened counts in
-    rw (good .0, good .1) (take-at row (replicate (16 - length counts) (fresh 0)) (length counts) (length-map counts fresh) ∙ fresh-given counts (good .1))
+-- whatever stood in the records
+pub opened-given : (row : List Board) (counts : List ℕ) → length row ≡ length counts → opens counts ≡ true → openRow row counts ≡ rowGiven (begun counts)
+unfolding openRow
+opened-given row counts same e = rw (same, e) (fresh-given counts (opens-good counts e .1))
 
 -- ---- demand 2
 
@@ -99,7 +100,7 @@ given-on logs (a ∷ acts) = ap (λ (row : List Board). final next row acts) (gi
 
 pub demand2 : Demand2
 demand2 counts e acts =
-    let start = opened-given counts e in
+    let start = opened-given (replicate (length counts) (fresh 0)) counts (length-replicate (length counts) (fresh 0)) e in
     let fine : goodOf (countsOf (begun counts)) ≡ true = ap goodOf (begun-counts counts) ∙ opens-fine counts e in (
       ap (λ (row : List Board). answers next outcome row acts) start ∙ told-on (begun counts) fine acts,
       ap (λ (row : List Board). final next row acts) start ∙ given-on (begun counts) acts,

@@ -7,20 +7,20 @@ use mathlib.Core.Logic.{inl, inr}
 use mathlib.Core.Bool.{true, true≢false, not}
 use mathlib.Core.List.{List, [], _∷_, map}
 use lib.Dec.{eqb}
+use lib.ListN.{length}
 use borrow.Author.Tests.{eqb-true, eq-eqb, ne-eqb}
 use Rattle.lists.proofs.Split.{split, both, not-yes}
 use Rattle.refusal.specs.Said.{Said, Bar, accepts, refuses, first, judged, kept}
-use Rattle.refusal.proofs.Laws.{number-back}
 use Rattle.board.specs.declared.Board.{Board}
 use Rattle.board.specs.Sample.{sampleValues}
 use Rattle.reading.specs.declared.Whole.{Whole}
 use Rattle.reading.specs.Reading.{summaryOf, readOf, wholeSaid}
 use Rattle.stack.specs.Row.{goodRow, placeOf, boardAt}
-use Rattle.stack.specs.Open.{openBars, openingSaid, noStack, openOf}
+use Rattle.stack.specs.Open.{openBars, openRow}
 use Rattle.stack.specs.Sample.{sampleRow}
 use Rattle.stack.specs.Frame.{frameReply, frameRow, frameBuffer}
 use Rattle.stack.specs.Read.{viewSaid, readBars, readingOf}
-use Rattle.stack.proofs.Laws.{sample-said, frame-said}
+use Rattle.stack.proofs.Laws.{open-said, sample-said, frame-said}
 use Rattle.stack.proofs.Scanned.{whole-said}
 use Rattle.demands.specs.Acts.{Act, sample, frame, reading, outcome, bars, next}
 use Rattle.demands.specs.Table.{FirstIs, NoneHolds, ByTable, lent, InOrder, Demand1, Demand1Opening}
@@ -116,17 +116,14 @@ demand1 row =
 
 -- ---- and every opening
 
-open-judged : (counts : List ℕ) → openingSaid (openOf counts .answer) ≡ judged (openBars counts) []
-unfolding openOf
-open-judged counts = split (eqb (first (openBars counts)) 0) (λ e. rw e) (λ e. rw (e, e, number-back (openBars counts) tt e))
+open-stays : (row : List Board) (plans : List ℕ) (n : ℕ) → 0 < n → judged (openBars (length row) plans) [] ≡ refuses n → openRow row plans ≡ row
+unfolding openRow
+open-stays row plans n p e = stays (openBars (length row) plans) [] n p e _ _
 
-open-stays : (counts : List ℕ) (n : ℕ) → 0 < n → judged (openBars counts) [] ≡ refuses n → openOf counts .stack ≡ noStack
-unfolding openOf
-open-stays counts n p e = stays (openBars counts) [] n p e _ _
-
-pub demand1-opening : (counts : List ℕ) → Demand1Opening counts
-demand1-opening counts =
+pub demand1-opening : (row : List Board) (plans : List ℕ) → Demand1Opening row plans
+demand1-opening row plans =
+    let rows = openBars (length row) plans in
     record {
-      by-table = subst (ByTable (openBars counts)) (sym (open-judged counts)) (table (openBars counts) [] refl);
-      unchanged = λ n p e. open-stays counts n p (sym (open-judged counts) ∙ e);
+      by-table = subst (ByTable rows) (sym (open-said row plans)) (table rows [] refl);
+      unchanged = λ n p e. open-stays row plans n p (sym (open-said row plans) ∙ e);
     }

@@ -2,13 +2,13 @@
 -- Assumes nothing.
 use Prim.Native.Nat.{ℕ}
 use mathlib.Core.List.{List, [], _∷_}
-use lib.ListN.{take}
+use lib.ListN.{length, replicate}
 use Rattle.refusal.specs.Said.{Said, Bar}
 use Rattle.board.specs.declared.Board.{Board}
 use Rattle.board.specs.declared.Readings.{Readings}
-use Rattle.board.specs.Sample.{answerSaid}
+use Rattle.board.specs.Sample.{fresh, answerSaid}
 use Rattle.frame.specs.Reply.{replySaid}
-use Rattle.stack.specs.Open.{openOf}
+use Rattle.stack.specs.Open.{openRow}
 use Rattle.stack.specs.Sample.{sampleRowBars, sampleAnswer, sampleRow}
 use Rattle.stack.specs.Frame.{frameRowBars, frameAnswer, frameRow, frameBuffer}
 use Rattle.stack.specs.Read.{viewSaid, readBars, readingOf}
@@ -30,7 +30,7 @@ bars row (sample n x mv) = sampleRowBars row n x mv
 bars row (frame bytes buffer) = frameRowBars row bytes buffer
 bars row reading = readBars row
 
--- ---- the library: sample_stack, frame_stack, read_stack
+-- ---- the library: sample_stack, frame_stack, read_stack, open_row
 
 abbrev pub outcome : List Board → Act → Outcome
 outcome row (sample n x mv) = record { said = answerSaid (sampleAnswer row n x mv); buffer = [] }
@@ -42,9 +42,9 @@ next row (sample n x mv) = sampleRow row n x mv
 next row (frame bytes buffer) = frameRow row bytes buffer
 next row reading = row
 
--- the row that open_stack gives
+-- the row that open_row gives of as many records as there are counts
 abbrev pub openedRow : List ℕ → List Board
-openedRow counts = take (openOf counts .stack .count) (openOf counts .stack .boards)
+openedRow counts = openRow (replicate (length counts) (fresh 0)) counts
 
 -- ---- any machine: what stands after the acts of a list, oldest first, and what came of each on the way
 

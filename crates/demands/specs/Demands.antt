@@ -111,7 +111,7 @@ told logs reading = record { said = accepts (readingSays logs); buffer = [] }
 
 -- an opening that is not refused
 abbrev pub opens : List ℕ → Bool
-opens counts = eqb (first (openBars counts)) 0
+opens counts = eqb (first (openBars (length counts) counts)) 0
 
 -- after any opening and any acts, every outcome is the one that the paper tells, and the row is the one that it gives
 abbrev pub Demand2 : Type 0

@@ -5,10 +5,11 @@ use mathlib.Core.Path.{_≡_}
 use mathlib.Core.Logic.{_⊎_, _↔_}
 use mathlib.Core.Bool.{true, false}
 use mathlib.Core.List.{List, [], _∷_, map}
+use lib.ListN.{length}
 use Rattle.refusal.specs.Said.{Said, refuses, Bar}
 use Rattle.board.specs.declared.Board.{Board}
 use Rattle.board.specs.declared.Readings.{Readings}
-use Rattle.stack.specs.Open.{openBars, openingSaid, noStack, openOf}
+use Rattle.stack.specs.Open.{openBars, openingSaid, openAnswer, openRow}
 use Rattle.demands.specs.Acts.{Act, sample, frame, reading, outcome, bars, next}
 
 -- n is the number of the first row of a table whose condition holds
@@ -46,7 +47,7 @@ pub record Demand1 (row : List Board) : Type 0 where
   pub by-table : (a : Act) → ByTable (bars row a) (outcome row a .said)
   pub unchanged : (a : Act) (n : ℕ) → 0 < n → outcome row a .said ≡ refuses n → (next row a ≡ row) × (outcome row a .buffer ≡ lent a)
 
--- and of an opening, which gives no stack where it is refused
-pub record Demand1Opening (counts : List ℕ) : Type 0 where
-  pub by-table : ByTable (openBars counts) (openingSaid (openOf counts .answer))
-  pub unchanged : (n : ℕ) → 0 < n → openingSaid (openOf counts .answer) ≡ refuses n → openOf counts .stack ≡ noStack
+-- and of an opening, on any row and any plans
+pub record Demand1Opening (row : List Board) (plans : List ℕ) : Type 0 where
+  pub by-table : ByTable (openBars (length row) plans) (openingSaid (openAnswer row plans))
+  pub unchanged : (n : ℕ) → 0 < n → openingSaid (openAnswer row plans) ≡ refuses n → openRow row plans ≡ row

@@ -25,8 +25,8 @@ use Rattle.acts.specs.declared.Told.{Told}
 use Rattle.acts.specs.Acts.{actTold, actRow}
 use Rattle.adomvik.specs.declared.Sampled.{Sampled}
 use Rattle.adomvik.specs.declared.Reading.{Reading}
-use Rattle.adomvik.specs.Open.{openNumber, openRow}
-use Rattle.adomvik.specs.Acts.{sampleNumber, sampleOut, boardNumber, boardOut, frameNumber, readNumber, readOut}
+use Rattle.stack.specs.Open.{openAnswer, openRow}
+use Rattle.adomvik.specs.Acts.{openNumber, sampleNumber, sampleOut, boardNumber, boardOut, frameNumber, readNumber, readOut}
 use Rattle.refusal.proofs.number.Reads as refusal-number
 use Rattle.settings.proofs.Settings.ov_level.Reads as settings-ov-level
 use Rattle.settings.proofs.Settings.ov_hysteresis.Reads as settings-ov-hysteresis
@@ -68,9 +68,10 @@ use Rattle.frame.proofs.refusal.Reads as frame-refusal
 use Rattle.reading.proofs.none_seen.Reads as reading-none-seen
 use Rattle.reading.proofs.see.Reads as reading-see
 use Rattle.reading.proofs.read_all.Reads as reading-read-all
-use Rattle.stack.proofs.open_stack.Reads as stack-open-stack
-use Rattle.stack.proofs.bad_count.Reads as stack-bad-count
-use Rattle.stack.proofs.good_counts.Reads as stack-good-counts
+use Rattle.held.proofs.open_held.Reads as held-open-held
+use Rattle.board.proofs.bad_board.Reads as board-bad-board
+use Rattle.board.proofs.bad_plan.Reads as board-bad-plan
+use Rattle.board.proofs.planned_board.Reads as board-planned-board
 use Rattle.held.proofs.row_count.Reads as held-row-count
 use Rattle.held.proofs.sample_held.Reads as held-sample-held
 use Rattle.held.proofs.read_held.Reads as held-read-held
@@ -201,6 +202,15 @@ pub latches-latch-next-one : (κs : _) (a : _) (r t : _) (s u : _) → latches-l
 latches-latch-next-one κs a r t s u = agree
 
 -- ---- board
+pub board-bad-board-one : (κs : _) (a : _) (r t : _) (s u : _) → board-bad-board.Learnt κs a r s → board-bad-board.Learnt κs a t u → r ≡ t
+board-bad-board-one κs a r t s u = agree
+
+pub board-bad-plan-one : (κs : _) (a : _) (r t : _) (s u : _) → board-bad-plan.Learnt κs a r s → board-bad-plan.Learnt κs a t u → r ≡ t
+board-bad-plan-one κs a r t s u = agree
+
+pub board-planned-board-one : (κs : _) (a : _) (r t : _) (s u : _) → board-planned-board.Learnt κs a r s → board-planned-board.Learnt κs a t u → r ≡ t
+board-planned-board-one κs a r t s u = agree
+
 pub board-fresh-board-one : (κs : _) (a : _) (r t : _) (s u : _) → board-fresh-board.Learnt κs a r s → board-fresh-board.Learnt κs a t u → r ≡ t
 board-fresh-board-one κs a r t s u = agree
 
@@ -233,17 +243,10 @@ reading-see-one κs a r t s u = agree
 pub reading-read-all-one : (κs : _) (a : _) (r t : _) (s u : _) → reading-read-all.Learnt κs a r s → reading-read-all.Learnt κs a t u → r ≡ t
 reading-read-all-one κs a r t s u = agree
 
--- ---- stack
-pub stack-open-stack-one : (κs : _) (a : _) (r t : _) (s u : _) → stack-open-stack.Learnt κs a r s → stack-open-stack.Learnt κs a t u → r ≡ t
-stack-open-stack-one κs a r t s u = agree
-
-pub stack-bad-count-one : (κs : _) (a : _) (r t : _) (s u : _) → stack-bad-count.Learnt κs a r s → stack-bad-count.Learnt κs a t u → r ≡ t
-stack-bad-count-one κs a r t s u = agree
-
-pub stack-good-counts-one : (κs : _) (a : _) (r t : _) (s u : _) → stack-good-counts.Learnt κs a r s → stack-good-counts.Learnt κs a t u → r ≡ t
-stack-good-counts-one κs a r t s u = agree
-
 -- ---- held
+pub held-open-held-one : (κs : _) (a : _) (r t : _) (s u : _) → held-open-held.Learnt κs a r s → held-open-held.Learnt κs a t u → r ≡ t
+held-open-held-one κs a r t s u = agree
+
 pub held-row-count-one : (κs : _) (a : _) (r t : _) (s u : _) → held-row-count.Learnt κs a r s → held-row-count.Learnt κs a t u → r ≡ t
 held-row-count-one κs a r t s u = agree
 

@@ -9,7 +9,7 @@ use lib.ListN.{length, take, drop, take-append-drop}
 use borrow.Author.Tests.{ltb-false}
 use borrow.Table.Steps.{cases}
 use Rattle.board.specs.declared.Board.{Board}
-use Rattle.stack.specs.declared.Stack.{Stack}
+use Rattle.held.specs.declared.Stack.{Stack}
 use Rattle.held.specs.Held.{rowCount, heldRow, withRow}
 
 pub row-few : (s : Stack) → rowCount s ≤ 16

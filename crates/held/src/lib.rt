@@ -1,13 +1,30 @@
 // A stack that a program holds by value: its row is lent to the public library for one act and comes back.
 ghost use mathlib.Core.Path.{_≡_};
 ghost use Prim.Native.Nat.{_≤_};
-ghost use Rattle.held.specs.Held.{rowCount, sampledIn, framedIn, framedReply, readIn, sampledOf, framedOf, framedBuffer, readOf};
+ghost use Rattle.held.specs.Held.{noStack, openedIn, openOf, rowCount, sampledIn, framedIn, framedReply, readIn, sampledOf, framedOf, framedBuffer, readOf};
 use board::Answer;
 use board::Board;
 use board::Readings;
 use frame::Reply;
-use stack::Stack;
+use refusal::Refusal;
+use stack::Opening;
 use stack::View;
+
+// A stack by value: its boards, of which the first so many are its own.
+pub struct Stack {
+    pub boards: [Board; 16],
+    pub count: usize,
+}
+
+pub struct Start {
+    pub stack: Stack,
+    pub answer: Opening,
+}
+
+struct OpenedRow {
+    boards: [Board; 16],
+    answer: Opening,
+}
 
 struct SampledRow {
     boards: [Board; 16],
@@ -41,6 +58,18 @@ pub fn row_count(s: Stack) -> usize
 }
 
 // The first n records are lent as the row; so below.
+fn open_in(boards: [Board; 16], n: usize, plans: &[u32]) -> OpenedRow
+    requires { ⌜ n ≤ 16 ⌝ }
+    ensures { λ r. ⌜ r ≡ openedIn boards n (now (plans .entry)) ⌝ }
+{
+    let mut row = boards;
+    let answer = stack::open_row(&mut row[..n], plans);
+    OpenedRow {
+        boards: row,
+        answer: answer,
+    }
+}
+
 fn sample_in(boards: [Board; 16], n: usize, board: u32, x: Readings, mv: &[u32]) -> SampledRow
     requires { ⌜ n ≤ 16 ⌝ }
     ensures { λ r. ⌜ r ≡ sampledIn boards n board x (now (mv .entry)) ⌝ }
@@ -70,6 +99,51 @@ fn read_in(boards: [Board; 16], n: usize) -> View
     ensures { λ r. ⌜ r ≡ readIn boards n ⌝ }
 {
     stack::read_stack(&boards[..n])
+}
+
+fn no_stack() -> Stack
+    ensures { λ r. ⌜ r ≡ noStack ⌝ }
+{
+    let none = board::fresh_board(0);
+    let boards = [none; 16];
+    Stack {
+        boards: boards,
+        count: 0,
+    }
+}
+
+// A plan for each board, southernmost first, gives the stack.
+pub fn open_held(plans: &[u32]) -> Start
+    ensures { λ r. ⌜ r ≡ openOf (now (plans .entry)) ⌝ }
+{
+    let none = no_stack();
+    let n = plans.len();
+    if 16 < n {
+        return Start {
+            stack: none,
+            answer: Opening::Refused(Refusal::BadRow),
+        };
+    }
+    let boards = none.boards;
+    let r = open_in(boards, n, plans);
+    let opened = r.boards;
+    let answer = r.answer;
+    match answer {
+        Opening::Opened => {
+            let stack = Stack {
+                boards: opened,
+                count: n,
+            };
+            Start {
+                stack: stack,
+                answer: answer,
+            }
+        }
+        Opening::Refused(_) => Start {
+            stack: none,
+            answer: answer,
+        },
+    }
 }
 
 // A sample of a stack.

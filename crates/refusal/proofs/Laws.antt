@@ -1,7 +1,8 @@
--- A refusal is the one of its number, and none has number 0.
+-- A refusal is the one of its number, and none has number 0; the number of an answer by a table.
 -- Assumes nothing.
 use native.Mathlib.Omega.{arith}
-use mathlib.Core.Path.{_≡_, refl, ap}
+use Prim.Native.Nat.{ℕ}
+use mathlib.Core.Path.{_≡_, refl, sym, ap}
 use mathlib.Core.Bool.{Bool, true, false, true≢false, cond, _&&_}
 use mathlib.Core.List.{List, [], _∷_}
 use lib.Dec.{T, eqb, eqb→eq}
@@ -10,7 +11,7 @@ use Rattle.lists.proofs.Split.{split}
 use Rattle.refusal.specs.declared.Refusal.{Refusal}
 use Rattle.refusal.specs.declared.Refusal.the-variants.{BadRow, NoBoard, CellList, Elapsed, OutOfRange, FrameLength, ReplyRoom, CheckByte, NoRegister, BadValue, NoCycle, Malformed}
 use Rattle.refusal.specs.Refusals.{numberOf, numbered, inTable}
-use Rattle.refusal.specs.Said.{Bar, first}
+use Rattle.refusal.specs.Said.{Bar, first, judged}
 
 pub numbered-number : (r : Refusal) → numbered (numberOf r) ≡ r
 numbered-number BadRow = refl
@@ -57,3 +58,7 @@ number-back (b ∷ bars) t e =
     split (b .when)
     (λ h. rw h (eqb→eq (numberOf (numbered (b .number))) (b .number) (left (inTable (b .number)) (allInTable bars) t)))
     (λ h. rw h (number-back bars (right (inTable (b .number)) (allInTable bars) t) (rw h at e)))
+
+-- the number of an answer by a table is that of the first bar that holds, and 0 where none does
+pub judged-number : (bars : List Bar) (vs : List ℕ) → judged bars vs .number ≡ first bars
+judged-number bars vs = split (eqb (first bars) 0) (λ e. rw e (sym (eqb-true (first bars) 0 e))) (λ e. rw e)

@@ -6,7 +6,7 @@ use mathlib.Core.List.{List, [], _∷_, _++_, flatten}
 use lib.ListN.{length, take}
 use Rattle.lines.specs.Line.{lineOf}
 use Rattle.text.proofs.Puts.{put-take}
-use Rattle.stack.specs.declared.Stack.{Stack}
+use Rattle.held.specs.declared.Stack.{Stack}
 use Rattle.lines.specs.declared.Cutter.{Cutter}
 use Rattle.lines.specs.Lines.{lastLine, linesOf, ended}
 use Rattle.lines.specs.Kept.{held, endedIn, leftIn}

@@ -7,7 +7,7 @@ use mathlib.Core.Logic.{inl, inr, ⊎-elim}
 use mathlib.Core.List.{List, [], _++_}
 use lib.ListN.{length, take, drop, length-drop, take-append-drop}
 use lib.Seq.{take-all, take-add, drop-drop}
-use Rattle.stack.specs.declared.Stack.{Stack}
+use Rattle.held.specs.declared.Stack.{Stack}
 use Rattle.text.proofs.Puts.{put-same}
 use Rattle.lines.specs.declared.Cutter.{Cutter}
 use Rattle.lines.specs.Kept.{clip, held}

@@ -6,7 +6,7 @@ use native.Mathlib.Nat.{add-zero}
 use mathlib.Core.Path.{_≡_, refl, sym}
 use mathlib.Core.List.{List, [], _∷_, _++_, append-nil}
 use lib.ListN.{length}
-use Rattle.stack.specs.declared.Stack.{Stack}
+use Rattle.held.specs.declared.Stack.{Stack}
 use Rattle.text.specs.Text.{textOf, Put}
 use Rattle.text.proofs.Puts.{put-then, put-same}
 use Rattle.lines.specs.Lines.{before, ended, left, upTo}

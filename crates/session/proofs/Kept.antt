@@ -8,7 +8,7 @@ use mathlib.Core.Logic.{inl, inr, ⊎-elim}
 use mathlib.Core.List.{List, [], _∷_, _++_, append-nil}
 use lib.ListN.{length, take, drop, length-set, take-append-drop}
 use lib.Seq.{take-all}
-use Rattle.stack.specs.declared.Stack.{Stack}
+use Rattle.held.specs.declared.Stack.{Stack}
 use Rattle.text.specs.Text.{textOf, Put}
 use Rattle.lines.specs.declared.Cutter.{Cutter}
 use Rattle.lines.specs.Lines.{ended, left, upTo}

@@ -8,7 +8,7 @@ use mathlib.Core.List.{List}
 use lib.ListN.{length, take, drop, length-drop}
 use lib.Seq.{length-take-le}
 use Rattle.board.specs.declared.Board.{Board}
-use Rattle.stack.specs.declared.Stack.{Stack}
+use Rattle.held.specs.declared.Stack.{Stack}
 use Rattle.held.specs.Held.{heldRow, withRow}
 use Rattle.held.proofs.Rows.{with-same, held-with, with-with}
 use Rattle.acts.specs.Acts.{actTold, actRow}

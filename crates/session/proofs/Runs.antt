@@ -11,7 +11,7 @@ use lib.ListN.{length, take, drop}
 use borrow.Author.Tests.{lt-ltb, le-ltb, ltb-false, ltb-true, leb-false, leb-true}
 use Rattle.lists.proofs.Split.{split}
 use Rattle.board.specs.declared.Board.{Board}
-use Rattle.stack.specs.declared.Stack.{Stack}
+use Rattle.held.specs.declared.Stack.{Stack}
 use Rattle.held.specs.Held.{heldRow, withRow}
 use Rattle.held.proofs.Rows.{with-same}
 use Rattle.acts.specs.declared.Told.{Told}

@@ -6,10 +6,10 @@ use mathlib.Core.List.{List, map}
 use lib.IntN.{ℤ, pos, _-ℤ_}
 use lib.ListN.{getD, take, drop}
 use Rattle.board.specs.declared.Readings.{Readings}
-use Rattle.stack.specs.declared.Stack.{Stack}
+use Rattle.held.specs.declared.Stack.{Stack}
 use Rattle.stack.specs.declared.Opening.{Opening}
 use Rattle.stack.specs.declared.Opening.the-variants as opening
-use Rattle.stack.specs.Open.{openOf}
+use Rattle.held.specs.Held.{openOf}
 use Rattle.held.specs.Held.{heldRow, withRow}
 use Rattle.acts.specs.declared.Act.{Act}
 use Rattle.acts.specs.declared.Sample as acts-sample

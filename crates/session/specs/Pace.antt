@@ -9,7 +9,7 @@ use lib.Dec.{ltb, leb}
 use lib.ListN.{length, take, drop, replicate}
 use lib.Seq.{sets}
 use Rattle.board.specs.declared.Board.{Board}
-use Rattle.stack.specs.declared.Stack.{Stack}
+use Rattle.held.specs.declared.Stack.{Stack}
 use Rattle.held.specs.Held.{heldRow, withRow}
 use Rattle.acts.specs.declared.Act.{Act}
 use Rattle.acts.specs.declared.Told.{Told}

@@ -5,7 +5,7 @@ use mathlib.Core.Path.{_≡_}
 use mathlib.Core.Logic.{_⊎_}
 use mathlib.Core.List.{List, [], _∷_, _++_}
 use lib.ListN.{length, take}
-use Rattle.stack.specs.declared.Stack.{Stack}
+use Rattle.held.specs.declared.Stack.{Stack}
 use Rattle.text.specs.Text.{textOf, Put}
 use Rattle.lines.specs.Line.{lineOf}
 use Rattle.lines.specs.declared.Cutter.{Cutter}

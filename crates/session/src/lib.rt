@@ -16,7 +16,7 @@ use lines::Cutter;
 use lines::Kind;
 use lines::Line;
 use stack::Opening;
-use stack::Stack;
+use held::Stack;
 
 // A stack after a line, and what is told of it.
 pub struct Acted {
@@ -172,7 +172,7 @@ fn open_line(s: Stack, line: Line) -> Acted
 {
     let numbers = line.numbers;
     let end = at_most(line.count, 21);
-    let start = stack::open_stack(&numbers[..end]);
+    let start = held::open_held(&numbers[..end]);
     let answer = start.answer;
     let opened = start.stack;
     let told = acts::opening_told(answer);

@@ -4,7 +4,7 @@ use Prim.Native.Nat.{ℕ}
 use mathlib.Core.Path.{_≡_, refl}
 use mathlib.Core.Logic.{_≢_}
 use mathlib.Core.Bool.{Bool, true, false, cond}
-use mathlib.Core.List.{List}
+use mathlib.Core.List.{List, []}
 use lib.Dec.{eqb}
 use lib.ListN.{length, set, length-set}
 use lib.Seq.{getD-set-other}
@@ -16,6 +16,7 @@ use Rattle.board.specs.declared.Readings.{Readings}
 use Rattle.board.specs.Sample.{fresh, boardNext, sampleValues, answerSaid}
 use Rattle.frame.specs.Reply.{replySaid}
 use Rattle.stack.specs.Row.{goodRow, placeOf, boardAt}
+use Rattle.stack.specs.Open.{openBars, openingSaid, openAnswer}
 use Rattle.stack.specs.Sample.{sampleRowBars, sampleAnswer, sampleRow}
 use Rattle.stack.specs.Frame.{framePlace, frameRowBars, boardFramed, frameReply, frameAnswer, frameRow}
 
@@ -62,6 +63,12 @@ unfolding frameAnswer
 frame-depends row other bytes buffer g l b = rw (g, l, b)
 
 -- ---- refusals come only by the table, in its order: the answer says the first bar that holds, or the values
+pub open-said : (row : List Board) (plans : List ℕ) → openingSaid (openAnswer row plans) ≡ judged (openBars (length row) plans) []
+unfolding openAnswer
+open-said row plans =
+    let bars = openBars (length row) plans in
+    split (eqb (first bars) 0) (λ e. rw e) (λ e. rw (e, e, number-back bars tt e))
+
 pub sample-said : (row : List Board) (n : ℕ) (x : Readings) (mv : List ℕ)
     → answerSaid (sampleAnswer row n x mv) ≡ judged (sampleRowBars row n x mv) (sampleValues (boardAt row (placeOf n)) x mv)
 unfolding sampleAnswer

@@ -1,18 +1,20 @@
--- On the way to an act on a row: by the record at its place, by the frame taken apart, by what a walk over the row keeps. That these
--- come to the acts is shown in proofs/Ways.antt and proofs/Scanned.antt; nobody need believe them.
+-- On the way to an act on a row: record by record, by the record at its place, by the frame taken apart, by what a walk over the row
+-- keeps. That these come to the acts is shown in proofs/Fills.antt, proofs/Ways.antt and proofs/Scanned.antt; nobody need believe them.
 -- Assumes nothing.
-use Prim.Native.Nat.{ℕ, zero, suc, _+_}
-use mathlib.Core.Bool.{cond}
+use Prim.Native.Nat.{ℕ, zero, suc, _+_, _-_}
+use mathlib.Core.Bool.{Bool, true, false, cond}
 use mathlib.Core.List.{List, [], _∷_, map}
-use lib.Dec.{ltb, leb}
-use lib.ListN.{length, set, take}
+use lib.Dec.{ltb, leb, eqb}
+use lib.ListN.{length, getD, set, take}
 use Rattle.refusal.specs.Refusals.{numbered}
+use Rattle.refusal.specs.Said.{first}
 use Rattle.lists.specs.Marks.{marked}
 use Rattle.board.specs.declared.Board.{Board}
 use Rattle.board.specs.declared.Readings.{Readings}
 use Rattle.board.specs.declared.Answer.{Answer}
 use Rattle.board.specs.declared.Answer.the-variants as answer
 use Rattle.board.specs.Sample.{sampleOf}
+use Rattle.board.specs.Way.{plannedOf}
 use Rattle.frame.specs.declared.Taken.{Taken}
 use Rattle.frame.specs.declared.Request.{Request}
 use Rattle.frame.specs.declared.Reply.{Reply}
@@ -28,7 +30,58 @@ use Rattle.reading.specs.Reading.{summaryOf, place}
 use Rattle.reading.specs.Way.{seenOf, wholeOf}
 use Rattle.stack.specs.declared.View.{View}
 use Rattle.stack.specs.declared.View.the-variants as view
+use Rattle.stack.specs.declared.Opening.{Opening}
+use Rattle.stack.specs.declared.Opening.the-variants as opening
+use Rattle.stack.specs.declared.Progress.{Progress}
+use Rattle.stack.specs.declared.Placed.{Placed}
 use Rattle.stack.specs.Row.{placeOf, boardAt}
+use Rattle.stack.specs.Open.{openBars}
+
+-- ---- an opening, record by record
+abbrev pub fillFrom : ℕ → ℕ → Bool → Progress
+fillFrom at many refused = record { at = at; many = many; refused = refused }
+
+abbrev pub refusedFill : Progress
+refusedFill = fillFrom 0 0 true
+
+unfoldable pub startOf : List ℕ → ℕ → Progress
+startOf plans boards = cond (eqb (first (openBars boards plans)) 0) (fillFrom 0 boards false) refusedFill
+
+abbrev pub more : Progress → Bool
+more x = ltb (x .at) (x .many)
+
+abbrev pub left : Progress → ℕ
+left x = x .many - x .at
+
+unfoldable pub placedOf : Board → Progress → List ℕ → Placed
+placedOf b x plans =
+    cond (ltb (x .at) (length plans))
+    (record { board = plannedOf (getD plans (x .at) 0); next = fillFrom (x .at + 1) (x .many) (x .refused) })
+    (record { board = b; next = refusedFill })
+
+unfoldable pub fillAt : List Board → Progress → List ℕ → Progress
+fillAt row x plans = cond (ltb (x .at) (length row)) (placedOf (boardAt row (x .at)) x plans .next) refusedFill
+
+unfoldable pub fillRowAt : List Board → Progress → List ℕ → List Board
+fillRowAt row x plans = cond (ltb (x .at) (length row)) (set row (x .at) (placedOf (boardAt row (x .at)) x plans .board)) row
+
+-- so many turns, while there is more to put
+unfoldable pub turnsEnd : ℕ → List Board → Progress → List ℕ → Progress
+turnsEnd zero row x plans = x
+turnsEnd (suc n) row x plans = cond (more x) (turnsEnd n (fillRowAt row x plans) (fillAt row x plans) plans) x
+
+unfoldable pub turnsRow : ℕ → List Board → Progress → List ℕ → List Board
+turnsRow zero row x plans = row
+turnsRow (suc n) row x plans = cond (more x) (turnsRow n (fillRowAt row x plans) (fillAt row x plans) plans) row
+
+unfoldable pub fillEnd : List Board → Progress → List ℕ → Progress
+fillEnd row x plans = turnsEnd (left x) row x plans
+
+unfoldable pub fillRow : List Board → Progress → List ℕ → List Board
+fillRow row x plans = turnsRow (left x) row x plans
+
+abbrev pub openingBy : Progress → Opening
+openingBy x = cond (x .refused) (opening.Refused (numbered 1)) opening.Opened
 
 -- ---- by the record at its place, in a row that was found good
 abbrev pub noSample : Answer

@@ -1,15 +1,12 @@
 // The public library: a stack as one row of board records, lent to each routine (01, The stack and its readings).
 // Every routine over lent records is put together of pieces of crate walks or is one of its shapes, and calls proved work on plain values.
 ghost use mathlib.Core.Path.{_≡_};
-ghost use mathlib.Core.Bool.{true, not};
-ghost use Prim.Native.Nat.{_≤_};
-ghost use lib.ListN.{length};
-ghost use Rattle.board.specs.Sample.{sampleOf, badBoard};
+ghost use mathlib.Core.Bool.{not};
 ghost use Rattle.registers.specs.Registers.{obeyedOf};
 ghost use Rattle.stack.specs.Row.{badCount, goodRow, placeOf};
-ghost use Rattle.stack.specs.Open.{goodCounts, freshRow, noStack, openOf};
+ghost use Rattle.stack.specs.Open.{goodPlans, openAnswer, openRow};
 ghost use Rattle.stack.specs.Sample.{sampleAnswer, sampleRow};
-ghost use Rattle.stack.specs.Way.{sampleAnswerAt, sampleRowAt, noSample, noRowSample, askedPlace, obeyOutcomeAt, obeyRowAt, frameAnswerIn, frameRowIn, frameBufferIn, noOutcome, noRowReply, seenRow, placeAt, firstFrom, lookOf, viewOf, noRowView};
+ghost use Rattle.stack.specs.Way.{refusedFill, startOf, more, placedOf, fillAt, fillRowAt, fillEnd, fillRow, openingBy, sampleAnswerAt, sampleRowAt, noSample, noRowSample, askedPlace, obeyOutcomeAt, obeyRowAt, frameAnswerIn, frameRowIn, frameBufferIn, noOutcome, noRowReply, seenRow, placeAt, firstFrom, lookOf, viewOf, noRowView};
 ghost use Rattle.stack.specs.Frame.{frameAnswer, frameRow, frameBuffer};
 ghost use Rattle.lists.specs.Marks.{marked};
 ghost use Rattle.reading.specs.Reading.{place};
@@ -31,17 +28,6 @@ pub enum Opening {
     Refused(Refusal),
 }
 
-// A stack by value: its boards, of which the first so many are its own.
-pub struct Stack {
-    pub boards: [Board; 16],
-    pub count: usize,
-}
-
-pub struct Start {
-    pub stack: Stack,
-    pub answer: Opening,
-}
-
 pub enum View {
     Read(Whole),
     Refused(Refusal),
@@ -49,16 +35,10 @@ pub enum View {
 
 // ---- which row is good, and where a board is
 
-pub fn bad_count(boards: usize) -> bool
+fn bad_count(boards: usize) -> bool
     ensures { λ r. ⌜ r ≡ badCount boards ⌝ }
 {
     (boards < 1) | (16 < boards)
-}
-
-fn bad_board(b: Board) -> bool
-    ensures { λ r. ⌜ r ≡ badBoard b ⌝ }
-{
-    (b.count < 5) | (10 < b.count)
 }
 
 fn good_row(row: &[Board]) -> bool
@@ -69,7 +49,7 @@ fn good_row(row: &[Board]) -> bool
     }
     let mut i = 0;
     while i < row.len() {
-        if bad_board(row[i]) {
+        if board::bad_board(row[i]) {
             return false;
         }
         i += 1;
@@ -92,72 +72,140 @@ fn place_of(board: u32) -> usize
 
 // ---- the opening
 
-// Each board of an opening has 5 to 10 cells.
-pub fn good_counts(counts: &[u32]) -> bool
-    ensures { λ r. ⌜ r ≡ goodCounts (now (counts .entry)) ⌝ }
+fn good_plans(plans: &[u32]) -> bool
+    ensures { λ r. ⌜ r ≡ goodPlans (now (plans .entry)) ⌝ }
 {
     let mut good = true;
     let mut i = 0;
-    while i < counts.len() {
-        let n = counts[i];
-        good = good & !((n < 5) | (10 < n));
+    while i < plans.len() {
+        good = good & !board::bad_plan(plans[i]);
         i += 1;
     }
     good
 }
 
-// The boards of a row that was found good, and records of no board up to 16.
-fn fresh_row(counts: &[u32]) -> [Board; 16]
-    requires { ⌜ (goodCounts (now counts) ≡ true) × (length (now counts) ≤ 16) ⌝ }
-    ensures { λ r. ⌜ r ≡ freshRow (now (counts .entry)) ⌝ }
-{
-    let none = board::fresh_board(0);
-    let mut boards = [none; 16];
-    let mut i = 0;
-    while i < counts.len() {
-        boards[i] = board::fresh_board(counts[i] as u8);
-        i += 1;
-    }
-    boards
+// How far the records of an opening are put: the place of the next, how many there are, and whether it is refused.
+struct Progress {
+    at: usize,
+    many: usize,
+    refused: bool,
 }
 
-fn no_stack() -> Stack
-    ensures { λ r. ⌜ r ≡ noStack ⌝ }
+struct Placed {
+    board: Board,
+    next: Progress,
+}
+
+fn refused_fill() -> Progress
+    ensures { λ r. ⌜ r ≡ refusedFill ⌝ }
 {
-    let none = board::fresh_board(0);
-    let boards = [none; 16];
-    Stack {
-        boards: boards,
-        count: 0,
+    Progress {
+        at: 0,
+        many: 0,
+        refused: true,
     }
 }
 
-// The cell count of each board, southernmost first, gives the stack.
-pub fn open_stack(counts: &[u32]) -> Start
-    ensures { λ r. ⌜ r ≡ openOf (now (counts .entry)) ⌝ }
+// The plans are good, one for each record of the row, or nothing is put.
+fn start(plans: &[u32], boards: usize) -> Progress
+    ensures { λ r. ⌜ r ≡ startOf (now (plans .entry)) boards ⌝ }
 {
-    let n = counts.len();
-    if bad_count(n) {
-        return Start {
-            stack: no_stack(),
-            answer: Opening::Refused(Refusal::BadRow),
+    if plans.len() != boards {
+        return refused_fill();
+    }
+    if bad_count(boards) {
+        return refused_fill();
+    }
+    if good_plans(plans) {
+        return Progress {
+            at: 0,
+            many: boards,
+            refused: false,
         };
     }
-    if good_counts(counts) {
-        let boards = fresh_row(counts);
-        let stack = Stack {
-            boards: boards,
-            count: n,
+    refused_fill()
+}
+
+fn more_left(x: Progress) -> bool
+    ensures { λ r. ⌜ r ≡ more x ⌝ }
+{
+    x.at < x.many
+}
+
+fn place_in(x: Progress) -> usize
+    ensures { λ r. ⌜ r ≡ x .at ⌝ }
+{
+    x.at
+}
+
+fn put(b: Board, x: Progress, plans: &[u32]) -> Placed
+    ensures { λ r. ⌜ r ≡ placedOf b x (now (plans .entry)) ⌝ }
+{
+    let at = x.at;
+    if at < plans.len() {
+        let board = board::planned_board(plans[at]);
+        let next = Progress {
+            at: at + 1,
+            many: x.many,
+            refused: x.refused,
         };
-        return Start {
-            stack: stack,
-            answer: Opening::Opened,
+        return Placed {
+            board: board,
+            next: next,
         };
     }
-    Start {
-        stack: no_stack(),
-        answer: Opening::Refused(Refusal::BadRow),
+    let next = refused_fill();
+    Placed {
+        board: b,
+        next: next,
     }
+}
+
+fn put_board(b: &mut Board, x: Progress, plans: &[u32]) -> Progress
+    ensures { λ r. ⌜ (r ≡ placedOf (now (b .entry)) x (now (plans .entry)) .next) × (now (b .exit) ≡ placedOf (now (b .entry)) x (now (plans .entry)) .board) ⌝ }
+{
+    let s = put(*b, x, plans);
+    *b = s.board;
+    s.next
+}
+
+fn put_at(row: &mut [Board], x: Progress, plans: &[u32]) -> Progress
+    ensures { λ r. ⌜ (r ≡ fillAt (now (row .entry)) x (now (plans .entry))) × (now (row .exit) ≡ fillRowAt (now (row .entry)) x (now (plans .entry))) ⌝ }
+{
+    let at = place_in(x);
+    if at < row.len() {
+        return put_board(&mut row[at], x, plans);
+    }
+    refused_fill()
+}
+
+fn fill(row: &mut [Board], x: Progress, plans: &[u32]) -> Progress
+    ensures { λ r. ⌜ (r ≡ fillEnd (now (row .entry)) x (now (plans .entry))) × (now (row .exit) ≡ fillRow (now (row .entry)) x (now (plans .entry))) ⌝ }
+{
+    let mut st = x;
+    while more_left(st) {
+        st = put_at(row, st, plans);
+    }
+    st
+}
+
+fn opening_of(x: Progress) -> Opening
+    ensures { λ r. ⌜ r ≡ openingBy x ⌝ }
+{
+    if x.refused {
+        return Opening::Refused(Refusal::BadRow);
+    }
+    Opening::Opened
+}
+
+// A plan for each board, southernmost first: every record of the row as its board starts.
+pub fn open_row(row: &mut [Board], plans: &[u32]) -> Opening
+    ensures { λ r. ⌜ (r ≡ openAnswer (now (row .entry)) (now (plans .entry))) × (now (row .exit) ≡ openRow (now (row .entry)) (now (plans .entry))) ⌝ }
+{
+    let boards = row.len();
+    let x = start(plans, boards);
+    let end = fill(row, x, plans);
+    opening_of(end)
 }
 
 // ---- a sample

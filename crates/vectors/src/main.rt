@@ -5,7 +5,7 @@ use board::Answer;
 use board::Readings;
 use frame::Reply;
 use stack::Opening;
-use stack::Stack;
+use held::Stack;
 use stack::View;
 
 const OUT: i32 = 1;
@@ -162,7 +162,7 @@ fn published() {
 
 // The session of the paper.
 fn session() {
-    let start = stack::open_stack(&[5]);
+    let start = held::open_held(&[5]);
     let answer = start.answer;
     show_opening(answer);
     let s = start.stack;

@@ -18,11 +18,13 @@ pub mod Every
 pub mod Fold
 pub mod Sought
 pub mod Framed
+pub mod LendsSlice
 pub mod LendsBeside
 pub mod LendsFrame
 pub mod LendsShared
 pub mod Lined
 pub mod Turning
+pub mod Filling
 pub mod LendsRun
 pub mod Listed
 pub mod ListedFrame

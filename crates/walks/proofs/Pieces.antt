@@ -10,6 +10,7 @@
 --     branch l p q     `if l { p } q`, where p and q may use how the test came out
 --     answers l e      `l`, which is returned: all that is lent stays as it is, and e says that this is what the contract says
 --     calls-on ls t h S g, calls-all S g     `g(..)`, whose answer is returned, of the arguments h or of all parameters: what it says, S, is what the contract says
+--     tells-on ls t h P S f e F g     `let a = f(..); g(a)`, which is returned: what f says of a, g says in other words
 --     Keys             which tokens the callee is handed: all-keys, no-keys
 --     meets            a function fulfils its form where its body is a piece
 -- The locals of a piece and its code are parameters of its type: they are read off the term, and compared with the function's own.
@@ -246,6 +247,20 @@ module _ {M : Type 1} {𝓤 : URA M} {H : Heap 𝓤} {A : Atoms 𝓤} {g : Form}
         calls-h c hs ls t h e (g .result) (c .answer) S f meets E us ms zero k q return (still-hand c (λ _ _. refl) le h₀) are (h₀ .result) (λ ws. last c (ends-by c hs ls t h ws)) (settled 𝓤 H A (c .κs) (t .lfts) (values c hs) (c .W) h (c .plain) (c .passed)) (λ us′ r ws s says l is.
         returns-in ! E (put zero (some (c .answer .val r)) us′) (End c) w (h₀ .result) refl
         (exits (c .W) g (c .plain) (c .κs) (c .qs) (c .passed) (c .answer) (ends-by c hs ls t h ws) r (c .answer .val r) (y r ws says) (lengths 𝓤 H A (c .κs) (t .lfts) (values c hs) h (c .plain) (c .passed) ws l) is));
+  }
+
+  pub tells-on : {Y : RattleType} (P : PlainType 𝓤 H A Y) (S : Said ls Y) (f : Name) → Triple 𝓤 (c .𝓣 .C f) (met (record { lifetimes = m; params = ls; result = Y; says-of = S }) 𝓤 H A) → Fit c hs ls t h → (F : Y .Denot → g .result .Denot) (tell : Name) → Triple 𝓤 (c .𝓣 .C tell) (met (of-one (g .result) Y F) 𝓤 H A)
+      → ((r : Y .Denot) (ws : Lasting (t .lfts) ls (sent c hs ls t h)) → S (t .lfts) (sent c hs ls t h) r (outs (t .lfts) (slots ls) (all yes (slots ls)) (sent c hs ls t h) ws) → Says c (F r) (ends-by c hs ls t h ws))
+      → Piece c Qs hs (by-values (ty Y ∷ [])) (fresh h) (λ ms j k. calling h [] f ms 1 j k (seq (call tell (it j ∷ []) (place zero [])) return))
+  tells-on {Y} P S f meets e F tell meets′ y = record {
+    walks = λ E us ms j k q le h₀ named are w.
+        calls-h c hs ls t h e Y P S f meets E us ms j k q _ (still-hand c (λ _ _. refl) (less le) h₀) are (named .0) (λ ws. last c (ends-by c hs ls t h ws)) (settled 𝓤 H A (c .κs) (t .lfts) (values c hs) (c .W) h (c .plain) (c .passed)) (λ us′ r ws s says l is.
+        let us₁ : Store = put j (some (P .val r)) us′ in
+        let X : SProp 𝓤 = ⋆ 𝓤 H A (keys c ++ last c (ends-by c hs ls t h ws)) in
+        calls-in (c .W) (c .𝓣) E (of-one (g .result) Y F) (P, tt) tt tt (r, tt) (c .answer) meets′ (is, tt) us₁ (j ∷ []) ((named .0 .inside, put-here j (some (P .val r)) us′), tt) zero (h₀ .result) X X (emp∗ 𝓤 X) (λ z _ told _ z-is.
+        turns (raw (frame 𝓤 H E (put zero (some (c .answer .val z)) us₁)) ∷ raw X ∷ []) (monoR 𝓤 (frame 𝓤 H E (put zero (some (c .answer .val z)) us₁)) (snd∗ 𝓤 (emp 𝓤) X)) $
+        returns-in ! E (put zero (some (c .answer .val z)) us₁) (End c) w (h₀ .result) refl
+        (exits (c .W) g (c .plain) (c .κs) (c .qs) (c .passed) (c .answer) (ends-by c hs ls t h ws) z (c .answer .val z) (subst (λ (v : g .result .Denot). Says c v (ends-by c hs ls t h ws)) (sym told) (y r ws says)) (lengths 𝓤 H A (c .κs) (t .lfts) (values c hs) h (c .plain) (c .passed) ws l) z-is)));
   }
 
   pub asks : {Q : RattleType} {P : PlainType 𝓤 H A Q} (F : (μs : Lfts m) → Passed μs ls → Q .Denot) (f : Name) → Triple 𝓤 (c .𝓣 .C f) (met (record { lifetimes = m; params = ls; result = Q; says-of = λ μs a r e. r ≡ F μs a }) 𝓤 H A) → Fit c hs ls t h → Quiet 𝓤 H A (c .κs) (t .lfts) (values c hs) h

@@ -2,6 +2,7 @@
 -- Assumes nothing.
 --     copied B T l     a look with a copy of the record at hand: in `g(*b, ..)` it is the newest value
 --     asks-row F g     a look, `g(row)`: the row is shown for the time of the call.        asks-slice F g     the same of a `&[R]`
+--     how-many         a look, `row.len()`
 --     at-place v F g p q     the piece `let at = g(x); if at < row.len() { p } q`, of one value at hand: it says `r ≡ F x`. For p and q it is the newest
 --     lends-at v z ls h S g     the piece `g(&mut row[at], ..)`, whose answer is returned: the element is lent for the time of the call, and h hands on of the other parameters. z is what stands past the end
 --     first-key, later-keys     the token of the first lifetime, and those of all others
@@ -183,6 +184,9 @@ module _ {M : Type 1} {𝓤 : URA M} {H : Heap 𝓤} {A : Atoms 𝓤} {W : Given
         row-home R y ! tt (so .0) ν δ $ homes (flft (κs .0) (qs .0)) (mut-slice R (κs .0) y) Γ Δ ! (frame 𝓤 H E us₂) $ lands-in ! E us₂ d d-is (has P r is) $
         subst (λ (x : Q .Denot). Runs c E (put d (some (P .val x)) us₂) (whole c) rest q) (sym e) (go us₂ (then-same (one-more k) (put-same k (some (vptr (y .ptr .0) (y .ptr .1))) us) (put-same (suc k) (some (slice-val y)) us₁)) (subst (λ (x : Q .Denot). Is Q x (P .val x ∷ [])) e is))));
   }
+
+  pub how-many : {Qs : List RattleType} {hs : Held 𝓤 H A Qs} → Look (scene W 𝓣 (handed zero tt R ∷ ks) O S N P₀ κs qs a so) Qs hs usize (uint 𝓤 H A W w64) (length (now (a .0))) [] (λ ms d k rest. seq (sets d (rvOpd (len-of 1))) rest)
+  how-many = record { looks = λ E us ms d k q rest h are d-is go. sets-in ! E us d d-is (tt, record { fits = so .0 .0 }) (of-opd ! (len-in E us 1 ! (h .params .0))) $ go us (λ _ _. refl) (refl, so .0 .0) }
 
   -- the place lies in a local already
   within : {Qs : List RattleType} {hs : Held 𝓤 H A Qs} (v : Var (handed zero tt R ∷ ks) Qs usize) {ns₁ ns₂ ts₁ ts₂ : List Local} {b₁ b₂ : Spots Qs → ℕ → ℕ → Body} → let c = scene W 𝓣 (handed zero tt R ∷ ks) O S N P₀ κs qs a so in let i = values c hs usize v .1 in

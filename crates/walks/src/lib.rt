@@ -8,10 +8,12 @@
 // looks           f()    f(x)    f(x, cells)        nothing, asks-of, asks: a function by value, with slices shown. f: r ≡ F x cells
 //                 f(*b, ..)                         copied, of a `&mut T` that is the first parameter
 //                 f(row)                            asks-row, asks-slice: of a `&mut [T]` or a `&[T]` that is the first parameter. f: r ≡ F row
+//                 row.len()                         how-many, of a `&mut [T]` that is the first parameter
 // pieces          let y = look; piece               lets
 //                 if look { piece } piece           branch
 //                 look                              answers: this is returned, and all that is lent stays as it is
 //                 f(row, x, ..)                     calls-all, calls-on: its answer is returned. f takes all parameters, or some and values at hand
+//                 let a = f(row, x, ..); h(a)       tells-on: what h makes of the answer is returned
 //                 let at = look; if at < row.len() { piece } piece        at-place, of a `&mut [T]` that is the first parameter
 //                 f(&mut row[at], x, ..)            lends-at: its answer is returned
 //
@@ -44,6 +46,8 @@
 // Framed          fn g(row: &mut [T], bytes: &[E], reply: &mut [G]) -> O { let d = f1(bytes, reply.len()); if done(d) { return told(d); } let z = part(d); let y = f2(row, z); f3(reply, d, y) }
 //                 f1: r ≡ P bytes room          done: r ≡ is-done d      told: r ≡ tells d   part: r ≡ part-of d   f2: (r ≡ A2 row z) × (row' ≡ R2 row z)   f3: (r ≡ A3 reply d y) × (reply' ≡ C3 reply d y)
 //                 g: (r ≡ A row bytes reply) × ((row' ≡ R row bytes reply) × (reply' ≡ C row bytes reply))
+// LendsSlice      fn g(boards: [T; N], n: usize, cells: &[E]) -> Q { let mut row = boards; let answer = f(&mut row[..n], cells); Q { boards: row, answer: answer } }
+//                 requires n ≤ N                f: (r ≡ F row cells) × (row' ≡ R row cells)                 g: r ≡ A boards n cells
 // LendsBeside     fn g(boards: [T; N], n: usize, k: K, x: X, cells: &[E]) -> Q { let mut row = boards; let answer = f(&mut row[..n], k, x, cells); Q { boards: row, answer: answer } }
 //                 requires n ≤ N                f: (r ≡ F row k x cells) × (row' ≡ R row k x cells)         g: r ≡ A boards n k x cells
 // LendsFrame      fn g(boards: [T; N], n: usize, bytes: &[E], reply: &mut [G]) -> Q { let mut row = boards; let answer = f(&mut row[..n], bytes, reply); Q { boards: row, answer: answer } }
@@ -55,6 +59,8 @@
 //                 g: (r ≡ A row s block out) × ((row' ≡ R row s block out) × (out' ≡ C row s block out))
 // Turning         fn g(row: &mut [T], s: S, block: &[E], out: &mut [G]) -> S { let mut st = s; while more(st) { st = f(row, st, block, out); } st }
 //                 more: r ≡ m st                f as g of Lined, with S for O                  g as f
+// Filling         fn g(row: &mut [T], x: S, cells: &[E]) -> S { let mut st = x; while more(st) { st = f(row, st, cells); } st }
+//                 more: r ≡ m st                f: (r ≡ F row st cells) × (row' ≡ R row st cells)              g as f
 // LendsRun        fn g(boards: [T; N], n: usize, s: S, block: &[E], out: &mut [G]) -> Q { let mut row = boards; let state = f(&mut row[..n], s, block, out); Q { boards: row, state: state } }
 //                 requires n ≤ N                f as g of Lined          g: (r ≡ A boards n s block out) × (out' ≡ C boards n s block out)
 // Listed          fn g(row: &mut [T], x: X) -> O { let n = f1(x); let z = f2(x); let cells = f3(x); let m = f4(x); let a = f(row, n, z, &cells[..m]); h(a) }

@@ -13,8 +13,8 @@ array-share-prefix-numbers c =
     let long : length (c .before .before .args .line .numbers) ≡ 21 = search needs in
     omega arith
 
-slice-aggregate-open-stack : tie.Need-slice-aggregate-open-stack
-slice-aggregate-open-stack c =
+slice-aggregate-open-held : tie.Need-slice-aggregate-open-held
+slice-aggregate-open-held c =
     let numbers = c .before .before .before .args .line .numbers in
     let long : length numbers ≡ 21 = search needs in
     rw (length-take (c .before .at-most .result) numbers) (omega arith)
@@ -23,14 +23,14 @@ returns : tie.Need-returns
 unfolding opens
 returns c =
     let c4 = c .before .before .before .before in
-    let start = rw (c4 .before .before .at-most .ensures) at (c4 .open-stack .ensures) in
+    let start = rw (c4 .before .before .at-most .ensures) at (c4 .open-held .ensures) in
     rw (c .before .before .opening-told .ensures, ← start, c .enum-told .given .1)
 
 returns-2 : tie.Need-returns-2
 unfolding opens
 returns-2 c =
     let c4 = c .before .before .before .before in
-    let start = rw (c4 .before .before .at-most .ensures) at (c4 .open-stack .ensures) in
+    let start = rw (c4 .before .before .at-most .ensures) at (c4 .open-held .ensures) in
     rw (c .before .before .opening-told .ensures, ← start, c .enum-told2 .given .1)
 
 pub open-line-spec : {M : Type 1} → statement M
@@ -38,6 +38,6 @@ open-line-spec =
     tie.close
     (tie.spec
     (λ c κs. search needs)
-    array-share-prefix-numbers slice-aggregate-open-stack (λ c κs. search needs)
+    array-share-prefix-numbers slice-aggregate-open-held (λ c κs. search needs)
     (λ c κs. search needs) (λ c. search needs) (λ c. search needs)
     returns returns-2)

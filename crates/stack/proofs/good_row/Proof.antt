@@ -19,8 +19,8 @@ use Rattle.walks.proofs.Every.{Shape, Knows, meets, every}
 use Rattle.stack.proofs.Known as known
 use Rattle.stack.proofs.bad_count.Symbol.{name as #bad-count}
 use Rattle.stack.proofs.bad_count.Met as bad-count′
-use Rattle.stack.proofs.bad_board.Symbol.{name as #bad-board}
-use Rattle.stack.proofs.bad_board.Met as bad-board′
+use Rattle.board.proofs.bad_board.Symbol.{name as #bad-board}
+use Rattle.board.proofs.bad_board.Met as bad-board′
 use Rattle.stack.proofs.good_row.Key as key
 use Rattle.stack.proofs.good_row.Statement as stated
 use Rattle.stack.proofs.good_row.Code as code
@@ -55,4 +55,4 @@ good-row-spec 𝓤 H 𝓜 𝓖 𝓡 =
     entered 𝓤 H _ _ _ key.name code.function (code.unfolded 𝓤 H 𝓜 𝓡)
     (meets 𝓤 H (𝓖 .A) (givenOf 𝓤 H 𝓜 𝓖) shape (knows 𝓤 H (𝓖 .A) (givenOf 𝓤 H 𝓜 𝓖)) (tablesOf 𝓤 H 𝓜 (tables 𝓤 H 𝓜 𝓡 code.env))
     (cited 𝓤 H _ 𝓜 𝓡 code.env #bad-count _ code.calls-stack·bad-count (bad-count′.met 𝓤 H 𝓜 𝓖 𝓡))
-    (cited 𝓤 H _ 𝓜 𝓡 code.env #bad-board _ code.calls-stack·bad-board (bad-board′.met 𝓤 H 𝓜 𝓖 𝓡)))
+    (cited 𝓤 H _ 𝓜 𝓡 code.env #bad-board _ code.calls-board·bad-board (bad-board′.met 𝓤 H 𝓜 𝓖 𝓡)))
