@@ -3,3 +3,4 @@ pub mod Signed
 pub mod Laws
 pub mod Unmoved
 pub mod Looking
+pub mod Counts

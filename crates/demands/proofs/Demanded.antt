@@ -15,7 +15,7 @@ use Rattle.board.specs.Sample.{fresh, badBoard, badPlan}
 use Rattle.stack.specs.Row.{badCount, goodRow, placeOf}
 use Rattle.stack.specs.Open.{goodPlans, opened, openRow}
 use Rattle.stack.specs.Frame.{framePlace}
-use Rattle.stack.proofs.Counts.{within}
+use Rattle.board.proofs.Counts.{within}
 use Rattle.demands.specs.Paper.{Entry, sampled}
 use Rattle.demands.specs.Acts.{Act, sample, frame, reading, Outcome, bars, outcome, next, final, answers}
 use Rattle.demands.specs.Demands.{Log, log, begun, logAt, joined, boardGiven, rowGiven, frameEntry, joins, taken, told, opens, Demand2}

@@ -29,7 +29,7 @@ use Rattle.stack.specs.Row.{goodRow, noBoard, placeOf, boardAt}
 use Rattle.stack.specs.Sample.{sampleRowBars, sampleRow}
 use Rattle.stack.specs.Frame.{framePlace, frameBoard, boardFramed, frameReply, frameRowBars, frameRow, frameBuffer}
 use Rattle.stack.specs.Read.{readBars}
-use Rattle.stack.proofs.Counts.{within}
+use Rattle.board.proofs.Counts.{within}
 use Rattle.stack.proofs.Ways.{board-good, has-none}
 use Rattle.stack.proofs.Laws.{sample-said, frame-said}
 use Rattle.demands.specs.Paper.{sampled, working, spent, latchesAt}

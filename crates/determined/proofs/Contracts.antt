@@ -65,9 +65,6 @@ use Rattle.frame.proofs.take_apart.Reads as frame-take-apart
 use Rattle.frame.proofs.refused.Reads as frame-refused
 use Rattle.frame.proofs.request_of.Reads as frame-request-of
 use Rattle.frame.proofs.refusal.Reads as frame-refusal
-use Rattle.reading.proofs.none_seen.Reads as reading-none-seen
-use Rattle.reading.proofs.see.Reads as reading-see
-use Rattle.reading.proofs.read_all.Reads as reading-read-all
 use Rattle.held.proofs.open_held.Reads as held-open-held
 use Rattle.board.proofs.bad_board.Reads as board-bad-board
 use Rattle.board.proofs.bad_plan.Reads as board-bad-plan
@@ -232,16 +229,6 @@ frame-request-of-one κs a r t s u = agree
 
 pub frame-refusal-one : (κs : _) (a : _) (r t : _) (s u : _) → frame-refusal.Learnt κs a r s → frame-refusal.Learnt κs a t u → r ≡ t
 frame-refusal-one κs a r t s u = agree
-
--- ---- reading
-pub reading-none-seen-one : (κs : _) (a : _) (r t : _) (s u : _) → reading-none-seen.Learnt κs a r s → reading-none-seen.Learnt κs a t u → r ≡ t
-reading-none-seen-one κs a r t s u = agree
-
-pub reading-see-one : (κs : _) (a : _) (r t : _) (s u : _) → reading-see.Learnt κs a r s → reading-see.Learnt κs a t u → r ≡ t
-reading-see-one κs a r t s u = agree
-
-pub reading-read-all-one : (κs : _) (a : _) (r t : _) (s u : _) → reading-read-all.Learnt κs a r s → reading-read-all.Learnt κs a t u → r ≡ t
-reading-read-all-one κs a r t s u = agree
 
 -- ---- held
 pub held-open-held-one : (κs : _) (a : _) (r t : _) (s u : _) → held-open-held.Learnt κs a r s → held-open-held.Learnt κs a t u → r ≡ t

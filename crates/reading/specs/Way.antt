@@ -1,20 +1,20 @@
--- On the way to a whole-stack reading: what a walk over the boards keeps of them, and the reading from that. That it is the paper's is shown in
--- proofs/Turns.antt; nobody need believe it.
+-- On the way to a whole-stack reading: what a walk over the boards keeps of them, the search for a flagged cell, and the reading from both. That
+-- it is the paper's is shown in proofs/Turns.antt, proofs/Searching.antt and proofs/Scanned.antt; nobody need believe it.
 -- Assumes nothing.
-use Prim.Native.Nat.{ℕ, _+_, _^_}
+use Prim.Native.Nat.{ℕ, zero, suc, _+_, _^_}
 use mathlib.Core.Bool.{Bool, false, cond, not, _&&_, _||_}
 use mathlib.Core.List.{List, [], _∷_, map}
 use lib.Bits.{bitOr}
 use lib.Dec.{leb, eqb}
-use lib.ListN.{length}
+use lib.ListN.{length, take}
 use Rattle.lists.specs.Every.{every}
-use Rattle.lists.specs.Marks.{number, marks}
+use Rattle.lists.specs.Marks.{number, marked, marks}
 use Rattle.board.specs.declared.Board.{Board}
 use Rattle.reading.specs.declared.Summary.{Summary}
 use Rattle.reading.specs.declared.Place.{Place}
 use Rattle.reading.specs.declared.Seen.{Seen}
 use Rattle.reading.specs.declared.Whole.{Whole}
-use Rattle.reading.specs.Reading.{summaryOf, chgOn, dsgOn}
+use Rattle.reading.specs.Reading.{summaryOf, chgOn, dsgOn, place}
 
 -- ---- the line of the latches alone, board 1's first
 abbrev pub latchedOf : List Summary → List Bool
@@ -50,3 +50,24 @@ seenWith seen at b =
 -- ---- the reading from what was kept and the flagged cell
 unfoldable pub wholeOf : Seen → Place → Whole
 wholeOf seen flagged = record { line = up (marks (seen .count) (seen .latched)); chg = seen .chg; dsg = seen .dsg; flagged = flagged }
+
+-- ---- the walk over the row
+-- a row has 16 boards at most
+unfoldable pub seenRow : List Board → Seen
+seenRow row = seenOf (take 16 (map summaryOf row))
+
+-- the search for a flagged cell, cell by cell and board by board; both are counted from 0 here
+abbrev pub placeAt : ℕ → ℕ → Place
+placeAt board cell = cond (leb 16 board) (place 0 0) (cond (leb 16 cell) (place 0 0) (place (board + 1) (cell + 1)))
+
+-- on the board at place i, from the cell at place j on, of which so many are left; or else further north
+unfoldable pub firstOn : Board → ℕ → ℕ → ℕ → Place → Place
+firstOn b i j zero north = north
+firstOn b i j (suc left) north = cond (marked (b .flags) j) (placeAt i j) (firstOn b i (j + 1) left north)
+
+unfoldable pub firstFrom : ℕ → List Board → Place
+firstFrom i [] = place 0 0
+firstFrom i (b ∷ north) = firstOn b i 0 (b .count) (firstFrom (i + 1) north)
+
+unfoldable pub readRow : List Board → Whole
+readRow row = wholeOf (seenRow row) (cond (seenRow row .flagged) (firstFrom 0 row) (place 0 0))

@@ -1,10 +1,11 @@
-// The whole-stack reading, over a summary of each board by value (01, Whole-stack reading).
+// The whole-stack reading: what a walk over the lent row keeps of its boards, and the search for a flagged cell (01, Whole-stack reading).
 ghost use mathlib.Core.Path.{_≡_};
+ghost use mathlib.Core.Bool.{not};
 ghost use mathlib.Core.List.{[]};
 ghost use Prim.Native.Nat.{_<_};
-ghost use Rattle.lists.specs.Marks.{marks};
-ghost use Rattle.reading.specs.Reading.{summaryOf};
-ghost use Rattle.reading.specs.Way.{withBoard, seenOf, seenWith, up, wholeOf};
+ghost use Rattle.lists.specs.Marks.{marks, marked};
+ghost use Rattle.reading.specs.Reading.{summaryOf, place};
+ghost use Rattle.reading.specs.Way.{withBoard, seenOf, seenWith, seenRow, placeAt, firstFrom, up, wholeOf, readRow};
 use board::Board;
 
 // What the reading takes from one board; the flagged cells as a number.
@@ -46,7 +47,7 @@ pub struct Whole {
 
 // What a walk over the row keeps of the boards, southernmost first: how many they are, which have a latch, whether CHG and DSG are on at every one, and whether one has a flag.
 // A set of boards is a number, as a set of cells is: board 1 is worth 1, board 2 is worth 2, board 3 is worth 4 and so on.
-pub struct Seen {
+struct Seen {
     pub count: u8,
     pub latched: u16,
     pub chg: bool,
@@ -55,7 +56,7 @@ pub struct Seen {
 }
 
 // Before the first board.
-pub fn none_seen() -> Seen
+fn none_seen() -> Seen
     ensures { λ r. ⌜ r ≡ seenOf [] ⌝ }
 {
     Seen {
@@ -76,7 +77,7 @@ fn with_board(set: u16, at: usize, is: bool) -> u16
 }
 
 // One board more, north of those seen; a row has 16 at most.
-pub fn see(seen: Seen, at: usize, b: Board) -> Seen
+fn see(seen: Seen, at: usize, b: Board) -> Seen
     ensures { λ r. ⌜ r ≡ seenWith seen at b ⌝ }
 {
     if 16 <= at {
@@ -90,6 +91,75 @@ pub fn see(seen: Seen, at: usize, b: Board) -> Seen
         dsg: seen.dsg & s.dsg,
         flagged: seen.flagged | (s.flags != 0),
     }
+}
+
+// What is kept of the row's boards, gathered board by board.
+fn see_row(row: &[Board]) -> Seen
+    ensures { λ r. ⌜ r ≡ seenRow (now (row .entry)) ⌝ }
+{
+    let mut seen = none_seen();
+    let mut i = 0;
+    while i < row.len() {
+        seen = see(seen, i, row[i]);
+        i += 1;
+    }
+    seen
+}
+
+fn no_place() -> Place
+    ensures { λ r. ⌜ r ≡ place 0 0 ⌝ }
+{
+    Place { board: 0, cell: 0 }
+}
+
+// The place of a cell; a row has 16 boards at most, and a board 16 cells.
+fn place_at(board: usize, cell: usize) -> Place
+    ensures { λ r. ⌜ r ≡ placeAt board cell ⌝ }
+{
+    if 16 <= board {
+        return no_place();
+    }
+    if 16 <= cell {
+        return no_place();
+    }
+    Place {
+        board: board as u8 + 1,
+        cell: cell as u8 + 1,
+    }
+}
+
+fn cell_count(b: Board) -> usize
+    ensures { λ r. ⌜ r ≡ b .count ⌝ }
+{
+    b.count as usize
+}
+
+fn is_flagged(b: Board, cell: usize) -> bool
+    ensures { λ r. ⌜ r ≡ marked (b .flags) cell ⌝ }
+{
+    lists::mark_at(b.flags, cell)
+}
+
+// The southernmost board with a flagged cell, and the lowest such cell on it: the first one found ends both loops.
+fn first_flagged(row: &[Board]) -> Place
+    ensures { λ r. ⌜ r ≡ firstFrom 0 (now (row .entry)) ⌝ }
+{
+    let mut place = no_place();
+    let mut i = 0;
+    'boards: while i < row.len() {
+        let b = row[i];
+        let cells = cell_count(b);
+        let mut j = 0;
+        while j < cells {
+            if is_flagged(b, j) {
+                place = place_at(i, j);
+                break 'boards;
+            }
+            j += 1;
+        }
+        i += 1;
+    }
+    place
 }
 
 // ---- the reading
@@ -111,7 +181,7 @@ fn line_up(latched: u16, left: u8) -> bool
 }
 
 // The reading of the boards seen: board 1's line, pack CHG, pack DSG and the flagged cell.
-pub fn read_all(seen: Seen, flagged: Place) -> Whole
+fn read_all(seen: Seen, flagged: Place) -> Whole
     ensures { λ r. ⌜ r ≡ wholeOf seen flagged ⌝ }
 {
     let line = line_up(seen.latched, seen.count);
@@ -121,4 +191,28 @@ pub fn read_all(seen: Seen, flagged: Place) -> Whole
         dsg: seen.dsg,
         flagged: flagged,
     }
+}
+
+fn none_flagged(seen: Seen) -> bool
+    ensures { λ r. ⌜ r ≡ not (seen .flagged) ⌝ }
+{
+    !seen.flagged
+}
+
+fn read_without(seen: Seen) -> Whole
+    ensures { λ r. ⌜ r ≡ wholeOf seen (place 0 0) ⌝ }
+{
+    read_all(seen, no_place())
+}
+
+// The reading of a row. A flagged cell is sought only where a board has a flag.
+pub fn read_row(row: &[Board]) -> Whole
+    ensures { λ r. ⌜ r ≡ readRow (now (row .entry)) ⌝ }
+{
+    let seen = see_row(row);
+    if none_flagged(seen) {
+        return read_without(seen);
+    }
+    let flagged = first_flagged(row);
+    read_all(seen, flagged)
 }

@@ -17,7 +17,7 @@ use Rattle.board.specs.Sample.{fresh, badPlan}
 use Rattle.board.specs.Way.{plannedOf}
 use Rattle.stack.specs.Row.{badCount, boardAt}
 use Rattle.stack.specs.Open.{goodPlans, openAnswer, openRow}
-use Rattle.stack.proofs.Counts.{within}
+use Rattle.board.proofs.Counts.{within}
 use Rattle.stack.specs.declared.Progress.{Progress}
 use Rattle.stack.specs.Way.{fillFrom, refusedFill, startOf, more, left, placedOf, fillAt, fillRowAt, turnsEnd, turnsRow, fillEnd, fillRow, openingBy}
 

@@ -21,10 +21,8 @@ use Rattle.frame.proofs.Outcome as Outcome
 use Rattle.frame.proofs.Outcome.Laws as Outcome′
 use Rattle.frame.proofs.Reply as Reply
 use Rattle.frame.proofs.Reply.Laws as Reply′
-use Rattle.reading.proofs.Place as Place
-use Rattle.reading.proofs.Place.Laws as Place′
-use Rattle.reading.proofs.Seen as Seen
-use Rattle.reading.proofs.Seen.Laws as Seen′
+use Rattle.reading.proofs.Whole as Whole
+use Rattle.reading.proofs.Whole.Laws as Whole′
 use Rattle.stack.proofs.Opening as Opening
 use Rattle.stack.proofs.Opening.Laws as Opening′
 use Rattle.stack.proofs.Progress as Progress
@@ -59,12 +57,6 @@ module _ {M : Type 1} (𝓤 : URA M) (H : Heap 𝓤) (A : Atoms 𝓤) (W : Given
   abbrev pub reply : PlainType 𝓤 H A Reply.the-row
   reply = enumeration 𝓤 H A W Reply.the-type Reply′.the-laws Reply′.the-plain Reply′.the-copy tt
 
-  abbrev pub place : PlainType 𝓤 H A Place.the-row
-  place = struct 𝓤 H A W Place.the-type Place′.the-laws Place′.the-plain Place′.the-copy
-
-  abbrev pub seen : PlainType 𝓤 H A Seen.the-row
-  seen = struct 𝓤 H A W Seen.the-type Seen′.the-laws Seen′.the-plain Seen′.the-copy
-
   abbrev pub view : PlainType 𝓤 H A View.the-row
   view = enumeration 𝓤 H A W View.the-type View′.the-laws View′.the-plain View′.the-copy tt
 
@@ -88,3 +80,6 @@ module _ {M : Type 1} (𝓤 : URA M) (H : Heap 𝓤) (A : Atoms 𝓤) (W : Given
         spelled = λ z. refl;
         owed = λ z is. (LL.owed Placed.the-type Placed′.the-laws z _ is .0, LL.owed Placed.the-type Placed′.the-laws z _ is .1 .0);
       }
+
+  abbrev pub whole : PlainType 𝓤 H A Whole.the-row
+  whole = struct 𝓤 H A W Whole.the-type Whole′.the-laws Whole′.the-plain Whole′.the-copy

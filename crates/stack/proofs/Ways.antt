@@ -30,7 +30,7 @@ use Rattle.stack.specs.Row.{badCount, goodRow, noBoard, placeOf, boardAt
 use Rattle.stack.specs.Sample.{sampleAnswer, sampleRow}
 use Rattle.stack.specs.Way.{noRowSample, sampleAnswerAt, sampleRowAt, obeyOutcomeAt, obeyRowAt, noRowReply, takenAnswer, takenRow, takenBuffer, frameAnswerIn, frameRowIn, frameBufferIn}
 use Rattle.stack.specs.Frame.{framePlace, frameBoard, boardFramed, frameAnswer, frameRow, frameBuffer}
-use Rattle.stack.proofs.Counts.{within}
+use Rattle.board.proofs.Counts.{within}
 
 -- a record that is new only where the act is accepted
 set-kept : (accepted : Bool) (row : List Board) (at : ℕ) (new : Board) → set row at (cond accepted new (boardAt row at)) ≡ cond accepted (set row at new) row

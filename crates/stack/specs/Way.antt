@@ -1,14 +1,13 @@
--- On the way to an act on a row: record by record, by the record at its place, by the frame taken apart, by what a walk over the row
--- keeps. That these come to the acts is shown in proofs/Fills.antt, proofs/Ways.antt and proofs/Scanned.antt; nobody need believe them.
+-- On the way to an act on a row: record by record, by the record at its place, by the frame taken apart. That these come to the
+-- acts is shown in proofs/Fills.antt and proofs/Ways.antt; nobody need believe them.
 -- Assumes nothing.
 use Prim.Native.Nat.{ℕ, zero, suc, _+_, _-_}
 use mathlib.Core.Bool.{Bool, true, false, cond}
-use mathlib.Core.List.{List, [], _∷_, map}
-use lib.Dec.{ltb, leb, eqb}
-use lib.ListN.{length, getD, set, take}
+use mathlib.Core.List.{List}
+use lib.Dec.{ltb, eqb}
+use lib.ListN.{length, getD, set}
 use Rattle.refusal.specs.Refusals.{numbered}
 use Rattle.refusal.specs.Said.{first}
-use Rattle.lists.specs.Marks.{marked}
 use Rattle.board.specs.declared.Board.{Board}
 use Rattle.board.specs.declared.Readings.{Readings}
 use Rattle.board.specs.declared.Answer.{Answer}
@@ -24,10 +23,6 @@ use Rattle.frame.specs.Frame.{boardOf, takenApart, isRefused, requestOf, whyOf}
 use Rattle.frame.specs.Reply.{replyOf, putOf}
 use Rattle.registers.specs.Registers.{obeyedOf}
 use Rattle.registers.specs.Way.{denies}
-use Rattle.reading.specs.declared.Place.{Place}
-use Rattle.reading.specs.declared.Seen.{Seen}
-use Rattle.reading.specs.Reading.{summaryOf, place}
-use Rattle.reading.specs.Way.{seenOf, wholeOf}
 use Rattle.stack.specs.declared.View.{View}
 use Rattle.stack.specs.declared.View.the-variants as view
 use Rattle.stack.specs.declared.Opening.{Opening}
@@ -135,29 +130,6 @@ frameRowIn row bytes buffer = takenRow row (takenApart bytes (length buffer))
 unfoldable pub frameBufferIn : List Board → List ℕ → List ℕ → List ℕ
 frameBufferIn row bytes buffer = takenBuffer row buffer (takenApart bytes (length buffer))
 
--- ---- what a walk over the row keeps of it
+-- ---- a reading of a row that is not good
 abbrev pub noRowView : View
 noRowView = view.Refused (numbered 1)
-
--- a row has 16 boards at most
-unfoldable pub seenRow : List Board → Seen
-seenRow row = seenOf (take 16 (map summaryOf row))
-
--- the search for a flagged cell, cell by cell and board by board; both are counted from 0 here
-abbrev pub placeAt : ℕ → ℕ → Place
-placeAt board cell = cond (leb 16 board) (place 0 0) (cond (leb 16 cell) (place 0 0) (place (board + 1) (cell + 1)))
-
--- on the board at place i, from the cell at place j on, of which so many are left; or else further north
-unfoldable pub firstOn : Board → ℕ → ℕ → ℕ → Place → Place
-firstOn b i j zero north = north
-firstOn b i j (suc left) north = cond (marked (b .flags) j) (placeAt i j) (firstOn b i (j + 1) left north)
-
-unfoldable pub firstFrom : ℕ → List Board → Place
-firstFrom i [] = place 0 0
-firstFrom i (b ∷ north) = firstOn b i 0 (b .count) (firstFrom (i + 1) north)
-
-abbrev pub viewOf : Seen → Place → View
-viewOf seen flagged = view.Read (wholeOf seen flagged)
-
-unfoldable pub lookOf : List Board → View
-lookOf row = viewOf (seenRow row) (cond (seenRow row .flagged) (firstFrom 0 row) (place 0 0))

@@ -1,15 +1,12 @@
 // The public library: a stack as one row of board records, lent to each routine (01, The stack and its readings).
 // Every routine over lent records is put together of pieces of crate walks or is one of its shapes, and calls proved work on plain values.
 ghost use mathlib.Core.Path.{_≡_};
-ghost use mathlib.Core.Bool.{not};
 ghost use Rattle.registers.specs.Registers.{obeyedOf};
 ghost use Rattle.stack.specs.Row.{badCount, goodRow, placeOf};
 ghost use Rattle.stack.specs.Open.{goodPlans, openAnswer, openRow};
 ghost use Rattle.stack.specs.Sample.{sampleAnswer, sampleRow};
-ghost use Rattle.stack.specs.Way.{refusedFill, startOf, more, placedOf, fillAt, fillRowAt, fillEnd, fillRow, openingBy, sampleAnswerAt, sampleRowAt, noSample, noRowSample, askedPlace, obeyOutcomeAt, obeyRowAt, frameAnswerIn, frameRowIn, frameBufferIn, noOutcome, noRowReply, seenRow, placeAt, firstFrom, lookOf, viewOf, noRowView};
+ghost use Rattle.stack.specs.Way.{refusedFill, startOf, more, placedOf, fillAt, fillRowAt, fillEnd, fillRow, openingBy, sampleAnswerAt, sampleRowAt, noSample, noRowSample, askedPlace, obeyOutcomeAt, obeyRowAt, frameAnswerIn, frameRowIn, frameBufferIn, noOutcome, noRowReply, noRowView};
 ghost use Rattle.stack.specs.Frame.{frameAnswer, frameRow, frameBuffer};
-ghost use Rattle.lists.specs.Marks.{marked};
-ghost use Rattle.reading.specs.Reading.{place};
 ghost use Rattle.stack.specs.Read.{readingOf};
 use board::Answer;
 use board::Board;
@@ -18,8 +15,6 @@ use frame::Outcome;
 use frame::Reply;
 use frame::Request;
 use frame::Verdict;
-use reading::Place;
-use reading::Seen;
 use reading::Whole;
 use refusal::Refusal;
 
@@ -301,103 +296,10 @@ pub fn frame_stack(row: &mut [Board], bytes: &[u8], reply: &mut [u8]) -> Reply
 
 // ---- the whole-stack reading
 
-// What is kept of the row's boards, gathered board by board.
-fn see_row(row: &[Board]) -> Seen
-    ensures { λ r. ⌜ r ≡ seenRow (now (row .entry)) ⌝ }
+fn view_of(whole: Whole) -> View
+    ensures { λ r. ⌜ r ≡ View.Read whole ⌝ }
 {
-    let mut seen = reading::none_seen();
-    let mut i = 0;
-    while i < row.len() {
-        seen = reading::see(seen, i, row[i]);
-        i += 1;
-    }
-    seen
-}
-
-fn no_place() -> Place
-    ensures { λ r. ⌜ r ≡ place 0 0 ⌝ }
-{
-    Place { board: 0, cell: 0 }
-}
-
-// The place of a cell; a row has 16 boards at most, and a board 16 cells.
-fn place_at(board: usize, cell: usize) -> Place
-    ensures { λ r. ⌜ r ≡ placeAt board cell ⌝ }
-{
-    if 16 <= board {
-        return no_place();
-    }
-    if 16 <= cell {
-        return no_place();
-    }
-    Place {
-        board: board as u8 + 1,
-        cell: cell as u8 + 1,
-    }
-}
-
-fn cell_count(b: Board) -> usize
-    ensures { λ r. ⌜ r ≡ b .count ⌝ }
-{
-    b.count as usize
-}
-
-fn is_flagged(b: Board, cell: usize) -> bool
-    ensures { λ r. ⌜ r ≡ marked (b .flags) cell ⌝ }
-{
-    lists::mark_at(b.flags, cell)
-}
-
-// The southernmost board with a flagged cell, and the lowest such cell on it: the first one found ends both loops.
-fn first_flagged(row: &[Board]) -> Place
-    ensures { λ r. ⌜ r ≡ firstFrom 0 (now (row .entry)) ⌝ }
-{
-    let mut place = no_place();
-    let mut i = 0;
-    'boards: while i < row.len() {
-        let b = row[i];
-        let cells = cell_count(b);
-        let mut j = 0;
-        while j < cells {
-            if is_flagged(b, j) {
-                place = place_at(i, j);
-                break 'boards;
-            }
-            j += 1;
-        }
-        i += 1;
-    }
-    place
-}
-
-fn none_flagged(seen: Seen) -> bool
-    ensures { λ r. ⌜ r ≡ not (seen .flagged) ⌝ }
-{
-    !seen.flagged
-}
-
-fn view_of(seen: Seen, flagged: Place) -> View
-    ensures { λ r. ⌜ r ≡ viewOf seen flagged ⌝ }
-{
-    View::Read(reading::read_all(seen, flagged))
-}
-
-fn view_without(seen: Seen) -> View
-    ensures { λ r. ⌜ r ≡ viewOf seen (place 0 0) ⌝ }
-{
-    view_of(seen, no_place())
-}
-
-// A flagged cell is sought only where a board has a flag.
-fn look(row: &[Board]) -> View
-    ensures { λ r. ⌜ r ≡ lookOf (now (row .entry)) ⌝ }
-{
-    let seen = see_row(row);
-    if none_flagged(seen) {
-        return view_without(seen);
-    }
-    let flagged = first_flagged(row);
-    view_of(seen, flagged)
+    View::Read(whole)
 }
 
 fn no_row_view() -> View
@@ -411,7 +313,8 @@ pub fn read_stack(row: &[Board]) -> View
     ensures { λ r. ⌜ r ≡ readingOf (now (row .entry)) ⌝ }
 {
     if good_row(row) {
-        return look(row);
+        let whole = reading::read_row(row);
+        return view_of(whole);
     }
     no_row_view()
 }

@@ -16,12 +16,10 @@ use Rattle.walks.proofs.Sought.{within, sought}
 use Rattle.lists.specs.Marks.{marked, marks, lowest}
 use Rattle.board.specs.declared.Board.{Board}
 use Rattle.board.specs.Sample.{badBoard}
 use Rattle.reading.specs.declared.Place.{Place}
 use Rattle.reading.specs.Reading.{summaryOf, place, firstFlagged}
-use Rattle.stack.specs.Row.{goodRow, badCount}
-use Rattle.stack.specs.Way.{placeAt, firstOn, firstFrom}
-use Rattle.stack.proofs.Counts as counts
-use Rattle.stack.proofs.Ways.{row-size}
+use Rattle.reading.specs.Way.{placeAt, firstOn, firstFrom}
+use Rattle.board.proofs.Counts as counts
 
 -- ---- what the loops do
 abbrev pub flaggedAt : Board → ℕ → Bool
@@ -67,6 +65,5 @@ row-first i (b ∷ row) r good =
     let few = counts.within 5 10 (b .count) (parts .0) .1 in
     board-first b i 0 (b .count) (firstFrom (i + 1) row) (omega arith) (omega (arith, few)) ∙ rw (div-one (b .flags), row-first (i + 1) row (omega arith) (parts .1))
 
-pub first-good : (row : List Board) → goodRow row ≡ true → firstFrom 0 row ≡ firstFlagged 1 (map summaryOf row)
-unfolding goodRow
-first-good row good = row-first 0 row (omega (arith, row-size row good .1)) (both (not (badCount (length row))) (every (λ b. not (badBoard b)) row) good .1)
+pub first-good : (row : List Board) → length row ≤ 16 → every (λ b. not (badBoard b)) row ≡ true → firstFrom 0 row ≡ firstFlagged 1 (map summaryOf row)
+first-good row few good = row-first 0 row (omega (arith, few)) good

@@ -1,7 +1,7 @@
 use borrow.Author.Tests.{le-leb, lt-leb}
 use borrow.Author.Needs.{needs}
-use Rattle.stack.proofs.place_at.Statement.{statement}
-use Rattle.stack.proofs.place_at.Tie as tie
+use Rattle.reading.proofs.place_at.Statement.{statement}
+use Rattle.reading.proofs.place_at.Tie as tie
 
 no-place-requires : tie.Need-no-place-requires
 no-place-requires c κs = search needs
