@@ -22,9 +22,10 @@ use Rattle.demands.specs.Acts.{Act, sample, frame, reading, Outcome, bar
 use Rattle.demands.specs.Table.{lent}
 use Rattle.demands.specs.Tied.{Who, board, whole, nobody, early, who, ties, tied}
 use Rattle.demands.specs.Demands.{Log, log, logAt, joined, boardGiven, rowGiven, frameEntry, joins, taken, sampleSays, frameSays, told}
+use Rattle.demands.specs.Refused.{countsOf}
 use Rattle.demands.proofs.Clear.{clear, numbered}
 use Rattle.demands.proofs.Tells.{board-at}
-use Rattle.demands.proofs.Demanded.{countsOf, same-counts, goodOf, good-counts}
+use Rattle.demands.proofs.Demanded.{same-counts, goodOf, good-counts}
 
 -- ---- an act, taken apart: its board's place, its entry, and its refusals once the board is known
 

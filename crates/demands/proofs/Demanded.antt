@@ -3,7 +3,7 @@
 use Prim.Native.Nat.{ℕ}
 use mathlib.Core.Path.{_≡_, refl, ap, ap₂, sym, _∙_}
 use mathlib.Core.Bool.{Bool, true, false, true≢false, cond, not, _&&_, _||_}
-use mathlib.Core.List.{List, [], _∷_, map}
+use mathlib.Core.List.{List, [], _∷_}
 use lib.Dec.{eqb}
 use lib.ListN.{length, replicate, length-replicate, length-map}
 use lib.Seq.{map-set-same}
@@ -19,14 +19,12 @@ use Rattle.board.proofs.Counts.{within}
 use Rattle.demands.specs.Paper.{Entry, sampled}
 use Rattle.demands.specs.Acts.{Act, sample, frame, reading, Outcome, bars, outcome, next, final, answers}
 use Rattle.demands.specs.Demands.{Log, log, begun, logAt, joined, boardGiven, rowGiven, frameEntry, joins, taken, told, opens, Demand2}
+use Rattle.demands.specs.Refused.{countsOf}
 use Rattle.demands.proofs.Given.{given-start}
 use Rattle.demands.proofs.Clear.{clear}
 use Rattle.demands.proofs.Tells.{tells, gives}
 
 -- ---- no act changes a board's cell count, and whether a row is good goes by the counts alone
-
-abbrev pub countsOf : List Log → List ℕ
-countsOf logs = map (λ l. l .cells) logs
 
 kept-counts : (refusals : List Bar) (logs : List Log) (at : ℕ) (e : Entry) → countsOf (kept refusals logs (joins logs at e)) ≡ countsOf logs
 kept-counts refusals logs at e = by (eqb (first refusals) 0)
@@ -108,7 +106,7 @@ demand2 counts e acts =
 
 -- ---- the row stays a good one
 
-final-counts : (logs : List Log) (acts : List Act) → countsOf (final taken logs acts) ≡ countsOf logs
+pub final-counts : (logs : List Log) (acts : List Act) → countsOf (final taken logs acts) ≡ countsOf logs
 final-counts logs [] = refl
 final-counts logs (a ∷ acts) = final-counts (taken logs a) acts ∙ same-counts logs a
 

@@ -14,3 +14,5 @@ pub mod Session
 pub mod Cycles
 pub mod Turns
 pub mod Mechanic
+pub mod Asked
+pub mod Refused

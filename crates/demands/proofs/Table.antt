@@ -32,7 +32,7 @@ first-is : (rows : List Bar) (n : ℕ) → 0 < n → first rows ≡ n → FirstI
 first-is [] n p e = absurd (omega arith)
 first-is (b ∷ rows) n p e = split (b .when) (λ h. inl (h, rw h at e)) (λ h. inr (h, first-is rows n p (rw h at e)))
 
-is-first : (rows : List Bar) (n : ℕ) → FirstIs n rows → first rows ≡ n
+pub is-first : (rows : List Bar) (n : ℕ) → FirstIs n rows → first rows ≡ n
 is-first [] n f = absurd f
 is-first (b ∷ rows) n (inl (h, e)) = rw h e
 is-first (b ∷ rows) n (inr (h, f)) = rw h (is-first rows n f)
@@ -45,7 +45,7 @@ none-is (b ∷ rows) u e =
     (λ h. let zero-is : b .number ≡ 0 = rw h at e in absurd (true≢false (sym (eq-eqb (b .number) 0 zero-is) ∙ not-yes (eqb (b .number) 0) (m .0))))
     (λ h. (h, none-is rows (m .1) (rw h at e)))
 
-is-none : (rows : List Bar) → NoneHolds rows → first rows ≡ 0
+pub is-none : (rows : List Bar) → NoneHolds rows → first rows ≡ 0
 is-none [] h = refl
 is-none (b ∷ rows) h = rw (h .0) (is-none rows (h .1))
 
@@ -68,10 +68,11 @@ table rows vs u =
     }
 
 -- where it refuses, what is kept is the old
+pub kept-old : {A : Type 0} (rows : List Bar) (n : ℕ) → 0 < n → first rows ≡ n → (old new : A) → kept rows old new ≡ old
+kept-old rows n p e old new = rw (e, ne-eqb n 0 (λ z. omega arith))
+
 pub stays : {A : Type 0} (rows : List Bar) (vs : List ℕ) (n : ℕ) → 0 < n → judged rows vs ≡ refuses n → (old new : A) → kept rows old new ≡ old
-stays rows vs n p e old new =
-    let number-is : first rows ≡ n = sym (judged-number rows vs) ∙ ap (λ (s : Said). s .number) e in
-    rw (number-is, ne-eqb n 0 (λ z. omega arith))
+stays rows vs n p e = kept-old rows n p (sym (judged-number rows vs) ∙ ap (λ (s : Said). s .number) e)
 
 -- ---- every act is judged by its rows
 

@@ -9,3 +9,4 @@ pub mod Examples
 pub mod Session
 pub mod Turns
 pub mod Mechanic
+pub mod Refused

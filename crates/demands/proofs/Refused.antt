@@ -1,0 +1,419 @@
+-- The library's table of refusals is the paper's, row by row; so every act is refused by the paper's.
+-- Assumes nothing.
+use Prim.Native.Nat.{ℕ, zero, suc, _+_, _-_, _/_, _%_, _<_, _≤_}
+use native.Mathlib.Omega.{arith}
+use mathlib.Core.Path.{_≡_, refl, sym, ap, _∙_, subst}
+use mathlib.Core.Logic.{_⊎_, inl, inr, _≢_, _↔_, Iff·trans}
+use mathlib.Core.Bool.{Bool, true, false, true≢false, cond, not, _&&_, _||_}
+use mathlib.Core.List.{List, [], _∷_, _++_, map}
+use lib.Dec.{leb, ltb, eqb}
+use lib.IntN.{ℤ, pos, negsuc}
+use lib.ListN.{length, set, length-map, List·getD-eq-default}
+use borrow.Author.Tests.{eqb-true, eqb-false, ne-eqb, leb-true, leb-false}
+use Rattle.lists.specs.Every.{every}
+use Rattle.lists.proofs.Split.{split, both, not-yes}
+use Rattle.refusal.specs.Said.{Said, Bar, bar, first}
+use Rattle.settings.specs.declared.Settings.{Settings}
+use Rattle.settings.specs.Bytes.{same, allowed}
+use Rattle.cells.specs.Cells.{readable}
+use Rattle.board.specs.declared.Board.{Board}
+use Rattle.board.specs.declared.Readings.{Readings}
+use Rattle.board.specs.Shunt.{shuntOutside}
+use Rattle.board.specs.Sample.{outside, badBoard, outOfRange, readingBars}
+use Rattle.frame.specs.Frame.{byte, boardOf, writes, frameBars}
+use Rattle.frame.specs.Check.{checkOf}
+use Rattle.registers.specs.Map.{Register, registerMap, inMap, noRegister, fits}
+use Rattle.registers.specs.Registers.{programs, lacksCycle, accessBars}
+use Rattle.registers.proofs.Map.{below, above, between, takes-setting}
+use Rattle.stack.specs.Row.{badCount, goodRow, noBoard, nowhere, placeOf, boardAt}
+use Rattle.stack.specs.Open.{goodCounts, openBars, openingSaid, openOf}
+use Rattle.stack.specs.Sample.{sampleRowBars}
+use Rattle.stack.specs.Frame.{framePlace, frameRowBars}
+use Rattle.demands.specs.Paper.{Entry, staged, working, spent}
+use Rattle.demands.specs.Acts.{Act, sample, frame, reading, bars, outcome, next, openedRow, final}
+use Rattle.demands.specs.Table.{FirstIs, NoneHolds, ByTable}
+use Rattle.demands.specs.Demands.{Log, log, begun, logAt, joined, boardGiven, rowGiven, joins, taken, opens}
+use Rattle.demands.specs.Refused.{Rule, Outside, Some, NoStack, countsOf, logOf, NoBoard, WrongCells, WrongShunt, WrongReading, ReadOf, WriteOf, Reads, Writes, NoBoardNamed, Known, WrongRegister, MayCarry, WrongValue, Unlike, NoCycle, openingRules, sampleRules, frameRules, rules, SameRows, SameTable, FirstOf, NoneOf, ByRules, ActOf, entered, RefusedByPaper}
+use Rattle.demands.proofs.Asked.{Asks, asks-no, asks-so, asks-same, asks-lt, asks-le, asks-eq, asks-above, asks-or, asks-and, asks-not, asks-twice, asks-or3, asks-outside, asks-some, every-of}
+use Rattle.demands.proofs.Table.{is-first, is-none, kept-old, demand1, demand1-opening}
+use Rattle.demands.proofs.Tells.{board-at}
+use Rattle.demands.proofs.Demanded.{begun-counts, demand2, final-counts}
+
+-- ---- 1: of an opening by its counts, of a row by those of its records
+
+counts-ask : (counts : List ℕ) → Asks (badCount (length counts) || not (goodCounts counts)) (NoStack counts)
+counts-ask counts =
+    asks-or (badCount (length counts)) (not (goodCounts counts)) (asks-outside 1 16 (length counts))
+    (asks-some (Outside 5 10) (λ n. not (outside 5 10 n)) (λ n. asks-twice (outside 5 10 n) (asks-outside 5 10 n)) counts)
+
+row-ask : (row : List Board) → Asks (not (goodRow row)) (NoStack (map (λ b. b .count) row))
+unfolding goodRow
+row-ask row =
+    let counts = map (λ (b : Board). b .count) row in
+    let good : every (λ b. not (badBoard b)) row ≡ goodCounts counts = every-of (λ n. not (outside 5 10 n)) (λ (b : Board). b .count) row in
+    asks-same (not (goodRow row)) (badCount (length counts) || not (goodCounts counts))
+    (rw (good, length-map row (λ (b : Board). b .count)) (not-both (badCount (length row)) (goodCounts counts)))
+    (counts-ask counts)
+  where
+    not-both : (a b : Bool) → not (not a && b) ≡ (a || not b)
+    not-both true b = refl
+    not-both false b = refl
+
+-- ---- the board of a number, in a row of few boards
+
+log-of : (logs : List Log) → length logs ≤ 16 → (n : ℕ) → logAt logs (placeOf n) ≡ logOf logs n
+log-of logs few zero = List·getD-eq-default logs (log 0 []) {n = nowhere} (omega arith)
+log-of logs few (suc at) =
+    let back : suc at - 1 ≡ at = omega arith in
+    rw (ne-eqb (suc at) 0 (λ e. omega arith), back)
+
+board-of : (logs : List Log) → length logs ≤ 16 → (n : ℕ) → boardAt (rowGiven logs) (placeOf n) ≡ boardGiven (logOf logs n)
+board-of logs few n = board-at logs (placeOf n) ∙ ap boardGiven (log-of logs few n)
+
+few-boards : (logs : List Log) → ¬ NoStack (countsOf logs) → length logs ≤ 16
+few-boards logs fine =
+    let long = length-map logs (λ (l : Log). l .cells) in
+    split (leb (length logs) 16) (λ e. leb-true (length logs) 16 e)
+    (λ e. absurd (fine (inl (inr (omega (arith, long, leb-false (length logs) 16 e))))))
+
+-- 2
+board-ask : (logs : List Log) (n : ℕ) → Asks (noBoard (rowGiven logs) n) (NoBoard logs n)
+board-ask logs n = rw (length-map logs boardGiven) (asks-outside 1 (length logs) n)
+
+-- ---- 3, 4, 5
+
+cells-ask : (l : Log) (mv : List ℕ) → Asks (not (eqb (length mv) (l .cells))) (WrongCells l mv)
+cells-ask l mv = asks-not (eqb (length mv) (l .cells)) (asks-eq (length mv) (l .cells))
+
+shunt-ask : (shunt : ℤ) → Asks (shuntOutside shunt) (WrongShunt shunt)
+shunt-ask (pos d) = asks-lt 500000 d
+shunt-ask (negsuc k) =
+    asks-so (ltb 499999 k || false) (asks-or (ltb 499999 k) false (asks-lt 499999 k) never) out (λ p. inl (omega arith))
+  where
+    never : Asks false ⊥
+    never = (λ e. true≢false (sym e), λ z. absurd z)
+
+    out : (499999 < k) ⊎ ⊥ → 500000 < k + 1
+    out (inl p) = omega arith
+    out (inr z) = absurd z
+
+load-ask : (load : ℕ) → Asks (ltb 1 load) ((load ≢ 0) × (load ≢ 1))
+load-ask load =
+    asks-so (ltb 1 load) (asks-lt 1 load) (λ p. (λ e. omega arith, λ e. omega arith)) (λ (no0, no1). omega (arith, no0, no1))
+
+reading-ask : (x : Readings) (mv : List ℕ) → Asks (outOfRange x mv) (WrongReading x mv)
+reading-ask x mv =
+    let a = not (readable mv) in
+    let b = ltb 5000 (x .thermistor) in
+    let c = shuntOutside (x .shunt) in
+    let d = ltb 1 (x .load) in
+    let cell : Asks a (Some (λ v. 5000 < v) mv) = asks-some (λ v. 5000 < v) (λ v. leb v 5000) (λ v. asks-above v 5000) mv in
+    asks-or3 (a || b) c d (asks-or3 a b (c || d)
+    (asks-or a (b || (c || d)) cell
+    (asks-or b (c || d) (asks-lt 5000 (x .thermistor))
+    (asks-or c d (shunt-ask (x .shunt)) (load-ask (x .load))))))
+
+-- ---- 2, 9, 10, 11 by the address, register and value
+
+writes-ask : (address : ℕ) → Asks (writes address) (Writes address)
+writes-ask address =
+    asks-so (writes address) (asks-eq (address % 2) 1) (λ e. (address / 2, omega arith)) (λ (n, e). omega arith)
+
+reads-ask : (address : ℕ) → Asks (not (writes address)) (Reads address)
+reads-ask address =
+    asks-so (not (writes address)) (asks-not (writes address) (asks-eq (address % 2) 1)) (λ even. (address / 2, omega (arith, even))) (λ (n, e) odd. omega arith)
+
+-- the address names one board
+named : (n address : ℕ) → ReadOf n address ⊎ WriteOf n address → boardOf address ≡ n
+named n address (inl e) = omega arith
+named n address (inr e) = omega arith
+
+names : (address : ℕ) → ReadOf (boardOf address) address ⊎ WriteOf (boardOf address) address
+names address = split (writes address) (λ e. inr (omega (arith, eqb-true (address % 2) 1 e))) (λ e. inl (omega (arith, eqb-false (address % 2) 1 e)))
+
+named-ask : (logs : List Log) (address : ℕ) → Asks (noBoard (rowGiven logs) (boardOf address)) (NoBoardNamed logs address)
+named-ask logs address =
+    asks-so (noBoard (rowGiven logs) (boardOf address)) (board-ask logs (boardOf address))
+    (λ none. (boardOf address, names address, none))
+    (λ (n, is, none). subst (NoBoard logs) (sym (named n address is)) none)
+
+-- 9, by the ranges of the map: register 0 is refused to a write, 6 to 11 to nobody, any other to everybody
+register-ask : (address r : ℕ) → Asks (noRegister (writes address) r) (WrongRegister address r)
+register-ask address r =
+    let w = writes address in
+    split (eqb r 0) (λ e. status (eqb-true r 0 e))
+    (λ e. split (leb 6 r)
+    (λ low. split (leb r 11) (λ high. there (leb-true 6 r low) (leb-true r 11 high)) (λ high. unknown (above w r (leb-false r 11 high)) (λ k. no-more (leb-false r 11 high) k)))
+    (λ low. unknown (below w r (eqb-false r 0 e) (leb-false 6 r low)) (λ k. no-less (eqb-false r 0 e) (leb-false 6 r low) k)))
+  where
+    status : r ≡ 0 → Asks (noRegister (writes address) r) (WrongRegister address r)
+    status e = asks-same (noRegister (writes address) r) (writes address) (rw e) (asks-so (writes address) (writes-ask address) (λ is. inr (is, e)) back)
+      where
+        back : WrongRegister address r → Writes address
+        back (inl never) = absurd (never (inl e))
+        back (inr (is, z)) = is
+
+    there : 6 ≤ r → r ≤ 11 → Asks (noRegister (writes address) r) (WrongRegister address r)
+    there low high = asks-same (noRegister (writes address) r) false (between (writes address) r low high) (λ e. absurd (true≢false (sym e)), back)
+      where
+        back : WrongRegister address r → false ≡ true
+        back (inl never) = absurd (never (inr (low, high)))
+        back (inr (is, z)) = absurd (omega arith)
+
+    unknown : noRegister (writes address) r ≡ true → ¬ Known r → Asks (noRegister (writes address) r) (WrongRegister address r)
+    unknown bars never = (λ e. inl never, λ wrong. bars)
+
+    no-more : 11 < r → ¬ Known r
+    no-more high (inl e) = omega arith
+    no-more high (inr (low, under)) = omega arith
+
+    no-less : r ≢ 0 → r < 6 → ¬ Known r
+    no-less other low (inl e) = other e
+    no-less other low (inr (from, high)) = omega arith
+
+-- 10, by what a register takes
+takes-is : (r v : ℕ) → inMap registerMap r false (λ (x : Register). x .takes v) ≡ (allowed r v || (eqb r 11 && eqb v 0x41))
+takes-is r v =
+    split (eqb r 11)
+    (λ e. rw (eqb-true r 11 e))
+    (λ e. takes-setting r v e ∙ sym (rw e (or-no (allowed r v))))
+  where
+    or-no : (b : Bool) → (b || false) ≡ b
+    or-no true = refl
+    or-no false = refl
+
+takes-ask : (r v : ℕ) → Asks (inMap registerMap r false (λ (x : Register). x .takes v)) (MayCarry r v)
+takes-ask r v =
+    let a = eqb r 6 in
+    let b = eqb r 7 && ltb v 64 in
+    let c = eqb r 8 && ltb v 32 in
+    let d = eqb r 9 in
+    let e = eqb r 10 in
+    let f = eqb r 11 && eqb v 0x41 in
+    asks-same (inMap registerMap r false (λ (x : Register). x .takes v)) (allowed r v || f) (takes-is r v)
+    (asks-or3 (a || b || c || d) e f (asks-or3 (a || b || c) d (e || f) (asks-or3 (a || b) c (d || (e || f)) (asks-or3 a b (c || (d || (e || f)))
+    (asks-or a (b || (c || (d || (e || f)))) (asks-eq r 6)
+    (asks-or b (c || (d || (e || f))) (asks-and (eqb r 7) (ltb v 64) (asks-eq r 7) (asks-lt v 64))
+    (asks-or c (d || (e || f)) (asks-and (eqb r 8) (ltb v 32) (asks-eq r 8) (asks-lt v 32))
+    (asks-or d (e || f) (asks-eq r 9)
+    (asks-or e f (asks-eq r 10)
+    (asks-and (eqb r 11) (eqb v 0x41) (asks-eq r 11) (asks-eq v 0x41)))))))))))
+
+value-ask : (address r v : ℕ) → Asks (not (fits (writes address) r v)) (WrongValue address r v)
+value-ask address r v =
+    let w = writes address in
+    let t = inMap registerMap r false (λ (x : Register). x .takes v) in
+    asks-same (not (fits w r v)) ((not w && not (eqb v 0)) || (w && not t)) (either w t (eqb v 0))
+    (asks-or (not w && not (eqb v 0)) (w && not t)
+    (asks-and (not w) (not (eqb v 0)) (reads-ask address) (asks-not (eqb v 0) (asks-eq v 0)))
+    (asks-and w (not t) (writes-ask address) (asks-not t (takes-ask r v))))
+  where
+    either : (w t z : Bool) → not (cond w t z) ≡ ((not w && not z) || (w && not t))
+    either true t z = refl
+    either false t true = refl
+    either false t false = refl
+
+-- 11
+same-ask : (s t : Settings) → Asks (same s t) (s ≡ t)
+same-ask s t =
+    let a = eqb (s .r6) (t .r6) in
+    let b = eqb (s .r7) (t .r7) in
+    let c = eqb (s .r8) (t .r8) in
+    let d = eqb (s .r9) (t .r9) in
+    let e = eqb (s .r10) (t .r10) in
+    asks-so (same s t)
+    (asks-and (a && b && c && d) e
+    (asks-and (a && b && c) d (asks-and (a && b) c (asks-and a b (asks-eq (s .r6) (t .r6)) (asks-eq (s .r7) (t .r7))) (asks-eq (s .r8) (t .r8))) (asks-eq (s .r9) (t .r9)))
+    (asks-eq (s .r10) (t .r10)))
+    (λ ((((p6, p7), p8), p9), p10). λ i. record { r6 = p6 i; r7 = p7 i; r8 = p8 i; r9 = p9 i; r10 = p10 i })
+    (λ p. ((((ap (λ (x : Settings). x .r6) p, ap (λ (x : Settings). x .r7) p), ap (λ (x : Settings). x .r8) p), ap (λ (x : Settings). x .r9) p), ap (λ (x : Settings). x .r10) p))
+
+worn-ask : (l : Log) → Asks (lacksCycle (boardGiven l)) (Unlike (l .acts) × (3 ≤ spent (l .acts)))
+worn-ask l =
+    let s = staged (l .acts) in
+    let t = working (l .acts) in
+    asks-and (not (same s t)) (leb 3 (spent (l .acts))) (asks-not (same s t) (same-ask s t)) (asks-le 3 (spent (l .acts)))
+
+cycle-ask : (logs : List Log) (address r : ℕ)
+    → Asks (programs (writes address) r && lacksCycle (boardGiven (logOf logs (boardOf address)))) (NoCycle logs address r)
+cycle-ask logs address r =
+    let l = logOf logs (boardOf address) in
+    asks-so (programs (writes address) r && lacksCycle (boardGiven l))
+    (asks-and (programs (writes address) r) (lacksCycle (boardGiven l)) (asks-and (writes address) (eqb r 11) (writes-ask address) (asks-eq r 11)) (worn-ask l))
+    (λ (((n, is), e), (unlike, three)).
+    let here = named n address (inr is) in
+    (n, is, e, subst (λ (k : ℕ). Unlike (logOf logs k .acts)) here unlike, subst (λ (k : ℕ). 3 ≤ spent (logOf logs k .acts)) here three))
+    (λ (n, is, e, unlike, three).
+    let here = sym (named n address (inr is)) in
+    (((n, is), e), (subst (λ (k : ℕ). Unlike (logOf logs k .acts)) here unlike, subst (λ (k : ℕ). 3 ≤ spent (logOf logs k .acts)) here three)))
+
+-- ---- the table, row by row
+
+-- a row of this number on both sides, and the rows after it
+also : {A B : Type 0} (n : ℕ) → A → B → ((n ≡ n) × A) × B
+also n here later = ((refl, here), later)
+
+given-counts : (logs : List Log) → map (λ (b : Board). b .count) (rowGiven logs) ≡ countsOf logs
+given-counts [] = refl
+given-counts (l ∷ logs) = ap (λ (counts : List ℕ). l .cells ∷ counts) (given-counts logs)
+
+logs-ask : (logs : List Log) → Asks (not (goodRow (rowGiven logs))) (NoStack (countsOf logs))
+logs-ask logs = subst (λ (counts : List ℕ). Asks (not (goodRow (rowGiven logs))) (NoStack counts)) (given-counts logs) (row-ask (rowGiven logs))
+
+module _ (logs : List Log) (few : length logs ≤ 16) where
+  abbrev row : List Board
+  row = rowGiven logs
+
+  sample-rows : (n : ℕ) (x : Readings) (mv : List ℕ) → SameRows (sampleRowBars row n x mv) (sampleRules logs n x mv)
+  sample-rows n x mv =
+      subst (λ (b : Board). SameRows (bar 1 (not (goodRow row)) ∷ bar 2 (noBoard row n) ∷ readingBars b x mv) (sampleRules logs n x mv))
+      (sym (board-of logs few n))
+      (also 1 (logs-ask logs)
+      (also 2 (board-ask logs n)
+      (also 3 (cells-ask (logOf logs n) mv)
+      (also 4 (asks-outside 1 100000 (x .elapsed))
+      (also 5 (reading-ask x mv) tt)))))
+
+  frame-rows : (bytes buffer : List ℕ) → SameRows (frameRowBars row bytes buffer) (frameRules logs bytes buffer)
+  frame-rows bytes buffer =
+      let address = byte bytes 0 in
+      let r = byte bytes 1 in
+      let v = byte bytes 2 in
+      let check = checkOf (address ∷ r ∷ v ∷ []) in
+      subst (λ (b : Board). SameRows (bar 1 (not (goodRow row)) ∷ (frameBars bytes (length buffer) ++ (bar 2 (noBoard row (boardOf address)) ∷ accessBars b (writes address) r v))) (frameRules logs bytes buffer))
+      (sym (board-of logs few (boardOf address)))
+      (also 1 (logs-ask logs)
+      (also 6 (asks-not (eqb (length bytes) 4) (asks-eq (length bytes) 4))
+      (also 7 (asks-lt (length buffer) 4)
+      (also 8 (asks-not (eqb (byte bytes 3) check) (asks-eq (byte bytes 3) check))
+      (also 2 (named-ask logs address)
+      (also 9 (register-ask address r)
+      (also 10 (value-ask address r v)
+      (also 11 (cycle-ask logs address r) tt))))))))
+
+  act-rows : (a : Act) → SameRows (bars row a) (rules logs a)
+  act-rows (sample n x mv) = sample-rows n x mv
+  act-rows (frame bytes buffer) = frame-rows bytes buffer
+  act-rows reading = also 1 (logs-ask logs) tt
+
+pub same-table : SameTable
+same-table =
+    record {
+      opening = λ counts. also 1 (counts-ask counts) tt;
+      handed-in = λ row. also 1 (row-ask row) tt;
+      act = λ logs fine. act-rows logs (few-boards logs fine);
+    }
+
+-- ---- the first that holds, by either table
+
+first-same : (bs : List Bar) (rs : List Rule) → SameRows bs rs → (n : ℕ) → FirstIs n bs ↔ FirstOf n rs
+first-same [] [] s n = (λ z. z, λ z. z)
+first-same [] (r ∷ rs) s n = absurd s
+first-same (b ∷ bs) [] s n = absurd s
+first-same (b ∷ bs) (r ∷ rs) ((number-is, asks), later) n = let rest = first-same bs rs later n in (there rest, back rest)
+  where
+    there : FirstIs n bs ↔ FirstOf n rs → FirstIs n (b ∷ bs) → FirstOf n (r ∷ rs)
+    there rest (inl (h, e)) = inl (asks .0 h, sym number-is ∙ e)
+    there rest (inr (h, f)) = inr (asks-no (b .when) asks .0 h, rest .0 f)
+
+    back : FirstIs n bs ↔ FirstOf n rs → FirstOf n (r ∷ rs) → FirstIs n (b ∷ bs)
+    back rest (inl (h, e)) = inl (asks .1 h, number-is ∙ e)
+    back rest (inr (h, f)) = inr (asks-no (b .when) asks .1 h, rest .1 f)
+
+none-same : (bs : List Bar) (rs : List Rule) → SameRows bs rs → NoneHolds bs ↔ NoneOf rs
+none-same [] [] s = (λ z. z, λ z. z)
+none-same [] (r ∷ rs) s = absurd s
+none-same (b ∷ bs) [] s = absurd s
+none-same (b ∷ bs) (r ∷ rs) ((number-is, asks), later) =
+    let here = asks-no (b .when) asks in
+    let rest = none-same bs rs later in
+    (λ (h, f). (here .0 h, rest .0 f), λ (h, f). (here .1 h, rest .1 f))
+
+by-rules : (bs : List Bar) (rs : List Rule) (said : Said) → SameRows bs rs → ByTable bs said → ByRules rs said
+by-rules bs rs said s t =
+    record {
+      refused = λ n p. Iff·trans (t .refused n p) (first-same bs rs s n);
+      accepted = Iff·trans (t .accepted) (none-same bs rs s);
+    }
+
+-- ---- 1 before all else
+
+-- no row has this number
+abbrev lacks : ℕ → List Bar → Bool
+lacks n [] = true
+lacks n (b ∷ bs) = not (eqb (b .number) n) && lacks n bs
+
+not-first : (n : ℕ) (bs : List Bar) → lacks n bs ≡ true → FirstIs n bs → ⊥
+not-first n [] u f = f
+not-first n (b ∷ bs) u (inl (h, e)) = eqb-false (b .number) n (not-yes (eqb (b .number) n) (both (not (eqb (b .number) n)) (lacks n bs) u .0)) e
+not-first n (b ∷ bs) u (inr (h, f)) = not-first n bs (both (not (eqb (b .number) n)) (lacks n bs) u .1) f
+
+one-first : (c : Bool) (bs : List Bar) → lacks 1 bs ≡ true → FirstIs 1 (bar 1 c ∷ bs) ↔ (c ≡ true)
+one-first c bs u = (there, λ h. inl (h, refl))
+  where
+    there : FirstIs 1 (bar 1 c ∷ bs) → c ≡ true
+    there (inl (h, e)) = h
+    there (inr (h, f)) = absurd (not-first 1 bs u f)
+
+bad-first : (row : List Board) (a : Act) → FirstIs 1 (bars row a) ↔ (not (goodRow row) ≡ true)
+bad-first row (sample n x mv) = one-first (not (goodRow row)) (bar 2 (noBoard row n) ∷ readingBars (boardAt row (placeOf n)) x mv) refl
+bad-first row (frame bytes buffer) =
+    let late = accessBars (boardAt row (framePlace bytes)) (writes (byte bytes 0)) (byte bytes 1) (byte bytes 2) in
+    one-first (not (goodRow row)) (frameBars bytes (length buffer) ++ (bar 2 (noBoard row (boardOf (byte bytes 0))) ∷ late)) refl
+bad-first row reading = one-first (not (goodRow row)) [] refl
+
+-- ---- an act in its board's log
+
+entered-is : (logs : List Log) → length logs ≤ 16 → (n : ℕ) → ¬ NoBoard logs n → (e : Entry) → joins logs (placeOf n) e ≡ entered logs n e
+entered-is logs few zero there e = absurd (there (inl (omega arith)))
+entered-is logs few (suc at) there e =
+    let placed : placeOf (suc at) ≡ suc at - 1 = rw (ne-eqb (suc at) 0 (λ z. omega arith)) in
+    ap (λ (l : Log). set logs (placeOf (suc at)) (joined l e)) (log-of logs few (suc at)) ∙ ap (λ (k : ℕ). set logs k (joined (logAt logs at) e)) placed
+
+module _ (logs : List Log) (fine : ¬ NoStack (countsOf logs)) where
+  abbrev few : length logs ≤ 16
+  few = few-boards logs fine
+
+  none-first : (a : Act) → NoneOf (rules logs a) → first (bars (rowGiven logs) a) ≡ 0
+  none-first a none-holds = is-none (bars (rowGiven logs) a) (none-same (bars (rowGiven logs) a) (rules logs a) (act-rows logs few a) .1 none-holds)
+
+  act-enters : (a : Act) (n : ℕ) (e : Entry) → ActOf n e a → NoneOf (rules logs a) → taken logs a ≡ entered logs n e
+  act-enters (sample m x mv) n e (is, entry) none-holds =
+      rw (none-first (sample m x mv) none-holds, is, ← entry) (entered-is logs few n (rw is at (none-holds .1 .0)) e)
+  act-enters (frame bytes buffer) n e (is, entry) none-holds =
+      rw (none-first (frame bytes buffer) none-holds, named n (byte bytes 0) is, ← entry)
+      (entered-is logs few n (λ none. none-holds .1 .1 .1 .1 .0 (n, is, none)) e)
+  act-enters reading n e is none-holds = absurd is
+
+  act-leaves : (a : Act) (n : ℕ) → 0 < n → FirstOf n (rules logs a) → taken logs a ≡ logs
+  act-leaves a n p f =
+      left a (is-first (bars (rowGiven logs) a) n (first-same (bars (rowGiven logs) a) (rules logs a) (act-rows logs few a) n .1 f))
+    where
+      left : (a : Act) → first (bars (rowGiven logs) a) ≡ n → taken logs a ≡ logs
+      left (sample m x mv) e = kept-old (bars (rowGiven logs) (sample m x mv)) n p e logs _
+      left (frame bytes buffer) e = kept-old (bars (rowGiven logs) (frame bytes buffer)) n p e logs _
+      left reading e = refl
+
+-- ---- refused by the paper's table
+
+opens-so : (counts : List ℕ) → ¬ NoStack counts → opens counts ≡ true
+opens-so counts fine = rw (asks-no (badCount (length counts) || not (goodCounts counts)) (counts-ask counts) .1 fine)
+
+act-by : (counts : List ℕ) → ¬ NoStack counts → (acts : List Act) (a : Act)
+    → ByRules (rules (final taken (begun counts) acts) a) (outcome (final next (openedRow counts) acts) a .said)
+act-by counts fine acts a =
+    let logs = final taken (begun counts) acts in
+    let row = rowGiven logs in
+    let counts-are : counts ≡ countsOf logs = sym (final-counts (begun counts) acts ∙ begun-counts counts) in
+    subst (λ (r : List Board). ByRules (rules logs a) (outcome r a .said)) (sym (demand2 counts (opens-so counts fine) acts .1))
+    (by-rules (bars row a) (rules logs a) (outcome row a .said) (act-rows logs (few-boards logs (subst (λ (c : List ℕ). ¬ NoStack c) counts-are fine)) a) (demand1 row .by-table a))
+
+pub refused-by-paper : RefusedByPaper
+refused-by-paper =
+    record {
+      opening = λ counts. by-rules (openBars counts) (openingRules counts) (openingSaid (openOf counts .answer)) (same-table .opening counts) (demand1-opening counts .by-table);
+      handed-in = λ row a. Iff·trans (demand1 row .by-table a .refused 1 (omega arith)) (Iff·trans (bad-first row a) (row-ask row));
+      act = act-by;
+      enters = act-enters;
+      leaves = act-leaves;
+    }

@@ -1,0 +1,211 @@
+-- The table of refusals a second time, from what is known of each board and the act alone: for each act its rows in order, each a number and a proposition (01, Refusal numbers; Frames and registers).
+-- None of the library's conditions is used: beside the history (Paper) it rests on the check byte alone, which is bit by bit (frame, Check).
+-- Assumes nothing.
+use Prim.Native.Nat.{ℕ, zero, suc, _+_, _-_, _*_, _<_, _≤_}
+use mathlib.Core.Path.{_≡_}
+use mathlib.Core.Logic.{_⊎_, _≢_, _↔_}
+use mathlib.Core.Bool.{true}
+use mathlib.Core.List.{List, [], _∷_, map}
+use lib.IntN.{ℤ, pos, negsuc}
+use lib.ListN.{length, getD, set}
+use Rattle.refusal.specs.Said.{Said, refuses, Bar}
+use Rattle.board.specs.declared.Board.{Board}
+use Rattle.board.specs.declared.Readings.{Readings}
+use Rattle.frame.specs.Check.{checkOf}
+use Rattle.stack.specs.Open.{openBars, openingSaid, openOf}
+use Rattle.stack.specs.Read.{readBars}
+use Rattle.demands.specs.Paper.{Entry, sampled, framed, History, staged, working, spent}
+use Rattle.demands.specs.Acts.{Act, sample, frame, reading, bars, outcome, next, openedRow, final}
+use Rattle.demands.specs.Demands.{Log, log, begun, logAt, joined, rowGiven, taken}
+
+-- a row of the table: a refusal's number, and what has to hold
+pub record Rule : Type 1 where
+  pub number : ℕ
+  pub holds : Type 0
+
+abbrev pub rule : ℕ → Type 0 → Rule
+rule n P = record { number = n; holds = P }
+
+abbrev pub Outside : ℕ → ℕ → ℕ → Type 0
+Outside low high n = (n < low) ⊎ (high < n)
+
+abbrev pub Some : (ℕ → Type 0) → List ℕ → Type 0
+Some P l = (i : ℕ) × (i < length l) × P (getD l i 0)
+
+-- ---- the stack and its boards
+
+-- 1: a stack has 1 to 16 boards, of 5 to 10 cells each; by these counts there is none
+abbrev pub NoStack : List ℕ → Type 0
+NoStack counts = Outside 1 16 (length counts) ⊎ Some (Outside 5 10) counts
+
+abbrev pub countsOf : List Log → List ℕ
+countsOf logs = map (λ l. l .cells) logs
+
+-- boards are numbered from 1; of a number that no board has nothing is known
+abbrev pub logOf : List Log → ℕ → Log
+logOf logs zero = log 0 []
+logOf logs (suc at) = logAt logs at
+
+-- 2: none of the boards has the number
+abbrev pub NoBoard : List Log → ℕ → Type 0
+NoBoard logs n = Outside 1 (length logs) n
+
+-- ---- a sample
+
+-- 3: a reading for each cell, no more and no fewer
+abbrev pub WrongCells : Log → List ℕ → Type 0
+WrongCells l mv = length mv ≢ l .cells
+
+-- 4: 1 to 100,000 µs
+abbrev pub WrongTime : Readings → Type 0
+WrongTime x = Outside 1 100000 (x .elapsed)
+
+-- 5, of the shunt: at most 500,000 µV either way, discharge being positive and charge negative (negsuc k is a charge of k + 1)
+abbrev pub WrongShunt : ℤ → Type 0
+WrongShunt (pos discharge) = 500000 < discharge
+WrongShunt (negsuc k) = 500000 < k + 1
+
+-- 5: cells and thermistor read at most 5,000 mV, and the load flag is 0 or 1
+abbrev pub WrongReading : Readings → List ℕ → Type 0
+WrongReading x mv =
+    Some (λ v. 5000 < v) mv
+    ⊎ (5000 < x .thermistor)
+    ⊎ WrongShunt (x .shunt)
+    ⊎ ((x .load ≢ 0) × (x .load ≢ 1))
+
+-- ---- a frame, by its address, register and value
+
+-- an even address is twice the number of the board that it reads, an odd one is that of a write and 1 more
+abbrev pub ReadOf : ℕ → ℕ → Type 0
+ReadOf n address = address ≡ 2 * n
+
+abbrev pub WriteOf : ℕ → ℕ → Type 0
+WriteOf n address = address ≡ 2 * n + 1
+
+abbrev pub Reads : ℕ → Type 0
+Reads address = (n : ℕ) × ReadOf n address
+
+abbrev pub Writes : ℕ → Type 0
+Writes address = (n : ℕ) × WriteOf n address
+
+-- 2: so of the board that the address names
+abbrev pub NoBoardNamed : List Log → ℕ → Type 0
+NoBoardNamed logs address = (n : ℕ) × (ReadOf n address ⊎ WriteOf n address) × NoBoard logs n
+
+-- 9: there are registers 0 and 6 to 11, and 0 is only read
+abbrev pub Known : ℕ → Type 0
+Known register = (register ≡ 0) ⊎ ((6 ≤ register) × (register ≤ 11))
+
+abbrev pub WrongRegister : ℕ → ℕ → Type 0
+WrongRegister address register = (¬ Known register) ⊎ (Writes address × (register ≡ 0))
+
+-- 10: what a write may carry. Registers 6, 9 and 10 take any byte, 7 one whose two high bits are 0, 8 one whose three high bits are 0, 11 only 0x41
+abbrev pub MayCarry : ℕ → ℕ → Type 0
+MayCarry register v =
+    (register ≡ 6)
+    ⊎ ((register ≡ 7) × (v < 64))
+    ⊎ ((register ≡ 8) × (v < 32))
+    ⊎ (register ≡ 9)
+    ⊎ (register ≡ 10)
+    ⊎ ((register ≡ 11) × (v ≡ 0x41))
+
+-- a read carries 0
+abbrev pub WrongValue : ℕ → ℕ → ℕ → Type 0
+WrongValue address register v = (Reads address × (v ≢ 0)) ⊎ (Writes address × (¬ MayCarry register v))
+
+-- 11: a write to register 11, which programs, where staged and working differ and no cycle is left of the three
+abbrev pub Unlike : History → Type 0
+Unlike h = staged h ≢ working h
+
+abbrev pub NoCycle : List Log → ℕ → ℕ → Type 0
+NoCycle logs address register =
+    (n : ℕ) × WriteOf n address × (register ≡ 11) × Unlike (logOf logs n .acts) × (3 ≤ spent (logOf logs n .acts))
+
+-- ---- the table, for each act in the paper's order
+
+abbrev pub openingRules : List ℕ → List Rule
+openingRules counts = rule 1 (NoStack counts) ∷ []
+
+abbrev pub sampleRules : List Log → ℕ → Readings → List ℕ → List Rule
+sampleRules logs n x mv =
+    rule 1 (NoStack (countsOf logs))
+    ∷ rule 2 (NoBoard logs n)
+    ∷ rule 3 (WrongCells (logOf logs n) mv)
+    ∷ rule 4 (WrongTime x)
+    ∷ rule 5 (WrongReading x mv)
+    ∷ []
+
+-- a byte that a frame lacks stands as 0: 6 has refused it by then
+abbrev pub frameRules : List Log → List ℕ → List ℕ → List Rule
+frameRules logs bytes buffer =
+    let address = getD bytes 0 0 in
+    let register = getD bytes 1 0 in
+    let v = getD bytes 2 0 in
+    let check = getD bytes 3 0 in
+    rule 1 (NoStack (countsOf logs))
+    ∷ rule 6 (length bytes ≢ 4)
+    ∷ rule 7 (length buffer < 4)
+    ∷ rule 8 (check ≢ checkOf (address ∷ register ∷ v ∷ []))
+    ∷ rule 2 (NoBoardNamed logs address)
+    ∷ rule 9 (WrongRegister address register)
+    ∷ rule 10 (WrongValue address register v)
+    ∷ rule 11 (NoCycle logs address register)
+    ∷ []
+
+abbrev pub rules : List Log → Act → List Rule
+rules logs (sample n x mv) = sampleRules logs n x mv
+rules logs (frame bytes buffer) = frameRules logs bytes buffer
+rules logs reading = rule 1 (NoStack (countsOf logs)) ∷ []
+
+-- ---- the library's table is this one, row by row in the same order: each condition holds exactly where the paper's does
+
+abbrev pub SameRow : Bar → Rule → Type 0
+SameRow b r = (b .number ≡ r .number) × ((b .when ≡ true) ↔ r .holds)
+
+abbrev pub SameRows : List Bar → List Rule → Type 0
+SameRows [] [] = Unit {0}
+SameRows [] (r ∷ rs) = ⊥
+SameRows (b ∷ bs) [] = ⊥
+SameRows (b ∷ bs) (r ∷ rs) = SameRow b r × SameRows bs rs
+
+pub record SameTable : Type 0 where
+  -- for an opening; for a row of records handed in, good or damaged; and for every act on the records that the paper gives
+  pub opening : (counts : List ℕ) → SameRows (openBars counts) (openingRules counts)
+  pub handed-in : (row : List Board) → SameRows (readBars row) (openingRules (map (λ b. b .count) row))
+  pub act : (logs : List Log) → ¬ NoStack (countsOf logs) → (a : Act) → SameRows (bars (rowGiven logs) a) (rules logs a)
+
+-- ---- refused with n exactly if n is the first that holds, accepted exactly if none does
+
+abbrev pub FirstOf : ℕ → List Rule → Type 0
+FirstOf n [] = ⊥
+FirstOf n (r ∷ rs) = (r .holds × (r .number ≡ n)) ⊎ ((¬ r .holds) × FirstOf n rs)
+
+abbrev pub NoneOf : List Rule → Type 0
+NoneOf [] = Unit {0}
+NoneOf (r ∷ rs) = (¬ r .holds) × NoneOf rs
+
+pub record ByRules (rs : List Rule) (said : Said) : Type 0 where
+  pub refused : (n : ℕ) → 0 < n → (said ≡ refuses n) ↔ FirstOf n rs
+  pub accepted : (said .number ≡ 0) ↔ NoneOf rs
+
+-- an act of board n, as it stands in that board's log
+abbrev pub ActOf : ℕ → Entry → Act → Type 0
+ActOf n e (sample m x mv) = (m ≡ n) × (e ≡ sampled x mv)
+ActOf n e (frame bytes buffer) =
+    let address = getD bytes 0 0 in
+    (ReadOf n address ⊎ WriteOf n address) × (e ≡ framed address (getD bytes 1 0) (getD bytes 2 0))
+ActOf n e reading = ⊥
+
+abbrev pub entered : List Log → ℕ → Entry → List Log
+entered logs n e = set logs (n - 1) (joined (logOf logs n) e)
+
+pub record RefusedByPaper : Type 0 where
+  pub opening : (counts : List ℕ) → ByRules (openingRules counts) (openingSaid (openOf counts .answer))
+  -- 1 comes before all else for a row handed in
+  pub handed-in : (row : List Board) (a : Act) → (outcome row a .said ≡ refuses 1) ↔ NoStack (map (λ b. b .count) row)
+  -- after any opening that is a stack, and any acts
+  pub act : (counts : List ℕ) → ¬ NoStack counts → (acts : List Act) (a : Act)
+      → ByRules (rules (final taken (begun counts) acts) a) (outcome (final next (openedRow counts) acts) a .said)
+  -- an act that none refuses enters its board's log, and one that is refused enters none
+  pub enters : (logs : List Log) → ¬ NoStack (countsOf logs) → (a : Act) (n : ℕ) (e : Entry) → ActOf n e a → NoneOf (rules logs a) → taken logs a ≡ entered logs n e
+  pub leaves : (logs : List Log) → ¬ NoStack (countsOf logs) → (a : Act) (n : ℕ) → 0 < n → FirstOf n (rules logs a) → taken logs a ≡ logs
