@@ -16,3 +16,4 @@ pub mod Turns
 pub mod Mechanic
 pub mod Asked
 pub mod Refused
+pub mod Whole

@@ -396,7 +396,7 @@ module _ (logs : List Log) (fine : ¬ NoStack (countsOf logs)) where
 
 -- ---- refused by the paper's table
 
-opens-so : (counts : List ℕ) → ¬ NoStack counts → opens counts ≡ true
+pub opens-so : (counts : List ℕ) → ¬ NoStack counts → opens counts ≡ true
 opens-so counts fine = rw (asks-no (badCount (length counts) || not (goodCounts counts)) (counts-ask counts) .1 fine)
 
 act-by : (counts : List ℕ) → ¬ NoStack counts → (acts : List Act) (a : Act)

@@ -10,3 +10,4 @@ pub mod Session
 pub mod Turns
 pub mod Mechanic
 pub mod Refused
+pub mod Whole
