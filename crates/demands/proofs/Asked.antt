@@ -1,16 +1,17 @@
 -- A test and the proposition that it asks: each holds exactly where the other does. Once for each way to put tests together.
 -- Assumes nothing.
-use Prim.Native.Nat.{ℕ, zero, suc, _<_, _≤_}
-use native.Mathlib.Nat.{not-suc-le-zero, le-of-suc-le-suc}
+use Prim.Native.Nat.{ℕ, suc, _<_, _≤_}
 use native.Mathlib.Omega.{arith}
 use mathlib.Core.Path.{_≡_, refl, sym, ap, _∙_, subst}
 use mathlib.Core.Logic.{_⊎_, inl, inr, _↔_}
 use mathlib.Core.Bool.{Bool, true, false, true≢false, not, _&&_, _||_, or-assoc}
 use mathlib.Core.List.{List, [], _∷_, map}
 use lib.Dec.{leb, ltb, eqb}
+use lib.ListN.{getD}
 use borrow.Author.Tests.{leb-true, leb-false, le-leb, lt-leb, ltb-true, lt-ltb, eqb-true, eq-eqb}
 use Rattle.lists.specs.Every.{every}
-use Rattle.lists.proofs.Split.{split, both, not-yes}
+use Rattle.lists.proofs.Every.{every-at}
+use Rattle.lists.proofs.Split.{split, not-yes}
 use Rattle.demands.specs.Refused.{Some, Outside}
 
 abbrev pub Asks : Bool → Type 0 → Type 0
@@ -58,6 +59,10 @@ pub asks-not : {P : Type 0} (b : Bool) → Asks b P → Asks (not b) (¬ P)
 asks-not true a = (λ e. absurd (true≢false (sym e)), λ no. absurd (no (a .0 refl)))
 asks-not false a = (λ e p. true≢false (sym (a .1 p)), λ no. refl)
 
+pub asks-twice : {P : Type 0} (b : Bool) → Asks b P → Asks (not (not b)) P
+asks-twice true a = a
+asks-twice false a = a
+
 -- three joined by or, from the left
 pub asks-or3 : {P : Type 0} (a b c : Bool) → Asks (a || (b || c)) P → Asks ((a || b) || c) P
 asks-or3 a b c = asks-same ((a || b) || c) (a || (b || c)) (or-assoc a b c)
@@ -76,16 +81,10 @@ module _ (P : ℕ → Type 0) (fine : ℕ → Bool) (asks : (v : ℕ) → Asks (
       (λ f. let later = some-not l (rw f at e) in (suc (later .0), omega (arith, later .1), later .2))
       (λ f. (0, omega arith, asks v .0 (ap not f)))
 
-  not-some : (l : List ℕ) → every fine l ≡ true → Some P l → ⊥
-  unfolding every
-  not-some [] e (i, p, bad) = not-suc-le-zero p
-  not-some (v ∷ l) e (zero, p, bad) = true≢false (sym (asks v .1 bad) ∙ ap not (both (fine v) (every fine l) e .0))
-  not-some (v ∷ l) e (suc i, p, bad) = not-some l (both (fine v) (every fine l) e .1) (i, le-of-suc-le-suc p, bad)
-
   pub asks-some : (l : List ℕ) → Asks (not (every fine l)) (Some P l)
   asks-some l = (
     λ e. some-not l (not-yes (every fine l) e),
-    λ s. split (every fine l) (λ e. absurd (not-some l e s)) (λ e. ap not e),
+    λ (i, p, bad). split (every fine l) (λ e. absurd (true≢false (sym (asks (getD l i 0) .1 bad) ∙ ap not (every-at fine l i 0 e p)))) (λ e. ap not e),
   )
 
 -- a test of what stands for each entry
@@ -93,7 +92,3 @@ pub every-of : {A : Type 0} (fine : ℕ → Bool) (f : A → ℕ) (l : List A) �
 unfolding every
 every-of fine f [] = refl
 every-of fine f (x ∷ l) = rw (every-of fine f l)
-
-pub asks-twice : {P : Type 0} (b : Bool) → Asks b P → Asks (not (not b)) P
-asks-twice true a = a
-asks-twice false a = a

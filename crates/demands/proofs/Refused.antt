@@ -15,6 +15,7 @@ use Rattle.lists.proofs.Split.{split, both, not-yes}
 use Rattle.refusal.specs.Said.{Said, Bar, bar, first}
 use Rattle.settings.specs.declared.Settings.{Settings}
 use Rattle.settings.specs.Bytes.{same, allowed}
+use Rattle.settings.proofs.Laws.{same-self, same-yes}
 use Rattle.cells.specs.Cells.{readable}
 use Rattle.board.specs.declared.Board.{Board}
 use Rattle.board.specs.declared.Readings.{Readings}
@@ -215,18 +216,7 @@ value-ask address r v =
 
 -- 11
 same-ask : (s t : Settings) → Asks (same s t) (s ≡ t)
-same-ask s t =
-    let a = eqb (s .r6) (t .r6) in
-    let b = eqb (s .r7) (t .r7) in
-    let c = eqb (s .r8) (t .r8) in
-    let d = eqb (s .r9) (t .r9) in
-    let e = eqb (s .r10) (t .r10) in
-    asks-so (same s t)
-    (asks-and (a && b && c && d) e
-    (asks-and (a && b && c) d (asks-and (a && b) c (asks-and a b (asks-eq (s .r6) (t .r6)) (asks-eq (s .r7) (t .r7))) (asks-eq (s .r8) (t .r8))) (asks-eq (s .r9) (t .r9)))
-    (asks-eq (s .r10) (t .r10)))
-    (λ ((((p6, p7), p8), p9), p10). λ i. record { r6 = p6 i; r7 = p7 i; r8 = p8 i; r9 = p9 i; r10 = p10 i })
-    (λ p. ((((ap (λ (x : Settings). x .r6) p, ap (λ (x : Settings). x .r7) p), ap (λ (x : Settings). x .r8) p), ap (λ (x : Settings). x .r9) p), ap (λ (x : Settings). x .r10) p))
+same-ask s t = (same-yes s t, λ p. ap (same s) (sym p) ∙ same-self s)
 
 worn-ask : (l : Log) → Asks (lacksCycle (boardGiven l)) (Unlike (l .acts) × (3 ≤ spent (l .acts)))
 worn-ask l =

@@ -225,6 +225,18 @@ first-at k (l ∷ logs) = on-board (lowestFlagged (summaryGiven l)) (lowest-on l
         let here : k ≡ k + 0 = omega arith in
         rw (ne-eqb c 0 (λ z. omega arith)) (inr (zero, c, ap (λ (b : ℕ). place b c) here, (p, q, e), low, λ j d under. absurd (not-suc-le-zero under)))
 
+-- by numbers
+none-by : (logs : List Log) → ((i c : ℕ) → ¬ Cell (logAt logs i) c) → NoneFlagged logs
+none-by logs none zero c (p, q, e) = omega arith
+none-by logs none (suc i) c flag = none i c flag
+
+south-by : (logs : List Log) (i : ℕ) → ((j d : ℕ) → j < i → ¬ Cell (logAt logs j) d) → (a d : ℕ) → a < suc i → ¬ Flagged logs a d
+south-by logs i south zero d p (q, r, e) = omega arith
+south-by logs i south (suc j) d p flag = south j d (omega arith) flag
+
+southernmost : (logs : List Log) (i c : ℕ) → Cell (logAt logs i) c → ((d : ℕ) → d < c → ¬ Cell (logAt logs i) d) → ((j d : ℕ) → j < i → ¬ Cell (logAt logs j) d) → Southernmost logs (suc i) c
+southernmost logs i c flag low south = (flag, low, south-by logs i south)
+
 -- there is at most one such place
 unique : (logs : List Log) (b c a d : ℕ) → Southernmost logs b c → Southernmost logs a d → (b ≡ a) × (c ≡ d)
 unique logs b c a d (flag, low, south) (other, lower, further) =
@@ -236,15 +248,6 @@ unique logs b c a d (flag, low, south) (other, lower, further) =
     apart : (m n : ℕ) → ¬ (m < n) → ¬ (n < m) → m ≡ n
     apart m n p q = split (ltb m n) (λ e. absurd (p (ltb-true m n e))) (λ e. split (ltb n m) (λ h. absurd (q (ltb-true n m h))) (λ h. omega (arith, ltb-false m n e, ltb-false n m h)))
 
--- by numbers
-none-by : (logs : List Log) → ((i c : ℕ) → ¬ Cell (logAt logs i) c) → NoneFlagged logs
-none-by logs none zero c (p, q, e) = omega arith
-none-by logs none (suc i) c flag = none i c flag
-
-south-by : (logs : List Log) (i : ℕ) → ((j d : ℕ) → j < i → ¬ Cell (logAt logs j) d) → (a d : ℕ) → a < suc i → ¬ Flagged logs a d
-south-by logs i south zero d p (q, r, e) = omega arith
-south-by logs i south (suc j) d p flag = south j d (omega arith) flag
-
 module _ (logs : List Log) (p : Place) where
   somewhere : FirstAt logs 1 p → (b c : ℕ) → 0 < b → ((p .board ≡ b) × (p .cell ≡ c)) ↔ Southernmost logs b c
   somewhere (inl (e, none)) b c some = (
@@ -254,7 +257,7 @@ module _ (logs : List Log) (p : Place) where
   somewhere (inr (i, c, e, flag, low, south)) b d some =
       let board-is : p .board ≡ suc i = ap (λ (q : Place). q .board) e ∙ omega arith in
       let cell-is : p .cell ≡ c = ap (λ (q : Place). q .cell) e in
-      let here : Southernmost logs (suc i) c = (flag, low, south-by logs i south) in (
+      let here = southernmost logs i c flag low south in (
         λ (is, at). subst (λ (n : ℕ). Southernmost logs n d) (sym board-is ∙ is) (subst (λ (n : ℕ). Southernmost logs (suc i) n) (sym cell-is ∙ at) here),
         λ there. let found = unique logs (suc i) c b d here there in (board-is ∙ found .0, cell-is ∙ found .1),
       )
