@@ -26,6 +26,7 @@ pub record Rule : Type 1 where
 abbrev pub rule : ℕ → Type 0 → Rule
 rule n P = record { number = n; holds = P }
 
+-- a number that is not from low to high, and an entry of a list that is so
 abbrev pub Outside : ℕ → ℕ → ℕ → Type 0
 Outside low high n = (n < low) ⊎ (high < n)
 
@@ -75,7 +76,7 @@ WrongReading x mv =
 
 -- ---- a frame, by its address, register and value
 
--- an even address is twice the number of the board that it reads, an odd one is that of a write and 1 more
+-- a read of board n has the address 2n, a write to it 2n + 1
 abbrev pub ReadOf : ℕ → ℕ → Type 0
 ReadOf n address = address ≡ 2 * n
 
@@ -88,7 +89,7 @@ Reads address = (n : ℕ) × ReadOf n address
 abbrev pub Writes : ℕ → Type 0
 Writes address = (n : ℕ) × WriteOf n address
 
--- 2: so of the board that the address names
+-- 2: none of the boards has the number that the address names
 abbrev pub NoBoardNamed : List Log → ℕ → Type 0
 NoBoardNamed logs address = (n : ℕ) × (ReadOf n address ⊎ WriteOf n address) × NoBoard logs n
 
