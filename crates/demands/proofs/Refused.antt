@@ -9,7 +9,7 @@ use mathlib.Core.List.{List, [], _∷_, _++_, map}
 use lib.Dec.{leb, ltb, eqb}
 use lib.IntN.{ℤ, pos, negsuc}
 use lib.ListN.{length, set, length-map, List·getD-eq-default}
-use borrow.Author.Tests.{eqb-true, eqb-false, ne-eqb, leb-true, leb-false}
+use borrow.Author.Tests.{eqb-true, eqb-false, eq-eqb, ne-eqb, leb-true, leb-false}
 use Rattle.lists.specs.Every.{every}
 use Rattle.lists.proofs.Split.{split, both, not-yes}
 use Rattle.refusal.specs.Said.{Said, Bar, bar, first}
@@ -20,14 +20,14 @@ use Rattle.cells.specs.Cells.{readable}
 use Rattle.board.specs.declared.Board.{Board}
 use Rattle.board.specs.declared.Readings.{Readings}
 use Rattle.board.specs.Shunt.{shuntOutside}
-use Rattle.board.specs.Sample.{outside, badBoard, outOfRange, readingBars}
+use Rattle.board.specs.Sample.{outside, badBoard, badPlan, outOfRange, readingBars}
 use Rattle.frame.specs.Frame.{byte, boardOf, writes, frameBars}
 use Rattle.frame.specs.Check.{checkOf}
 use Rattle.registers.specs.Map.{Register, registerMap, inMap, noRegister, fits}
 use Rattle.registers.specs.Registers.{programs, lacksCycle, accessBars}
 use Rattle.registers.proofs.Map.{below, above, between, takes-setting}
 use Rattle.stack.specs.Row.{badCount, goodRow, noBoard, nowhere, placeOf, boardAt}
-use Rattle.stack.specs.Open.{goodCounts, openBars, openingSaid, openOf}
+use Rattle.stack.specs.Open.{goodPlans, openBars, openingSaid, openAnswer}
 use Rattle.stack.specs.Sample.{sampleRowBars}
 use Rattle.stack.specs.Frame.{framePlace, frameRowBars}
 use Rattle.demands.specs.Paper.{Entry, staged, working, spent}
@@ -42,18 +42,23 @@ use Rattle.demands.proofs.Demanded.{begun-counts, demand2, final-counts
 
 -- ---- 1: of an opening by its counts, of a row by those of its records
 
-counts-ask : (counts : List ℕ) → Asks (badCount (length counts) || not (goodCounts counts)) (NoStack counts)
+counts-ask : (counts : List ℕ) → Asks (badCount (length counts) || not (goodPlans counts)) (NoStack counts)
 counts-ask counts =
-    asks-or (badCount (length counts)) (not (goodCounts counts)) (asks-outside 1 16 (length counts))
+    asks-or (badCount (length counts)) (not (goodPlans counts)) (asks-outside 1 16 (length counts))
     (asks-some (Outside 5 10) (λ n. not (outside 5 10 n)) (λ n. asks-twice (outside 5 10 n) (asks-outside 5 10 n)) counts)
+
+opening-ask : (records : ℕ) (counts : List ℕ) → Asks (not (eqb (length counts) records) || badCount (length counts) || not (goodPlans counts)) ((length counts ≢ records) ⊎ NoStack counts)
+opening-ask records counts =
+    let other = not (eqb (length counts) records) in
+    asks-or3 other (badCount (length counts)) (not (goodPlans counts)) (asks-or other (badCount (length counts) || not (goodPlans counts)) (asks-not (eqb (length counts) records) (asks-eq (length counts) records)) (counts-ask counts))
 
 row-ask : (row : List Board) → Asks (not (goodRow row)) (NoStack (map (λ b. b .count) row))
 unfolding goodRow
 row-ask row =
     let counts = map (λ (b : Board). b .count) row in
-    let good : every (λ b. not (badBoard b)) row ≡ goodCounts counts = every-of (λ n. not (outside 5 10 n)) (λ (b : Board). b .count) row in
-    asks-same (not (goodRow row)) (badCount (length counts) || not (goodCounts counts))
-    (rw (good, length-map row (λ (b : Board). b .count)) (not-both (badCount (length row)) (goodCounts counts)))
+    let good : every (λ b. not (badBoard b)) row ≡ goodPlans counts = every-of (λ n. not (badPlan n)) (λ (b : Board). b .count) row in
+    asks-same (not (goodRow row)) (badCount (length counts) || not (goodPlans counts))
+    (rw (good, length-map row (λ (b : Board). b .count)) (not-both (badCount (length row)) (goodPlans counts)))
     (counts-ask counts)
   where
     not-both : (a b : Bool) → not (not a && b) ≡ (a || not b)
@@ -289,7 +294,7 @@ module _ (logs : List Log) (few : length logs ≤ 16) where
 pub same-table : SameTable
 same-table =
     record {
-      opening = λ counts. also 1 (counts-ask counts) tt;
+      opening = λ records counts. also 1 (opening-ask records counts) tt;
       handed-in = λ row. also 1 (row-ask row) tt;
       act = λ logs fine. act-rows logs (few-boards logs fine);
     }
@@ -387,7 +392,7 @@ module _ (logs : List Log) (fine : ¬ NoStack (countsOf logs)) where
 -- ---- refused by the paper's table
 
 pub opens-so : (counts : List ℕ) → ¬ NoStack counts → opens counts ≡ true
-opens-so counts fine = rw (asks-no (badCount (length counts) || not (goodCounts counts)) (counts-ask counts) .1 fine)
+opens-so counts fine = rw (eq-eqb (length counts) (length counts) refl, asks-no (badCount (length counts) || not (goodPlans counts)) (counts-ask counts) .1 fine)
 
 act-by : (counts : List ℕ) → ¬ NoStack counts → (acts : List Act) (a : Act)
     → ByRules (rules (final taken (begun counts) acts) a) (outcome (final next (openedRow counts) acts) a .said)
@@ -401,7 +406,7 @@ act-by counts fine acts a =
 pub refused-by-paper : RefusedByPaper
 refused-by-paper =
     record {
-      opening = λ counts. by-rules (openBars counts) (openingRules counts) (openingSaid (openOf counts .answer)) (same-table .opening counts) (demand1-opening counts .by-table);
+      opening = λ row counts. by-rules (openBars (length row) counts) (openingRules (length row) counts) (openingSaid (openAnswer row counts)) (same-table .opening (length row) counts) (demand1-opening row counts .by-table);
       handed-in = λ row a. Iff·trans (demand1 row .by-table a .refused 1 (omega arith)) (Iff·trans (bad-first row a) (row-ask row));
       act = act-by;
       enters = act-enters;

@@ -12,7 +12,7 @@ use Rattle.refusal.specs.Said.{Said, refuses, Bar}
 use Rattle.board.specs.declared.Board.{Board}
 use Rattle.board.specs.declared.Readings.{Readings}
 use Rattle.frame.specs.Check.{checkOf}
-use Rattle.stack.specs.Open.{openBars, openingSaid, openOf}
+use Rattle.stack.specs.Open.{openBars, openingSaid, openAnswer}
 use Rattle.stack.specs.Read.{readBars}
 use Rattle.demands.specs.Paper.{Entry, sampled, framed, History, staged, working, spent}
 use Rattle.demands.specs.Acts.{Act, sample, frame, reading, bars, outcome, next, openedRow, final}
@@ -124,8 +124,12 @@ NoCycle logs address register =
 
 -- ---- the table, for each act in the paper's order
 
-abbrev pub openingRules : List ℕ → List Rule
-openingRules counts = rule 1 (NoStack counts) ∷ []
+-- an opening has a count for each record of the row that it is given, and none beside
+abbrev pub openingRules : ℕ → List ℕ → List Rule
+openingRules records counts = rule 1 ((length counts ≢ records) ⊎ NoStack counts) ∷ []
+
+abbrev pub stackRules : List ℕ → List Rule
+stackRules counts = rule 1 (NoStack counts) ∷ []
 
 abbrev pub sampleRules : List Log → ℕ → Readings → List ℕ → List Rule
 sampleRules logs n x mv =
@@ -156,7 +160,7 @@ frameRules logs bytes buffer =
 abbrev pub rules : List Log → Act → List Rule
 rules logs (sample n x mv) = sampleRules logs n x mv
 rules logs (frame bytes buffer) = frameRules logs bytes buffer
-rules logs reading = rule 1 (NoStack (countsOf logs)) ∷ []
+rules logs reading = stackRules (countsOf logs)
 
 -- ---- the library's table is this one, row by row in the same order: each condition holds exactly where the paper's does
 
@@ -171,8 +175,8 @@ SameRows (b ∷ bs) (r ∷ rs) = SameRow b r × SameRows bs rs
 
 pub record SameTable : Type 0 where
   -- for an opening; for a row of records handed in, good or damaged; and for every act on the records that the paper gives
-  pub opening : (counts : List ℕ) → SameRows (openBars counts) (openingRules counts)
-  pub handed-in : (row : List Board) → SameRows (readBars row) (openingRules (map (λ b. b .count) row))
+  pub opening : (records : ℕ) (counts : List ℕ) → SameRows (openBars records counts) (openingRules records counts)
+  pub handed-in : (row : List Board) → SameRows (readBars row) (stackRules (map (λ b. b .count) row))
   pub act : (logs : List Log) → ¬ NoStack (countsOf logs) → (a : Act) → SameRows (bars (rowGiven logs) a) (rules logs a)
 
 -- ---- refused with n exactly if n is the first that holds, accepted exactly if none does
@@ -201,7 +205,7 @@ abbrev pub entered : List Log → ℕ → Entry → List Log
 entered logs n e = set logs (n - 1) (joined (logOf logs n) e)
 
 pub record RefusedByPaper : Type 0 where
-  pub opening : (counts : List ℕ) → ByRules (openingRules counts) (openingSaid (openOf counts .answer))
+  pub opening : (row : List Board) (counts : List ℕ) → ByRules (openingRules (length row) counts) (openingSaid (openAnswer row counts))
   -- 1 comes before all else for a row handed in
   pub handed-in : (row : List Board) (a : Act) → (outcome row a .said ≡ refuses 1) ↔ NoStack (map (λ b. b .count) row)
   -- after any opening that is a stack, and any acts

@@ -113,10 +113,10 @@ three-false false b c e = absurd (true≢false e)
 pub opens : (row : List Board) (plans : List ℕ) → (openingBy (fillEnd row (startOf plans (length row)) plans) ≡ openAnswer row plans) × (fillRow row (startOf plans (length row)) plans ≡ openRow row plans)
 unfolding fillEnd fillRow startOf openAnswer openRow
 opens row plans =
-    split (not (eqb (length plans) (length row)) || badCount (length row) || not (goodPlans plans))
+    split (not (eqb (length plans) (length row)) || badCount (length plans) || not (goodPlans plans))
     (λ e. (rw (e, end-stops 0 row refusedFill plans refl), rw (e, row-stops 0 row refusedFill plans refl)))
     (λ e.
-    let ok = three-false (eqb (length plans) (length row)) (badCount (length row)) (goodPlans plans) e in
+    let ok = three-false (eqb (length plans) (length row)) (badCount (length plans)) (goodPlans plans) e in
     let same = sym (eqb-true (length plans) (length row) (ok .0)) in
     let whole : 0 + (length plans - 0) ≡ length plans = omega arith in
     (rw (e, same, all-end plans (ok .1) (length plans - 0) 0 row same whole), rw (e, same) (all-row plans (ok .1) (length plans - 0) 0 row same whole)))

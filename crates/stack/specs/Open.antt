@@ -20,7 +20,7 @@ goodPlans plans = every (λ plan. not (badPlan plan)) plans
 
 -- refusal 1: no plan for each record of the row and none beside, without 1 to 16 of them, or a bad plan
 abbrev pub openBars : ℕ → List ℕ → List Bar
-openBars boards plans = bar 1 (not (eqb (length plans) boards) || badCount boards || not (goodPlans plans)) ∷ []
+openBars boards plans = bar 1 (not (eqb (length plans) boards) || badCount (length plans) || not (goodPlans plans)) ∷ []
 
 -- the plan of each board, southernmost first, gives the row
 abbrev pub opened : List ℕ → List Board

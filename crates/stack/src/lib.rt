@@ -108,7 +108,7 @@ fn start(plans: &[u32], boards: usize) -> Progress
     if plans.len() != boards {
         return refused_fill();
     }
-    if bad_count(boards) {
+    if bad_count(plans.len()) {
         return refused_fill();
     }
     if good_plans(plans) {
