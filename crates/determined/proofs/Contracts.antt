@@ -15,7 +15,7 @@ use Rattle.frame.specs.declared.Outcome.{Outcome}
 use Rattle.frame.specs.declared.Request.{Request}
 use Rattle.registers.specs.Registers.{obeyedOf}
 use Rattle.frame.specs.declared.Reply.{Reply}
-use Rattle.frame.specs.Reply.{replyOf, putOf}
+use Rattle.frame.specs.Reply.{replyOf, bufferWith}
 use Rattle.stack.specs.Sample.{sampleAnswer, sampleRow}
 use Rattle.stack.specs.Frame.{frameAnswer, frameRow, frameBuffer}
 use Rattle.stack.specs.declared.View.{View}
@@ -287,8 +287,8 @@ held-frame-held-one κs a r t s u p q = agree (p .0) (q .0)
 
 -- ---- what writes into what it was lent
 -- the result, and the buffer
-pub frame-put-two : (buffer : List ℕ) (t : Taken) (made : Outcome) → Determined (λ (o : Reply × List ℕ). (o .0 ≡ replyOf t made) × (o .1 ≡ putOf buffer (replyOf t made)))
-frame-put-two buffer t made = two (replyOf t made) (putOf buffer (replyOf t made))
+pub frame-put-two : (buffer : List ℕ) (t : Taken) (made : Outcome) → Determined (λ (o : Reply × List ℕ). (o .0 ≡ replyOf t made) × (o .1 ≡ bufferWith buffer (replyOf t made)))
+frame-put-two buffer t made = two (replyOf t made) (bufferWith buffer (replyOf t made))
 
 -- the answer, and the record
 pub board-sample-board-two : (b : Board) (x : Readings) (mv : List ℕ) → Determined (λ (o : Answer × Board). (o .0 ≡ sampleOf b x mv .answer) × (o .1 ≡ sampleOf b x mv .board))

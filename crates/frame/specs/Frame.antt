@@ -1,17 +1,14 @@
 -- A frame taken apart into address, register, value and check, or else refused (01, Frames and registers; Refusal numbers 6, 7, 8).
 -- Assumes nothing.
 use Prim.Native.Nat.{ℕ, _/_, _%_}
-use mathlib.Core.Bool.{Bool, false, true, cond, not}
+use mathlib.Core.Bool.{Bool, cond, not}
 use mathlib.Core.List.{List, [], _∷_}
 use lib.Dec.{ltb, eqb}
 use lib.ListN.{length, getD}
-use Rattle.refusal.specs.declared.Refusal.{Refusal}
 use Rattle.refusal.specs.declared.Refusal.the-variants.{Malformed}
 use Rattle.refusal.specs.Refusals.{numberOf, numbered}
 use Rattle.refusal.specs.Said.{Said, refuses, accepts, value, Bar, bar, judged}
 use Rattle.frame.specs.declared.Taken.{Taken}
-use Rattle.frame.specs.declared.Taken.the-variants.{Parts, Refused}
-use Rattle.frame.specs.declared.Request.{Request}
 use Rattle.frame.specs.Check.{checkOf}
 
 -- byte i of a frame, from 0: address, register, value, check
@@ -33,29 +30,14 @@ frameBars frame room =
     ∷ bar 8 (not (eqb (byte frame 3) (checkOf (byte frame 0 ∷ byte frame 1 ∷ byte frame 2 ∷ []))))
     ∷ []
 
--- the paper's number and values of each case
+-- the paper's number and values of a frame taken apart; one that is refused has no values, and zeros stand for them
 abbrev pub partsSaid : Taken → Said
-partsSaid (Parts address register v check) = accepts (address ∷ register ∷ v ∷ check ∷ [])
-partsSaid (Refused why) = refuses (numberOf why)
+partsSaid t = cond (t .refused) (refuses (numberOf (t .why))) (accepts (t .request .address ∷ t .request .register ∷ t .request .value ∷ t .check ∷ []))
 
--- the case that says them
+-- the frame taken apart that says them; one that is not refused has no why, and Malformed stands for it
 abbrev pub partsSaying : Said → Taken
-partsSaying s = cond (eqb (s .number) 0) (Parts (value 0 s) (value 1 s) (value 2 s) (value 3 s)) (Refused (numbered (s .number)))
+partsSaying s =
+    record { request = record { address = value 0 s; register = value 1 s; value = value 2 s }; check = value 3 s; refused = not (eqb (s .number) 0); why = cond (eqb (s .number) 0) Malformed (numbered (s .number)) }
 
 unfoldable pub takenApart : List ℕ → ℕ → Taken
 takenApart frame room = partsSaying (judged (frameBars frame room) (byte frame 0 ∷ byte frame 1 ∷ byte frame 2 ∷ byte frame 3 ∷ []))
-
--- a frame that was refused as it stands
-abbrev pub isRefused : Taken → Bool
-isRefused (Parts address register v check) = false
-isRefused (Refused why) = true
-
--- what a frame asks of its board; one that was refused asks nothing, and zeros stand for that
-abbrev pub requestOf : Taken → Request
-requestOf (Parts address register v check) = record { address = address; register = register; value = v }
-requestOf (Refused why) = record { address = 0; register = 0; value = 0 }
-
--- why a frame was refused; one that was taken apart has no refusal, and Malformed, which no frame is given, stands for that
-abbrev pub whyOf : Taken → Refusal
-whyOf (Parts address register v check) = Malformed
-whyOf (Refused why) = why

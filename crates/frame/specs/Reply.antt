@@ -3,12 +3,11 @@
 use Prim.Native.Nat.{ℕ}
 use mathlib.Core.Bool.{cond}
 use mathlib.Core.List.{List, [], _∷_}
-use lib.Dec.{ltb, eqb}
-use lib.ListN.{length, drop}
+use lib.Dec.{eqb}
+use lib.ListN.{drop}
 use Rattle.refusal.specs.Refusals.{numberOf, numbered}
 use Rattle.refusal.specs.Said.{Said, refuses, accepts, value}
 use Rattle.frame.specs.declared.Taken.{Taken}
-use Rattle.frame.specs.declared.Taken.the-variants as taken
 use Rattle.frame.specs.declared.Verdict.{Verdict}
 use Rattle.frame.specs.declared.Verdict.the-variants as verdict
 use Rattle.frame.specs.declared.Outcome.{Outcome}
@@ -47,14 +46,11 @@ replyBy address register v check verdict.Accepted = Replied address register v c
 replyBy address register v check (verdict.Refused why) = Refused why
 
 unfoldable pub replyOf : Taken → Outcome → Reply
-replyOf (taken.Parts address register v check) o = replyBy address register (o .value) (checkAfter address register v check (o .value)) (o .verdict)
-replyOf (taken.Refused why) o = Refused why
+replyOf t o =
+    let asked = t .request in
+    replyBy (asked .address) (asked .register) (o .value) (checkAfter (asked .address) (asked .register) (asked .value) (t .check) (o .value)) (o .verdict)
 
 -- it takes the first four bytes of the buffer; later bytes stay, and at a refusal all of them
 abbrev pub bufferWith : List ℕ → Reply → List ℕ
 bufferWith buffer (Replied address register v check) = address ∷ register ∷ v ∷ check ∷ drop 4 buffer
 bufferWith buffer (Refused why) = buffer
-
--- a buffer without room, which refusal 7 has kept away, stays too
-unfoldable pub putOf : List ℕ → Reply → List ℕ
-putOf buffer reply = cond (ltb (length buffer) 4) buffer (bufferWith buffer reply)

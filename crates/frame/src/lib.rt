@@ -1,11 +1,13 @@
 // One frame: the check byte, taking a frame apart, and putting the reply into the lent buffer (01, Frames and registers).
-ghost use Prim.Native.Nat.{_*_, _/_, _%_, _<_};
+ghost use Prim.Native.Nat.{_*_, _/_, _%_, _<_, _≤_};
 ghost use mathlib.Core.Path.{_≡_};
 ghost use mathlib.Core.List.{[], _∷_};
 ghost use lib.Bits.{bitXor};
+ghost use lib.ListN.{length};
 ghost use Rattle.frame.specs.Check.{checked, checkOf, checkMoved};
-ghost use Rattle.frame.specs.Frame.{takenApart, isRefused, requestOf, whyOf};
-ghost use Rattle.frame.specs.Reply.{replyOf, putOf};
+ghost use Rattle.frame.specs.Frame.{takenApart};
+ghost use Rattle.frame.specs.Reply.{replyOf, bufferWith};
+ghost use Rattle.frame.specs.Way.{decoded, refusedAs};
 use refusal::Refusal;
 
 // A product by x^2 + x + 1, that is by 7, without carries.
@@ -53,52 +55,6 @@ pub fn check_byte(address: u8, register: u8, value: u8) -> u8
     reduced(by_seven(second ^ value as u32))
 }
 
-// The four bytes of a frame, or why it was refused.
-pub enum Taken {
-    Parts {
-        address: u8,
-        register: u8,
-        value: u8,
-        check: u8,
-    },
-    Refused(Refusal),
-}
-
-// A frame taken apart, where the lent buffer has room for so many bytes.
-pub fn take_apart(frame: &[u8], room: usize) -> Taken
-    ensures { λ o. ⌜ o ≡ takenApart (now (frame .entry)) room ⌝ }
-{
-    if frame.len() != 4 {
-        return Taken::Refused(Refusal::FrameLength);
-    }
-    if room < 4 {
-        return Taken::Refused(Refusal::ReplyRoom);
-    }
-    let address = frame[0];
-    let register = frame[1];
-    let value = frame[2];
-    let check = frame[3];
-    if check != check_byte(address, register, value) {
-        return Taken::Refused(Refusal::CheckByte);
-    }
-    Taken::Parts {
-        address: address,
-        register: register,
-        value: value,
-        check: check,
-    }
-}
-
-// Whether a frame was refused as it stands, before any board was asked.
-pub fn refused(taken: Taken) -> bool
-    ensures { λ o. ⌜ o ≡ isRefused taken ⌝ }
-{
-    match taken {
-        Taken::Parts { .. } => false,
-        Taken::Refused(_) => true,
-    }
-}
-
 // What a frame asks of its board.
 pub struct Request {
     pub address: u8,
@@ -106,43 +62,110 @@ pub struct Request {
     pub value: u8,
 }
 
-// Of a frame that was taken apart; one that was refused asks nothing, and zeros stand for that.
-pub fn request_of(taken: Taken) -> Request
-    ensures { λ o. ⌜ o ≡ requestOf taken ⌝ }
-{
-    let Taken::Parts {
-        address,
-        register,
-        value,
-        check: _,
-    } = taken
-    else {
-        return Request {
-            address: 0,
-            register: 0,
-            value: 0,
-        };
-    };
-    Request {
-        address: address,
-        register: register,
-        value: value,
-    }
-}
-
-// Why; for a frame that was taken apart, the refusal that no frame is given.
-fn why(taken: Taken) -> Refusal
-    ensures { λ o. ⌜ o ≡ whyOf taken ⌝ }
-{
-    match taken {
-        Taken::Parts { .. } => Refusal::Malformed,
-        Taken::Refused(why) => why,
-    }
-}
-
 pub enum Verdict {
     Accepted,
     Refused(Refusal),
+}
+
+// A frame decoded: its four bytes, where it has four.
+enum Decoded {
+    Parts {
+        address: u8,
+        register: u8,
+        value: u8,
+        check: u8,
+    },
+    NotFour,
+}
+
+fn decode(frame: &[u8]) -> Decoded
+    ensures { λ o. ⌜ o ≡ decoded (now (frame .entry)) ⌝ }
+{
+    if frame.len() != 4 {
+        return Decoded::NotFour;
+    }
+    // the register first: so ordered, the compiled code has one instruction less
+    let register = frame[1];
+    let address = frame[0];
+    let value = frame[2];
+    let check = frame[3];
+    Decoded::Parts {
+        address: address,
+        register: register,
+        value: value,
+        check: check,
+    }
+}
+
+// A frame taken apart: what it asks and its check, or why it was refused as it stands.
+// A refused frame asks nothing, and zeros stand for that; for the why of any other stands Malformed, which no frame is given.
+pub struct Taken {
+    pub request: Request,
+    pub check: u8,
+    pub refused: bool,
+    pub why: Refusal,
+}
+
+fn refuse(why: Refusal) -> Taken
+    ensures { λ o. ⌜ o ≡ refusedAs why ⌝ }
+{
+    let request = Request {
+        address: 0,
+        register: 0,
+        value: 0,
+    };
+    Taken {
+        request: request,
+        check: 0,
+        refused: true,
+        why: why,
+    }
+}
+
+// A frame taken apart, where the lent buffer has room for so many bytes, or else refused.
+pub fn take_apart(frame: &[u8], room: usize) -> Taken
+    ensures { λ o. ⌜ o ≡ takenApart (now (frame .entry)) room ⌝ }
+{
+    let decoded = decode(frame);
+    let Decoded::Parts {
+        address,
+        register,
+        value,
+        check,
+    } = decoded
+    else {
+        return refuse(Refusal::FrameLength);
+    };
+    if room < 4 {
+        return refuse(Refusal::ReplyRoom);
+    }
+    if check != check_byte(address, register, value) {
+        return refuse(Refusal::CheckByte);
+    }
+    let request = Request {
+        address: address,
+        register: register,
+        value: value,
+    };
+    Taken {
+        request: request,
+        check: check,
+        refused: false,
+        why: Refusal::Malformed,
+    }
+}
+
+// Whether a frame was refused as it stands, before any board was asked.
+pub fn refused(taken: Taken) -> bool
+    ensures { λ o. ⌜ o ≡ taken .refused ⌝ }
+{
+    taken.refused
+}
+
+pub fn request_of(taken: Taken) -> Request
+    ensures { λ o. ⌜ o ≡ taken .request ⌝ }
+{
+    taken.request
 }
 
 // What a board makes of a frame: the verdict, and the value that its reply carries, 0 at a refusal.
@@ -164,9 +187,10 @@ pub enum Reply {
 
 // The reply to a frame that was refused as it stands.
 pub fn refusal(taken: Taken) -> Reply
-    ensures { λ o. ⌜ o ≡ Reply.Refused (whyOf taken) ⌝ }
+    ensures { λ o. ⌜ o ≡ Reply.Refused (taken .why) ⌝ }
 {
-    Reply::Refused(why(taken))
+    let why = taken.why;
+    Reply::Refused(why)
 }
 
 // The check of a frame whose value becomes another: the two bytes before it need not be gone through again, and an echo is as it came.
@@ -183,23 +207,15 @@ fn check_moved(check: u8, old: u8, new: u8) -> u8
 fn reply_of(taken: Taken, outcome: Outcome) -> Reply
     ensures { λ o. ⌜ o ≡ replyOf taken outcome ⌝ }
 {
-    let Taken::Parts {
-        address,
-        register,
-        value,
-        check,
-    } = taken
-    else {
-        return refusal(taken);
-    };
+    let asked = taken.request;
     let verdict = outcome.verdict;
     let given = outcome.value;
     match verdict {
         Verdict::Accepted => {
-            let moved = check_moved(check, value, given);
+            let moved = check_moved(taken.check, asked.value, given);
             Reply::Replied {
-                address: address,
-                register: register,
+                address: asked.address,
+                register: asked.register,
                 value: given,
                 check: moved,
             }
@@ -208,14 +224,12 @@ fn reply_of(taken: Taken, outcome: Outcome) -> Reply
     }
 }
 
-// The reply in the first four bytes of the buffer; a refusal, or a buffer without room, leaves all of it.
+// The reply in the first four bytes of the buffer; a refusal leaves all of it.
 pub fn put(buffer: &mut [u8], taken: Taken, outcome: Outcome) -> Reply
-    ensures { λ o. ⌜ (o ≡ replyOf taken outcome) × (now (buffer .exit) ≡ putOf (now (buffer .entry)) (replyOf taken outcome)) ⌝ }
+    requires { ⌜ 4 ≤ length (now buffer) ⌝ }
+    ensures { λ o. ⌜ (o ≡ replyOf taken outcome) × (now (buffer .exit) ≡ bufferWith (now (buffer .entry)) (replyOf taken outcome)) ⌝ }
 {
     let reply = reply_of(taken, outcome);
-    if buffer.len() < 4 {
-        return reply;
-    }
     match reply {
         Reply::Replied {
             address,

@@ -46,7 +46,7 @@ module _ {M : Type 1} (𝓤 : URA M) (H : Heap 𝓤) (A : Atoms 𝓤) (W : Given
   answer = one.answer 𝓤 H A W
 
   abbrev pub taken : PlainType 𝓤 H A Taken.the-row
-  taken = enumeration 𝓤 H A W Taken.the-type Taken′.the-laws Taken′.the-plain Taken′.the-copy tt
+  taken = struct 𝓤 H A W Taken.the-type Taken′.the-laws Taken′.the-plain Taken′.the-copy
 
   abbrev pub request : PlainType 𝓤 H A Request.the-row
   request = struct 𝓤 H A W Request.the-type Request′.the-laws Request′.the-plain Request′.the-copy

@@ -13,22 +13,23 @@ use Rattle.lists.specs.Every.{every}
 use Rattle.lists.proofs.Split.{split, both, not-yes}
 use Rattle.lists.proofs.Every.{every-at}
 use Rattle.refusal.specs.declared.Refusal.{Refusal}
+use Rattle.refusal.specs.declared.Refusal.the-variants.{Malformed}
 use Rattle.refusal.specs.Refusals.{numbered}
 use Rattle.refusal.specs.Said.{first, accepts, refuses}
 use Rattle.board.specs.declared.Board.{Board}
 use Rattle.board.specs.declared.Readings.{Readings}
 use Rattle.board.specs.Sample.{fresh, badBoard, readingBars, boardNext, sampleOf}
 use Rattle.frame.specs.declared.Taken.{Taken}
-use Rattle.frame.specs.declared.Taken.the-variants as taken
 use Rattle.frame.specs.declared.Reply.{Reply}
 use Rattle.frame.specs.declared.Reply.the-variants.{Refused}
-use Rattle.frame.specs.Frame.{byte, boardOf, writes, takenApart, requestOf}
+use Rattle.frame.specs.Frame.{byte, boardOf, writes, takenApart}
 use Rattle.frame.specs.Check.{checkOf, checkAfter}
-use Rattle.frame.specs.Reply.{replyBytes, outcomeSaying, replySaying, replyBy, replyOf, putOf}
+use Rattle.frame.specs.Reply.{replyBytes, outcomeSaying, replySaying, replyBy, replyOf, bufferWith}
+use Rattle.frame.specs.Way.{refusedAs}
 use Rattle.registers.specs.Registers.{accessBars, replyValue, obeyedOf}
 use Rattle.stack.specs.Row.{badCount, goodRow, noBoard, placeOf, boardAt}
 use Rattle.stack.specs.Sample.{sampleAnswer, sampleRow}
-use Rattle.stack.specs.Way.{noRowSample, sampleAnswerAt, sampleRowAt, obeyOutcomeAt, obeyRowAt, noRowReply, takenAnswer, takenRow, takenBuffer, frameAnswerIn, frameRowIn, frameBufferIn}
+use Rattle.stack.specs.Way.{noRowSample, sampleAnswerAt, sampleRowAt, obeyOutcomeAt, obeyRowAt, noRowReply, takenAnswer, takenRow, frameAnswerIn, frameRowIn, frameBufferIn}
 use Rattle.stack.specs.Frame.{framePlace, frameBoard, boardFramed, frameAnswer, frameRow, frameBuffer}
 use Rattle.board.proofs.Counts.{within}
 
@@ -85,7 +86,7 @@ sample-bad row n x mv bad = (rw bad, rw bad)
 
 -- ---- a frame
 
--- the reply to an access that is judged by its bars, and the buffer with room that it is put into
+-- the reply to an access that is judged by its bars, and the buffer that it is put into
 abbrev judgedReply : ℕ → ℕ → ℕ → ℕ → Reply
 judgedReply n address register v = replySaying (cond (eqb n 0) (accepts (replyBytes address register v)) (refuses n))
 
@@ -93,14 +94,8 @@ reply-judged : (n address register v old check : ℕ) → eqb check (checkOf (ad
     → let o = outcomeSaying (cond (eqb n 0) (accepts (v ∷ [])) (refuses n)) in replyBy address register (o .value) (checkAfter address register old check (o .value)) (o .verdict) ≡ judgedReply n address register v
 reply-judged n address register v old check right = split (eqb n 0) (λ e. rw (e, right)) (λ e. rw (e, e))
 
-put-judged : (n address register v : ℕ) (buffer : List ℕ) → ltb (length buffer) 4 ≡ false → putOf buffer (judgedReply n address register v) ≡ cond (eqb n 0) (replyBytes address register v ++ drop 4 buffer) buffer
-unfolding putOf
-put-judged n address register v buffer room = split (eqb n 0) (λ e. rw (e, room)) (λ e. rw (e, room, e))
-
--- a refusal leaves the buffer, with or without room
-put-refused : (buffer : List ℕ) (why : Refusal) → putOf buffer (Refused why) ≡ buffer
-unfolding putOf
-put-refused buffer why = split (ltb (length buffer) 4) (λ e. rw e) (λ e. rw e)
+put-judged : (n address register v : ℕ) (buffer : List ℕ) → bufferWith buffer (judgedReply n address register v) ≡ cond (eqb n 0) (replyBytes address register v ++ drop 4 buffer) buffer
+put-judged n address register v buffer = split (eqb n 0) (λ e. rw e) (λ e. rw (e, e))
 
 -- what the routine does on a row is what the paper says of it
 abbrev Framed : List Board → List ℕ → List ℕ → Reply → List Board → List ℕ → Type 0
@@ -108,28 +103,28 @@ Framed row bytes buffer answer after put = (answer ≡ frameAnswer row bytes buf
 
 -- by what the frame was taken apart into
 module _ (row : List Board) (bytes buffer : List ℕ) where
-  said-by : (t : Taken) → takenApart bytes (length buffer) ≡ t → Framed row bytes buffer (takenAnswer row t) (takenRow row t) (takenBuffer row buffer t)
+  said-by : (t : Taken) → takenApart bytes (length buffer) ≡ t → Framed row bytes buffer (takenAnswer row t) (takenRow row t) (bufferWith buffer (takenAnswer row t))
       → Framed row bytes buffer (frameAnswerIn row bytes buffer) (frameRowIn row bytes buffer) (frameBufferIn row bytes buffer)
   unfolding frameAnswerIn frameRowIn frameBufferIn
-  said-by t e w = (ap (takenAnswer row) e ∙ w .0, (ap (takenRow row) e ∙ w .1 .0, ap (takenBuffer row buffer) e ∙ w .1 .1))
+  said-by t e w = (ap (takenAnswer row) e ∙ w .0, (ap (takenRow row) e ∙ w .1 .0, ap (λ (u : Taken). bufferWith buffer (takenAnswer row u)) e ∙ w .1 .1))
 
 -- the parts of a frame that none of 6, 7 and 8 refuses
 abbrev partsOf : List ℕ → Taken
-partsOf bytes = taken.Parts (byte bytes 0) (byte bytes 1) (byte bytes 2) (byte bytes 3)
+partsOf bytes = record { request = record { address = byte bytes 0; register = byte bytes 1; value = byte bytes 2 }; check = byte bytes 3; refused = false; why = Malformed }
 
 module _ (bytes : List ℕ) (room : ℕ) where
   abbrev right : Bool
   right = eqb (byte bytes 3) (checkOf (byte bytes 0 ∷ byte bytes 1 ∷ byte bytes 2 ∷ []))
 
-  apart-6 : eqb (length bytes) 4 ≡ false → takenApart bytes room ≡ taken.Refused (numbered 6)
+  apart-6 : eqb (length bytes) 4 ≡ false → takenApart bytes room ≡ refusedAs (numbered 6)
   unfolding takenApart
   apart-6 e6 = rw e6
 
-  apart-7 : eqb (length bytes) 4 ≡ true → ltb room 4 ≡ true → takenApart bytes room ≡ taken.Refused (numbered 7)
+  apart-7 : eqb (length bytes) 4 ≡ true → ltb room 4 ≡ true → takenApart bytes room ≡ refusedAs (numbered 7)
   unfolding takenApart
   apart-7 e6 e7 = rw (e6, e7)
 
-  apart-8 : eqb (length bytes) 4 ≡ true → ltb room 4 ≡ false → right ≡ false → takenApart bytes room ≡ taken.Refused (numbered 8)
+  apart-8 : eqb (length bytes) 4 ≡ true → ltb room 4 ≡ false → right ≡ false → takenApart bytes room ≡ refusedAs (numbered 8)
   unfolding takenApart
   apart-8 e6 e7 e8 = rw (e6, e7, e8)
 
@@ -153,7 +148,7 @@ module _ (row : List Board) (bytes buffer : List ℕ) (good : goodRow row ≡ tr
     there : noBoard row (boardOf (byte bytes 0)) ≡ false
     there = has-board row good (boardOf (byte bytes 0)) (ltb-true (framePlace bytes) (length row) e)
 
-    obeyed : obeyOutcomeAt row (requestOf (partsOf bytes)) ≡ outcomeSaying (cond (eqb barred 0) (accepts (told ∷ [])) (refuses barred))
+    obeyed : obeyOutcomeAt row (partsOf bytes .request) ≡ outcomeSaying (cond (eqb barred 0) (accepts (told ∷ [])) (refuses barred))
     unfolding obeyOutcomeAt obeyedOf
     obeyed = rw e
 
@@ -161,22 +156,22 @@ module _ (row : List Board) (bytes buffer : List ℕ) (good : goodRow row ≡ tr
     unfolding replyOf
     replied = ap (replyOf (partsOf bytes)) obeyed ∙ reply-judged barred (byte bytes 0) (byte bytes 1) told (byte bytes 2) (byte bytes 3) e8
 
-    board-framed : Framed row bytes buffer (takenAnswer row (partsOf bytes)) (takenRow row (partsOf bytes)) (takenBuffer row buffer (partsOf bytes))
+    board-framed : Framed row bytes buffer (takenAnswer row (partsOf bytes)) (takenRow row (partsOf bytes)) (bufferWith buffer (takenAnswer row (partsOf bytes)))
     unfolding obeyRowAt obeyedOf frameAnswer frameRow frameBuffer
     board-framed = (
       replied ∙ rw (e6, e7, e8, good, there),
       (
         rw (e6, e7, e8, good, e, there) (set-kept (eqb barred 0) row (framePlace bytes) (boardFramed row bytes)),
-        ap (putOf buffer) replied ∙ rw (e6, e7, e8, good, there) (put-judged barred (byte bytes 0) (byte bytes 1) told buffer e7),
+        ap (bufferWith buffer) replied ∙ rw (e6, e7, e8, good, there) (put-judged barred (byte bytes 0) (byte bytes 1) told buffer),
       ),
     )
 
   -- which is not
-  none-framed : ltb (framePlace bytes) (length row) ≡ false → Framed row bytes buffer (takenAnswer row (partsOf bytes)) (takenRow row (partsOf bytes)) (takenBuffer row buffer (partsOf bytes))
+  none-framed : ltb (framePlace bytes) (length row) ≡ false → Framed row bytes buffer (takenAnswer row (partsOf bytes)) (takenRow row (partsOf bytes)) (bufferWith buffer (takenAnswer row (partsOf bytes)))
   unfolding obeyOutcomeAt obeyRowAt replyOf frameAnswer frameRow frameBuffer
   none-framed e =
       let none = has-none row good (boardOf (byte bytes 0)) (ltb-false (framePlace bytes) (length row) e) in
-      (rw (e6, e7, e8, good, e, none), (rw (e6, e7, e8, good, e, none), rw (e6, e7, e8, good, e, none) (put-refused buffer (numbered 2))))
+      (rw (e6, e7, e8, good, e, none), (rw (e6, e7, e8, good, e, none), rw (e6, e7, e8, good, e, none)))
 
 -- a frame to a good row
 pub frame-good : (row : List Board) (bytes buffer : List ℕ) → goodRow row ≡ true → Framed row bytes buffer (frameAnswerIn row bytes buffer) (frameRowIn row bytes buffer) (frameBufferIn row bytes buffer)
@@ -186,14 +181,14 @@ frame-good row bytes buffer good =
     split (eqb (length bytes) 4)
     (λ e6.
     split (ltb room 4)
-    (λ e7. said-by row bytes buffer (taken.Refused (numbered 7)) (apart-7 bytes room e6 e7) (rw (e6, e7, good), (rw (e6, e7, good), rw (e6, e7, good))))
+    (λ e7. said-by row bytes buffer (refusedAs (numbered 7)) (apart-7 bytes room e6 e7) (rw (e6, e7, good), (rw (e6, e7, good), rw (e6, e7, good))))
     (λ e7.
     split (right bytes room)
     (λ e8.
     said-by row bytes buffer (partsOf bytes) (apart-none bytes room e6 e7 e8)
     (split (ltb (framePlace bytes) (length row)) (λ e. board-framed row bytes buffer good e6 e7 e8 e) (λ e. none-framed row bytes buffer good e6 e7 e8 e)))
-    (λ e8. said-by row bytes buffer (taken.Refused (numbered 8)) (apart-8 bytes room e6 e7 e8) (rw (e6, e7, e8, good), (rw (e6, e7, e8, good), rw (e6, e7, e8, good))))))
-    (λ e6. said-by row bytes buffer (taken.Refused (numbered 6)) (apart-6 bytes room e6) (rw (e6, good), (rw (e6, good), rw (e6, good))))
+    (λ e8. said-by row bytes buffer (refusedAs (numbered 8)) (apart-8 bytes room e6 e7 e8) (rw (e6, e7, e8, good), (rw (e6, e7, e8, good), rw (e6, e7, e8, good))))))
+    (λ e6. said-by row bytes buffer (refusedAs (numbered 6)) (apart-6 bytes room e6) (rw (e6, good), (rw (e6, good), rw (e6, good))))
 
 -- a frame to a bad row
 pub frame-bad : (row : List Board) (bytes buffer : List ℕ) → goodRow row ≡ false → Framed row bytes buffer noRowReply row buffer

@@ -19,8 +19,8 @@ use Rattle.frame.specs.declared.Request.{Request}
 use Rattle.frame.specs.declared.Reply.{Reply}
 use Rattle.frame.specs.declared.Reply.the-variants as reply
 use Rattle.frame.specs.declared.Outcome.{Outcome}
-use Rattle.frame.specs.Frame.{boardOf, takenApart, isRefused, requestOf, whyOf}
-use Rattle.frame.specs.Reply.{replyOf, putOf}
+use Rattle.frame.specs.Frame.{boardOf, takenApart}
+use Rattle.frame.specs.Reply.{replyOf, bufferWith}
 use Rattle.registers.specs.Registers.{obeyedOf}
 use Rattle.registers.specs.Way.{denies}
 use Rattle.stack.specs.declared.View.{View}
@@ -113,13 +113,10 @@ obeyRowAt row asked =
 
 -- a frame that was refused as it stands is answered so; any other goes to its board
 abbrev pub takenAnswer : List Board → Taken → Reply
-takenAnswer row t = cond (isRefused t) (reply.Refused (whyOf t)) (replyOf t (obeyOutcomeAt row (requestOf t)))
+takenAnswer row t = cond (t .refused) (reply.Refused (t .why)) (replyOf t (obeyOutcomeAt row (t .request)))
 
 abbrev pub takenRow : List Board → Taken → List Board
-takenRow row t = cond (isRefused t) row (obeyRowAt row (requestOf t))
-
-abbrev pub takenBuffer : List Board → List ℕ → Taken → List ℕ
-takenBuffer row buffer t = cond (isRefused t) buffer (putOf buffer (replyOf t (obeyOutcomeAt row (requestOf t))))
+takenRow row t = cond (t .refused) row (obeyRowAt row (t .request))
 
 unfoldable pub frameAnswerIn : List Board → List ℕ → List ℕ → Reply
 frameAnswerIn row bytes buffer = takenAnswer row (takenApart bytes (length buffer))
@@ -128,7 +125,7 @@ unfoldable pub frameRowIn : List Board → List ℕ → List ℕ → List Board
 frameRowIn row bytes buffer = takenRow row (takenApart bytes (length buffer))
 
 unfoldable pub frameBufferIn : List Board → List ℕ → List ℕ → List ℕ
-frameBufferIn row bytes buffer = takenBuffer row buffer (takenApart bytes (length buffer))
+frameBufferIn row bytes buffer = bufferWith buffer (takenAnswer row (takenApart bytes (length buffer)))
 
 -- ---- a reading of a row that is not good
 abbrev pub noRowView : View

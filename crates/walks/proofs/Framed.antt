@@ -1,8 +1,8 @@
 -- The shape Framed: bytes are taken apart. Either that gives the answer, and a lent row and a lent reply stay, or what the bytes ask is done to the row, and the answer is put into the reply.
 -- Assumes nothing.
 --     fn g(row: &mut [T], bytes: &[E], reply: &mut [G]) -> O { let d = f1(bytes, reply.len()); if done(d) { return told(d); } let z = part(d); let y = f2(row, z); f3(reply, d, y) }
--- T is a declared struct of plain fields, E and G are what a slice can hold, and X, the type of d, Z, that of z, Y, that of y, and O are plain. f1 says what it makes of the bytes and the room, done, told and part are covered and say `r ≡ is-done d`, `r ≡ tells d` and `r ≡ part-of d`, f2 says its answer and the whole row at exit, f3 its answer and the whole reply at exit. g says the answer, the row and the reply.
---     Shape, Knows     what g is made of; what the contract says where the bytes are enough and where not, and what is to be known of the types
+-- T is a declared struct of plain fields, E and G are what a slice can hold, and X, the type of d, Z, that of z, Y, that of y, and O are plain. f1 says what it makes of the bytes and the room, done, told and part are covered and say `r ≡ is-done d`, `r ≡ tells d` and `r ≡ part-of d`, f2 says its answer and the whole row at exit, f3 its answer and the whole reply at exit, and requires what it needs of the reply. g says the answer, the row and the reply.
+--     Shape, Knows     what g is made of; what the contract says where the bytes are enough and where not, that the reply then is as f3 needs it, and what is to be known of the types
 --     function, form   g's MIR, and its form.        takes-apart, acts, puts     the forms of f1, f2 and f3.        meets     g's MIR fulfils that form wherever its callees fulfil theirs
 -- Nothing is opened: the row and the reply are handed on for good, each at its own lifetime and name. At the early return both are let go as they are.
 use mathlib.Core.Path.{_≡_, refl, _∙_}
@@ -18,6 +18,7 @@ use base.Logic.{SProp, ent}
 use base.Fml.{Lft, Share, flft}
 use prog.Wp.{Heap, Tables}
 use ghost.Atoms.{Atoms}
+use contract.Lifetimes.{Lfts}
 use types.Kit.{Given, atRet, ‵, ⋆, _$_, !, by, move}
 use types.Run.{of-opd, and-then, no-more, first, branches, skips, exec}
 use denote.RattleType.{RattleType}
@@ -30,7 +31,7 @@ use denote.Triple.Statement.{Triple}
 use Rattle.walks.proofs.Plain.{ty, PlainType, has, uint, boolean}
 use Rattle.walks.proofs.Walk.{cell, room}
 use Rattle.walks.proofs.Steps.{it, len-of, sets, steps, by-values, ref-to, slice-of, hands-to, fits-slice, var, len, fills, lands-in, hands-on, lie-at, ends-in, ends-within}
-use Rattle.walks.proofs.Form.{Form, code-of, value, shown, handed, Fulfils, met, calls, Post, exits, Walk, meets-form}
+use Rattle.walks.proofs.Form.{Form, code-of, value, shown, handed, Passed, Fulfils, met, met-if, calls, calls-if, Post, exits, Walk, meets-form}
 use Rattle.walks.proofs.Callee.{Answers, Changes, OfFrame, FrameTold, of-one, on-row, on-frame, calls-one}
 use Rattle.walks.proofs.Lent.{settles}
 
@@ -49,11 +50,12 @@ pub record Shape : Type 2 where
   pub part : Name
   pub f2 : Name
   pub f3 : Name
-  -- of the callees and of g: what is asked, whether that is enough and what it tells, the answers, and what is left in the row and in the reply
+  -- of the callees and of g: what is asked, whether that is enough and what it tells, what f3 needs, the answers, and what is left in the row and in the reply
   pub apart : List (E .Denot) → ℕ → X .Denot
   pub is-done : X .Denot → Bool
   pub tells : X .Denot → O .Denot
   pub part-of : X .Denot → Z .Denot
+  pub fit : List (G .Denot) → Type 0
   pub answer-at : Answers (T .D) (Z .Denot) (Y .Denot)
   pub row-at : Changes (T .D) (Z .Denot)
   pub put-answer : List (G .Denot) → X .Denot → Y .Denot → O .Denot
@@ -83,6 +85,9 @@ module _ (s : Shape) where
     says-of = λ κs a r e. (r ≡ s .put-answer (now (a .0)) (a .1 .0) (a .1 .1 .0)) × (now (e .0) ≡ s .put-out (now (a .0)) (a .1 .0) (a .1 .1 .0));
   }
 
+  abbrev pub fits : (κs : Lfts 1) → Passed κs (puts .params) → Type 0
+  fits κs a = s .fit (now (a .0))
+
   abbrev to-row : Code
   to-row = steps (call (s .part) (it 4 ∷ []) (place 5 []) ∷ []) (steps (hands-to R 1 9 10) (steps (call (s .f2) (it 10 ∷ it 5 ∷ []) (place 6 []) ∷ []) (steps (hands-to (s .G) 3 11 12) (steps (call (s .f3) (it 12 ∷ it 4 ∷ it 6 ∷ []) (place 0 []) ∷ []) return))))
 
@@ -100,6 +105,7 @@ pub record Knows {M : Type 1} (𝓤 : URA M) (H : Heap 𝓤) (A : Atoms 𝓤) (s
   pub enough : (ys : List (s .T .D)) (bs : List (s .E .Denot)) (rs : List (s .G .Denot)) (d : s .X .Denot) → d ≡ s .apart bs (length rs) → Holds (s .is-done d) → FrameTold (s .answer-of) (s .row-of) (s .reply-of) ys bs rs (s .tells d) ys rs
   pub goes-on : (ys : List (s .T .D)) (bs : List (s .E .Denot)) (rs : List (s .G .Denot)) (d : s .X .Denot) (y : s .Y .Denot) → d ≡ s .apart bs (length rs) → Holds (not (s .is-done d)) → y ≡ s .answer-at ys (s .part-of d)
       → FrameTold (s .answer-of) (s .row-of) (s .reply-of) ys bs rs (s .put-answer rs d y) (s .row-at ys (s .part-of d)) (s .put-out rs d y)
+  pub suited : (bs : List (s .E .Denot)) (rs : List (s .G .Denot)) (d : s .X .Denot) → d ≡ s .apart bs (length rs) → Holds (not (s .is-done d)) → s .fit rs
   pub plain-X : PlainType 𝓤 H A (s .X)
   pub plain-Z : PlainType 𝓤 H A (s .Z)
   pub plain-Y : PlainType 𝓤 H A (s .Y)
@@ -107,7 +113,7 @@ pub record Knows {M : Type 1} (𝓤 : URA M) (H : Heap 𝓤) (A : Atoms 𝓤) (s
 
 module _ {M : Type 1} (𝓤 : URA M) (H : Heap 𝓤) (A : Atoms 𝓤) (W : Given 𝓤 H A) (s : Shape) (k : Knows 𝓤 H A s) (𝓣 : Tables 𝓤 H) (known₁ : Triple 𝓤 (𝓣 .C (s .f1)) (met (takes-apart s) 𝓤 H A))
     (known-done : Triple 𝓤 (𝓣 .C (s .done-fn)) (met (of-one bool (s .X) (s .is-done)) 𝓤 H A)) (known-told : Triple 𝓤 (𝓣 .C (s .told-fn)) (met (of-one (s .O) (s .X) (s .tells)) 𝓤 H A)) (known-part : Triple 𝓤 (𝓣 .C (s .part)) (met (of-one (s .Z) (s .X) (s .part-of)) 𝓤 H A))
-    (known₂ : Triple 𝓤 (𝓣 .C (s .f2)) (met (acts s) 𝓤 H A)) (known₃ : Triple 𝓤 (𝓣 .C (s .f3)) (met (puts s) 𝓤 H A)) where
+    (known₂ : Triple 𝓤 (𝓣 .C (s .f2)) (met (acts s) 𝓤 H A)) (known₃ : Triple 𝓤 (𝓣 .C (s .f3)) (met-if (puts s) 𝓤 (fits s) H A)) where
   module _ (κ κ₁ κ₂ : Lft) (q q₁ q₂ : Share) (ys : RefT (List (s .T .D))) (bs : RefT (List (s .E .Denot))) (rs : RefT (List (s .G .Denot))) where
     abbrev Ends : Val → SProp 𝓤
     Ends = Post W (form s) tt (κ, (κ₁, (κ₂, tt))) (q, (q₁, (q₂, tt))) (ys, (bs, (rs, tt)))
@@ -135,7 +141,7 @@ module _ {M : Type 1} (𝓤 : URA M) (H : Heap 𝓤) (A : Atoms 𝓤) (W : Given
         calls W (acts s) (k .plain-Z, tt) (κ, tt) (q, tt) (ys, (s .part-of d, tt)) (k .plain-Y) 𝓣 known₂ (z-is, tt) ! (and-then ! (var ! 8 refl) (and-then ! (var ! 18 refl) (no-more !))) (λ y ws e₂ l y-is. lands-in ! 17 refl (has (k .plain-Y) y y-is) $
         -- [the row's token; the last row; the bytes' token; the reply's token; the reply; _12: 5; ..]
         hands-on ! 23 7 5 refl refl refl refl refl refl (tt, tt) (fits-slice (space₂ .0)) $ move ! (3 ∷ 4 ∷ []) $
-        calls W (puts s) (k .plain-X, (k .plain-Y, tt)) (κ₂, tt) (q₂, tt) (rs, (d, (y, tt))) (k .plain-O) 𝓣 known₃ (d-is, (y-is, tt)) ! (and-then ! (var ! 4 refl) (and-then ! (var ! 20 refl) (and-then ! (var ! 16 refl) (no-more !)))) (λ r us e₃ l₃ is. lands-in ! 29 refl (has (k .plain-O) r is) $
+        calls-if W (puts s) (k .plain-X, (k .plain-Y, tt)) (κ₂, tt) (q₂, tt) (rs, (d, (y, tt))) (k .plain-O) 𝓣 (fits s) known₃ (k .suited (now bs) (now rs) d e₁ so) (d-is, (y-is, tt)) ! (and-then ! (var ! 4 refl) (and-then ! (var ! 20 refl) (and-then ! (var ! 16 refl) (no-more !)))) (λ r us e₃ l₃ is. lands-in ! 29 refl (has (k .plain-O) r is) $
         -- [the reply's token; the last reply; the row's token; the last row; the bytes' token; _12: 5; ..; _0: 29]
         ends-in ! 29 refl (cell, (cell, (cell, (cell, (cell, (cell, (cell, (cell, (cell, (cell, (cell, (cell, (cell, tt))))))))))))) $ move ! (2 ∷ 4 ∷ 0 ∷ 3 ∷ 1 ∷ []) $
         by ! (let way = k .goes-on (now ys) (now bs) (now rs) d y e₁ so (e₂ .0) in done r (ws .0) (us .0) (e₃ .0 ∙ way .0, (e₂ .1 ∙ way .1 .0, e₃ .1 ∙ way .1 .1)) (l .0) (l₃ .0) is)))))))

@@ -24,7 +24,7 @@
 //
 // T is a declared struct of plain fields. X, N, K, S, Y, Z, B and O are plain: a number, a bool, a declared struct or enum of such, an array of such. E and G are what a
 // slice can hold, and where they fill a local array they are plain too. Names of locals, fields and functions are free; statements, their order and the order of
-// parameters are not. A function by value returns the record and the answer as a struct of these two, in this order. No callee has a `requires`. In a contract `row`
+// parameters are not. A function by value returns the record and the answer as a struct of these two, in this order. No callee has a `requires` but f3 of Framed. In a contract `row`
 // stands for now (row .entry) and `row'` for now (row .exit). The length of an array is a capital too: [E; K].
 //
 // Through         fn g(b: &mut T, x: X) -> O { let s = f(*b, x); *b = s.board; s.answer }
@@ -44,7 +44,7 @@
 //                                        while j < n { if hit(b, j) { found = at(i, j); break 'row; } j += 1; } i += 1; } found }
 //                 no: r ≡ none                  size: r ≡ size-of b      hit: r ≡ is-hit b j      at: r ≡ found i j        g: r ≡ A row
 // Framed          fn g(row: &mut [T], bytes: &[E], reply: &mut [G]) -> O { let d = f1(bytes, reply.len()); if done(d) { return told(d); } let z = part(d); let y = f2(row, z); f3(reply, d, y) }
-//                 f1: r ≡ P bytes room          done: r ≡ is-done d      told: r ≡ tells d   part: r ≡ part-of d   f2: (r ≡ A2 row z) × (row' ≡ R2 row z)   f3: (r ≡ A3 reply d y) × (reply' ≡ C3 reply d y)
+//                 f1: r ≡ P bytes room          done: r ≡ is-done d      told: r ≡ tells d   part: r ≡ part-of d   f2: (r ≡ A2 row z) × (row' ≡ R2 row z)   f3: (r ≡ A3 reply d y) × (reply' ≡ C3 reply d y), requires what it needs of reply
 //                 g: (r ≡ A row bytes reply) × ((row' ≡ R row bytes reply) × (reply' ≡ C row bytes reply))
 // LendsSlice      fn g(boards: [T; N], n: usize, cells: &[E]) -> Q { let mut row = boards; let answer = f(&mut row[..n], cells); Q { boards: row, answer: answer } }
 //                 requires n ≤ N                f: (r ≡ F row cells) × (row' ≡ R row cells)                 g: r ≡ A boards n cells

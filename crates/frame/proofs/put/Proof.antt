@@ -2,21 +2,15 @@
 -- Assumes nothing.
 use mathlib.Core.Path.{sym, _∙_}
 use native.Mathlib.Omega.{arith}
-use borrow.Author.Tests.{lt-ltb, le-ltb}
 use lib.ListN.{length-set}
 use mathlib.Core.List.{[], _∷_}
 use lib.Seq.{sets-eq}
-use Rattle.frame.specs.Reply.{putOf}
 use borrow.Author.Needs.{needs}
 use Rattle.frame.proofs.put.Statement.{statement}
 use Rattle.frame.proofs.put.Tie as tie
 
 reply-of-requires : tie.Need-reply-of-requires
 reply-of-requires c κs = search needs
-
-returns : tie.Need-returns
-unfolding putOf
-returns c = (c .before .reply-of .ensures, rw (lt-ltb _ _ (c .if1 .taken)))
 
 enum-known-reply : tie.Need-enum-known-reply
 enum-known-reply c = search needs
@@ -39,26 +33,23 @@ enum-told c = search needs
 same-length : tie.Need-same-length
 same-length c = search needs
 
-returns-2 : tie.Need-returns-2
-unfolding putOf
-returns-2 c =
-    let c2 = c .before .before .before in
+returns : tie.Need-returns
+returns c =
+    let c2 = c .before .before in
     let made = c2 .before .reply-of .ensures in
     let known = sym (c .before .reply .given .1) ∙ made in
-    (known, rw (← known, le-ltb _ _ (c2 .if1 .left)) (sets-eq (_ ∷ _ ∷ _ ∷ _ ∷ []) (c2 .before .before .before .args .buffer .now) 0 (c2 .if1 .left)))
+    (known, rw (← known) (sets-eq (_ ∷ _ ∷ _ ∷ _ ∷ []) (c2 .before .before .before .args .buffer .now) 0 (c2 .before .before .before .pre)))
 
-returns-3 : tie.Need-returns-3
-unfolding putOf
-returns-3 c =
-    let made = c .before .before .before .reply-of .ensures in
-    (made, rw (← made, c .enum-told .given .1, le-ltb _ _ (c .before .before .if1 .left)))
+returns-2 : tie.Need-returns-2
+returns-2 c =
+    let made = c .before .before .reply-of .ensures in
+    (made, rw (← made, c .enum-told .given .1))
 
 pub put-spec : {M : Type 1} → statement M
 put-spec =
     tie.close
     (tie.spec
     reply-of-requires
-    returns
     enum-known-reply
     slice-write-buffer
     slice-write-buffer-2
@@ -66,5 +57,5 @@ put-spec =
     slice-write-buffer-4
     enum-told
     same-length
-    returns-2
-    returns-3)
+    returns
+    returns-2)

@@ -1,7 +1,7 @@
 -- `stack::frame_in` meets its contract, by Framed.
 -- Assumes nothing.
-use Prim.Native.Nat.{ℕ}
-use mathlib.Core.Path.{_≡_, _∙_, ap}
+use Prim.Native.Nat.{ℕ, _≤_}
+use mathlib.Core.Path.{_≡_, _∙_, ap, sym}
 use mathlib.Core.Bool.{not}
 use mathlib.Core.List.{List}
 use lib.Dec.{T as Holds}
@@ -13,9 +13,10 @@ use Rattle.frame.specs.declared.Taken.{Taken}
 use Rattle.frame.specs.declared.Outcome.{Outcome}
 use Rattle.frame.specs.declared.Reply.{Reply}
 use Rattle.frame.specs.declared.Reply.the-variants.{Refused}
-use Rattle.frame.specs.Frame.{takenApart, isRefused, requestOf, whyOf}
-use Rattle.frame.specs.Reply.{replyOf, putOf}
-use Rattle.stack.specs.Way.{obeyOutcomeAt, obeyRowAt, takenAnswer, takenRow, takenBuffer, frameAnswerIn, frameRowIn, frameBufferIn}
+use Rattle.frame.specs.Frame.{takenApart}
+use Rattle.frame.proofs.Laws.{room-for}
+use Rattle.frame.specs.Reply.{replyOf, bufferWith}
+use Rattle.stack.specs.Way.{obeyOutcomeAt, obeyRowAt, takenAnswer, takenRow, frameAnswerIn, frameRowIn, frameBufferIn}
 use Rattle.board.proofs.Board as Boards
 use Rattle.frame.proofs.Taken as Takens
 use Rattle.frame.proofs.Request as Requests
@@ -62,13 +63,14 @@ shape =
       f2 = #obey-at;
       f3 = #put;
       apart = takenApart;
-      is-done = isRefused;
-      tells = λ t. Refused (whyOf t);
-      part-of = requestOf;
+      is-done = λ t. t .refused;
+      tells = λ t. Refused (t .why);
+      part-of = λ t. t .request;
+      fit = λ buffer. 4 ≤ length buffer;
       answer-at = obeyOutcomeAt;
       row-at = obeyRowAt;
       put-answer = λ buffer t o. replyOf t o;
-      put-out = λ buffer t o. putOf buffer (replyOf t o);
+      put-out = λ buffer t o. bufferWith buffer (replyOf t o);
       answer-of = frameAnswerIn;
       row-of = frameRowIn;
       reply-of = frameBufferIn;
@@ -76,33 +78,37 @@ shape =
 
 -- the answer, the row and the buffer by the frame taken apart
 abbrev By : List Board → List ℕ → Taken → Reply → List Board → List ℕ → Type 0
-By row buffer t answer after put = (answer ≡ takenAnswer row t) × ((after ≡ takenRow row t) × (put ≡ takenBuffer row buffer t))
+By row buffer t answer after put = (answer ≡ takenAnswer row t) × ((after ≡ takenRow row t) × (put ≡ bufferWith buffer (takenAnswer row t)))
 
-by-refusal : (row : List Board) (buffer : List ℕ) (t : Taken) → Holds (isRefused t) → By row buffer t (Refused (whyOf t)) row buffer
-by-refusal row buffer t h = (rw (is-true (isRefused t) h), (rw (is-true (isRefused t) h), rw (is-true (isRefused t) h)))
+by-refusal : (row : List Board) (buffer : List ℕ) (t : Taken) → Holds (t .refused) → By row buffer t (Refused (t .why)) row buffer
+by-refusal row buffer t h = (rw (is-true (t .refused) h), (rw (is-true (t .refused) h), rw (is-true (t .refused) h)))
 
-by-board : (row : List Board) (buffer : List ℕ) (t : Taken) → Holds (not (isRefused t)) → let answer = replyOf t (obeyOutcomeAt row (requestOf t)) in By row buffer t answer (obeyRowAt row (requestOf t)) (putOf buffer answer)
-by-board row buffer t h = (rw (is-false (isRefused t) h), (rw (is-false (isRefused t) h), rw (is-false (isRefused t) h)))
+by-board : (row : List Board) (buffer : List ℕ) (t : Taken) → Holds (not (t .refused)) → let answer = replyOf t (obeyOutcomeAt row (t .request)) in By row buffer t answer (obeyRowAt row (t .request)) (bufferWith buffer answer)
+by-board row buffer t h = (rw (is-false (t .refused) h), (rw (is-false (t .refused) h), rw (is-false (t .refused) h)))
 
 -- what the contract says where the frame was refused as it stands, and where not
 abbrev Says : List Board → List ℕ → List ℕ → Reply → List Board → List ℕ → Type 0
 Says row bytes buffer answer after put = (answer ≡ frameAnswerIn row bytes buffer) × ((after ≡ frameRowIn row bytes buffer) × (put ≡ frameBufferIn row bytes buffer))
 
-enough : (row : List Board) (bytes buffer : List ℕ) (t : Taken) → t ≡ takenApart bytes (length buffer) → Holds (isRefused t) → Says row bytes buffer (Refused (whyOf t)) row buffer
+said : (row : List Board) (bytes buffer : List ℕ) (t : Taken) (answer : Reply) (after : List Board) (put : List ℕ) → t ≡ takenApart bytes (length buffer) → By row buffer t answer after put → Says row bytes buffer answer after put
 unfolding frameAnswerIn frameRowIn frameBufferIn
-enough row bytes buffer t e h =
-    let w = by-refusal row buffer t h in
-    (w .0 ∙ ap (takenAnswer row) e, (w .1 .0 ∙ ap (takenRow row) e, w .1 .1 ∙ ap (takenBuffer row buffer) e))
+said row bytes buffer t answer after put e w = (w .0 ∙ ap (takenAnswer row) e, (w .1 .0 ∙ ap (takenRow row) e, w .1 .1 ∙ ap (λ (u : Taken). bufferWith buffer (takenAnswer row u)) e))
 
-goes-on : (row : List Board) (bytes buffer : List ℕ) (t : Taken) (o : Outcome) → t ≡ takenApart bytes (length buffer) → Holds (not (isRefused t)) → o ≡ obeyOutcomeAt row (requestOf t) → Says row bytes buffer (replyOf t o) (obeyRowAt row (requestOf t)) (putOf buffer (replyOf t o))
-unfolding frameAnswerIn frameRowIn frameBufferIn
+enough : (row : List Board) (bytes buffer : List ℕ) (t : Taken) → t ≡ takenApart bytes (length buffer) → Holds (t .refused) → Says row bytes buffer (Refused (t .why)) row buffer
+enough row bytes buffer t e h = said row bytes buffer t _ _ _ e (by-refusal row buffer t h)
+
+goes-on : (row : List Board) (bytes buffer : List ℕ) (t : Taken) (o : Outcome) → t ≡ takenApart bytes (length buffer) → Holds (not (t .refused)) → o ≡ obeyOutcomeAt row (t .request) → Says row bytes buffer (replyOf t o) (obeyRowAt row (t .request)) (bufferWith buffer (replyOf t o))
 goes-on row bytes buffer t o e h f =
     let w = by-board row buffer t h in
     let same = ap (replyOf t) f in
-    (same ∙ w .0 ∙ ap (takenAnswer row) e, (w .1 .0 ∙ ap (takenRow row) e, ap (putOf buffer) same ∙ w .1 .1 ∙ ap (takenBuffer row buffer) e))
+    said row bytes buffer t _ _ _ e (same ∙ w .0, (w .1 .0, ap (bufferWith buffer) same ∙ w .1 .1))
+
+-- and then there is room for the reply
+suited : (bytes buffer : List ℕ) (t : Taken) → t ≡ takenApart bytes (length buffer) → Holds (not (t .refused)) → 4 ≤ length buffer
+suited bytes buffer t e h = room-for bytes (length buffer) (ap (λ (u : Taken). u .refused) (sym e) ∙ is-false (t .refused) h)
 
 abbrev knows : {M : Type 1} (𝓤 : URA M) (H : Heap 𝓤) (A : Atoms 𝓤) (W : Given 𝓤 H A) → Knows 𝓤 H A shape
-knows 𝓤 H A W = record { enough = enough; goes-on = goes-on; plain-X = known.taken 𝓤 H A W; plain-Z = known.request 𝓤 H A W; plain-Y = known.outcome 𝓤 H A W; plain-O = known.reply 𝓤 H A W }
+knows 𝓤 H A W = record { enough = enough; goes-on = goes-on; suited = suited; plain-X = known.taken 𝓤 H A W; plain-Z = known.request 𝓤 H A W; plain-Y = known.outcome 𝓤 H A W; plain-O = known.reply 𝓤 H A W }
 
 pub frame-in-spec : {M : Type 1} → stated.statement M
 unfolding code.routine tablesOf
