@@ -1,0 +1,84 @@
+//! What each line does: the desk lends its stack, and for a frame its reply buffer, to the library, and keeps what comes.
+use crate::lines::Line;
+use adomvik::{Board, Reading, Refusal, Sampled, BOARDS_MAX, FRAME_BYTES, RECORD_BYTES};
+
+/// The most bytes that are really lent for a reply. It takes the first four, so that more make no difference.
+const MOST_LENT: usize = 65_536;
+
+/// What an accepted line is answered with.
+pub enum Answer {
+    Opened,
+    Sampled(Sampled),
+    Replied([u8; FRAME_BYTES]),
+    Read(Reading),
+}
+
+/// The desk: places for sixteen records, of which the stack has the first few, and a reply buffer.
+pub struct Desk {
+    boards: [Board; BOARDS_MAX],
+    opened: usize,
+    counts: [u32; BOARDS_MAX],
+    reply: Vec<u8>,
+}
+
+impl Desk {
+    /// Before the first good opening the stack is a row of no boards, which the library refuses by itself.
+    pub fn new() -> Desk {
+        let none = Board::from_bytes(&[0; RECORD_BYTES]);
+        Desk { boards: [none; BOARDS_MAX], opened: 0, counts: [0; BOARDS_MAX], reply: vec![0; MOST_LENT] }
+    }
+
+    /// Does what a line asks. A refused line has changed nothing.
+    pub fn act(&mut self, line: &Line) -> Result<Answer, Refusal> {
+        match line {
+            Line::Opening { counts } => self.open(counts),
+            Line::Sample { board, readings, cells } => {
+                adomvik::sample(self.row(), *board, *readings, cells).map(Answer::Sampled)
+            }
+            Line::Frame { bytes, room } => self.frame(bytes, *room),
+            Line::Reading => adomvik::read(self.row()).map(Answer::Read),
+        }
+    }
+
+    /// The records of the stack that is open.
+    fn row(&mut self) -> &mut [Board] {
+        self.boards.get_mut(..self.opened).unwrap_or_default()
+    }
+
+    /// As many places are lent as boards are asked for, or all where they are not enough.
+    fn open(&mut self, counts: &[u32]) -> Result<Answer, Refusal> {
+        let boards = counts.len().min(BOARDS_MAX);
+        adomvik::open(self.boards.get_mut(..boards).unwrap_or_default(), counts)?;
+        self.opened = boards;
+        for (kept, count) in self.counts.iter_mut().zip(counts) {
+            *kept = *count;
+        }
+        Ok(Answer::Opened)
+    }
+
+    fn frame(&mut self, bytes: &[u8], room: usize) -> Result<Answer, Refusal> {
+        let row = self.boards.get_mut(..self.opened).unwrap_or_default();
+        let lent = self.reply.get_mut(..room.min(MOST_LENT)).unwrap_or_default();
+        adomvik::frame(row, bytes, lent)?;
+        let mut reply = [0; FRAME_BYTES];
+        for (byte, given) in reply.iter_mut().zip(lent) {
+            *byte = *given;
+        }
+        Ok(Answer::Replied(reply))
+    }
+
+    /// The cell counts of the stack that is open.
+    pub fn counts(&self) -> &[u32] {
+        self.counts.get(..self.opened).unwrap_or_default()
+    }
+
+    /// The check byte that the library takes for a frame's first three bytes, tried on a copy of the stack.
+    pub fn right_check(&self, address: u8, register: u8, value: u8) -> Option<u8> {
+        (0..=u8::MAX).find(|check| {
+            let mut boards = self.boards;
+            let row = boards.get_mut(..self.opened).unwrap_or_default();
+            let mut reply = [0; FRAME_BYTES];
+            adomvik::frame(row, &[address, register, value, *check], &mut reply) != Err(Refusal::CheckByte)
+        })
+    }
+}

@@ -1,0 +1,54 @@
+//! The mechanic's desk: lines from standard input, their answers on standard output. `./workshop` starts it.
+#![forbid(unsafe_code)]
+
+mod acts;
+mod lines;
+mod print;
+mod session;
+mod words;
+
+use print::Text;
+use session::{Reader, Session};
+use std::env;
+use std::io::{self, Read, Write};
+
+/// The bytes that are read at once.
+const BLOCK: usize = 65_536;
+
+/// Gives out what was said so far.
+fn give(out: &mut impl Write, text: &mut Text) -> io::Result<()> {
+    out.write_all(text)?;
+    text.clear();
+    out.flush()
+}
+
+/// Answers before it reads on, so that whoever waits for an answer gets it.
+fn run(reader: Reader) -> io::Result<()> {
+    let (mut input, mut out) = (io::stdin().lock(), io::stdout().lock());
+    let mut session = Session::new(reader);
+    let (mut block, mut text) = (vec![0; BLOCK], Text::new());
+    let prompt = if reader == Reader::Person { words::PROMPT } else { "" };
+    if reader == Reader::Person {
+        print::words(&mut text, words::GREETING);
+    }
+    loop {
+        print::words(&mut text, prompt);
+        give(&mut out, &mut text)?;
+        match input.read(&mut block) {
+            Ok(0) => break,
+            Ok(taken) => session.feed(block.get(..taken).unwrap_or_default(), &mut text),
+            Err(why) if why.kind() == io::ErrorKind::Interrupted => {}
+            Err(_) => break,
+        }
+    }
+    session.finish(&mut text);
+    give(&mut out, &mut text)
+}
+
+/// `--desk` says that a person sits at a terminal. Where nobody hears any more, it ends.
+fn main() {
+    let reader = if env::args_os().any(|word| word == "--desk") { Reader::Person } else { Reader::Program };
+    if run(reader).is_err() {
+        std::process::exit(1);
+    }
+}
