@@ -3,11 +3,14 @@
 //! A form that a request brings is added in two places here: its case in [`Line`], and its letter in [`take_apart`]. The
 //! compiler then names what else has to speak of it.
 use adomvik::{Readings, FRAME_BYTES};
+use std::io::BufRead;
 
 /// The most bytes of a line, its newline not counted.
 pub const LONGEST_LINE: usize = 300_000;
 /// The largest number, sign aside.
 pub const LARGEST: u32 = 2_147_483_647;
+/// A number that may be small enough has no more digits.
+const MOST_DIGITS: usize = 10;
 /// No line has more fields: each takes a space and a byte.
 const MOST_FIELDS: usize = LONGEST_LINE / 2;
 
@@ -61,8 +64,8 @@ pub fn take_apart<'a>(line: &[u8], lent: &'a mut Lent) -> Result<Line<'a>, Flaw>
     if line.len() > LONGEST_LINE {
         return Err(Flaw { what: What::TooLong, at: LONGEST_LINE });
     }
-    let mut fields = Fields { left: line };
-    asked(&mut fields, lent).map_err(|what| Flaw { what, at: line.len() - fields.left.len() })
+    let mut fields = Fields { line, at: 0 };
+    asked(&mut fields, lent).map_err(|what| Flaw { what, at: fields.at })
 }
 
 fn asked<'a>(fields: &mut Fields, lent: &'a mut Lent) -> Result<Line<'a>, What> {
@@ -76,50 +79,60 @@ fn asked<'a>(fields: &mut Fields, lent: &'a mut Lent) -> Result<Line<'a>, What> 
     }
 }
 
-/// What is left of a line: each field has its space in front.
+/// A line and how far it is read: each field has its space in front.
 struct Fields<'l> {
-    left: &'l [u8],
+    line: &'l [u8],
+    at: usize,
 }
 
 impl Fields<'_> {
+    fn next(&self) -> Option<u8> {
+        self.line.get(self.at).copied()
+    }
+
+    /// Reads on past a byte, if it is the next one.
+    fn passes(&mut self, byte: u8) -> bool {
+        let passed = self.next() == Some(byte);
+        self.at += usize::from(passed);
+        passed
+    }
+
     fn letter(&mut self) -> Result<u8, What> {
-        match self.left {
-            [letter @ b'A'..=b'Z', left @ ..] => {
-                self.left = left;
-                Ok(*letter)
-            }
-            [] => Err(What::Empty),
-            _ => Err(What::NoLetter),
-        }
+        let letter = self.next().ok_or(What::Empty)?;
+        self.at += 1;
+        Ok(letter)
     }
 
     fn space(&mut self) -> Result<(), What> {
-        match self.left {
-            [b' ', left @ ..] => {
-                self.left = left;
+        match self.next() {
+            Some(b' ') => {
+                self.at += 1;
                 Ok(())
             }
-            [] => Err(What::NoField),
+            None => Err(What::NoField),
             _ => Err(What::NoSpace),
         }
     }
 
-    /// The digits of a number, as many as there are.
-    #[inline]
+    /// The digits of a number, as many as there are. Those of a number that is far too large may wrap round: it is refused by
+    /// how many they are.
     fn digits(&mut self) -> Result<u32, What> {
-        match self.left {
-            [b'0', b'0'..=b'9', ..] => return Err(What::LeadingZero),
-            [b'0'..=b'9', ..] => {}
-            _ => return Err(What::NoNumber),
+        let (mut at, mut number) = (self.at, 0_u64);
+        while let Some(digit @ b'0'..=b'9') = self.line.get(at) {
+            number = number.wrapping_mul(10).wrapping_add((digit - b'0').into());
+            at += 1;
         }
-        let mut number = 0;
-        while let [digit @ b'0'..=b'9', left @ ..] = self.left {
-            number = 10 * number + u64::from(digit - b'0');
-            if number > u64::from(LARGEST) {
-                return Err(What::TooLarge);
-            }
-            self.left = left;
+        let digits = at - self.at;
+        if digits == 0 {
+            return Err(What::NoNumber);
         }
+        if digits > 1 && self.next() == Some(b'0') {
+            return Err(What::LeadingZero);
+        }
+        if digits > MOST_DIGITS || number > LARGEST.into() {
+            return Err(What::TooLarge);
+        }
+        self.at = at;
         Ok(number as u32)
     }
 
@@ -132,13 +145,12 @@ impl Fields<'_> {
     /// The one number that may have a minus sign.
     fn shunt(&mut self) -> Result<i32, What> {
         self.space()?;
-        match self.left {
-            [b'-', b'0', ..] => Err(What::MinusZero),
-            [b'-', left @ ..] => {
-                self.left = left;
-                Ok(-(self.digits()? as i32))
-            }
-            _ => Ok(self.digits()? as i32),
+        if !self.passes(b'-') {
+            return Ok(self.digits()? as i32);
+        }
+        match self.digits()? {
+            0 => Err(What::MinusZero),
+            number => Ok(-(number as i32)),
         }
     }
 
@@ -149,26 +161,23 @@ impl Fields<'_> {
     /// A board of `X`: the letter of its kind and its numbers.
     fn board(&mut self) -> Result<u32, What> {
         self.space()?;
-        match self.left {
-            [b's', left @ ..] => {
-                self.left = left;
-                self.digits()
-            }
-            _ => Err(What::NoBoard),
+        if self.passes(b's') {
+            self.digits()
+        } else {
+            Err(What::NoBoard)
         }
     }
 
     /// The bytes that are lent for a frame's reply.
     fn room(&mut self) -> Result<usize, What> {
-        match self.left {
-            [b'@', left @ ..] => {
-                self.left = left;
-                Ok(self.digits()? as usize)
-            }
-            _ => Ok(FRAME_BYTES),
+        if self.passes(b'@') {
+            Ok(self.digits()? as usize)
+        } else {
+            Ok(FRAME_BYTES)
         }
     }
 
+    #[inline(never)]
     fn sample<'a>(&mut self, lent: &'a mut Vec<u32>) -> Result<Line<'a>, What> {
         let board = self.number()?;
         let elapsed = self.number()?;
@@ -180,24 +189,23 @@ impl Fields<'_> {
     }
 
     /// Fields of one form, to the end of the line.
-    #[inline]
     fn list<'a, T>(
         &mut self,
         lent: &'a mut Vec<T>,
         one: impl Fn(&mut Self) -> Result<T, What>,
     ) -> Result<&'a [T], What> {
         lent.clear();
-        while !self.left.is_empty() {
+        while self.at < self.line.len() {
             lent.push(one(self)?);
         }
         Ok(lent)
     }
 
     fn nothing_more<T>(&self, asked: T) -> Result<T, What> {
-        if self.left.is_empty() {
-            Ok(asked)
-        } else {
+        if self.at < self.line.len() {
             Err(What::NoSpace)
+        } else {
+            Ok(asked)
         }
     }
 }
@@ -214,20 +222,15 @@ impl Cutter {
     }
 
     /// Hands on each line that ends in this block, without its newline.
-    pub fn feed(&mut self, block: &[u8], mut each: impl FnMut(&[u8])) {
-        let mut pieces = block.split(|byte| *byte == b'\n');
-        let mut piece = pieces.next().unwrap_or_default();
-        for next in pieces {
-            if self.kept.is_empty() {
-                each(piece);
-            } else {
-                self.keep(piece);
-                each(&self.kept);
+    pub fn feed(&mut self, mut block: &[u8], mut each: impl FnMut(&[u8])) {
+        // to read from memory never fails
+        while block.read_until(b'\n', &mut self.kept).unwrap_or(0) > 0 {
+            if let Some((b'\n', line)) = self.kept.split_last() {
+                each(line);
                 self.kept.clear();
             }
-            piece = next;
         }
-        self.keep(piece);
+        self.kept.truncate(LONGEST_LINE + 1);
     }
 
     /// Hands on a last line that lacks its newline; nothing follows the last newline.
@@ -236,10 +239,5 @@ impl Cutter {
             each(&self.kept);
             self.kept.clear();
         }
-    }
-
-    fn keep(&mut self, piece: &[u8]) {
-        let room = (LONGEST_LINE + 1).saturating_sub(self.kept.len());
-        self.kept.extend(piece.iter().take(room));
     }
 }

@@ -53,17 +53,16 @@ fn field(text: &mut Text, n: u32) {
     number(text, n);
 }
 
-/// In decimal: the digits come from the last to the first, and are turned round where they stand.
-fn number(text: &mut Text, mut n: u32) {
-    let from = text.len();
-    loop {
-        text.push(b'0' + (n % 10) as u8);
-        n /= 10;
-        if n == 0 {
+/// In decimal; ten digits are enough for any number here.
+fn number(text: &mut Text, n: u32) {
+    let (mut digits, mut left, mut count) = ([0; 10], n, 0);
+    for digit in digits.iter_mut().rev() {
+        *digit = b'0' + (left % 10) as u8;
+        left /= 10;
+        count += 1;
+        if left == 0 {
             break;
         }
     }
-    if let Some(digits) = text.get_mut(from..) {
-        digits.reverse();
-    }
+    text.extend_from_slice(digits.get(digits.len() - count..).unwrap_or_default());
 }
