@@ -58,6 +58,8 @@ class Aim:
 class Maker:
     """Makes the lines of one session."""
 
+    answerer = Bench        # whose lines they are
+
     def __init__(self, seed):
         self.rng = random.Random(seed)
         self.lines = []
@@ -594,7 +596,7 @@ class Maker:
 
     def put_unless_opening(self, line):
         """Add a changed line; one that opens a stack would spoil the picture."""
-        if b"ok" not in Bench().answers(line):
+        if b"ok" not in self.answerer().answers(line):
             self.put(line)
 
     def damage(self, line):
@@ -743,9 +745,9 @@ class Maker:
             b"", b"\n", b"\n\n\n", b"R", b"O 5", b"\0", long_line, long_line + b"\nO 5\nR")
 
 
-def make_session(seed):
-    """The session of that seed."""
-    maker = Maker(seed)
+def make_session(seed, lines=Maker):
+    """The session of that seed, in the lines of one program."""
+    maker = lines(seed)
     kind = maker.rng.choices(("opened", "bare", "joined", "cut"), (78, 6, 8, 8))[0]
     if kind in ("bare", "joined"):
         maker.bare()
