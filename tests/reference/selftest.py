@@ -55,9 +55,9 @@ def check_replay(name, bench):
             expect(f"{name}, {key} gone over afresh", fresh[key], kept[key])
 
 
-def session(name, text, **cells):
+def session(name, text, program=Bench, **cells):
     """Run one session and compare it line by line."""
-    bench = Bench()
+    bench = program()
     for row in text.strip().splitlines():
         row = row.strip().format(**cells)
         times, colon, rest = row.partition(": ")
