@@ -5,7 +5,7 @@
 #                              FLAGS='-O2 -mcpu=cortex-m7' are clang's words beside those of the target, and win
 # And for whoever works on it, each over a script that can be called by itself:
 #     make check               proves every crate, runs the programs
-#     make test                the reference's own tests, the bench against it, and the two below
+#     make test                the references' own tests, the bench and the workshop against them, and the three below
 #     make faces               the C and Rust faces against the reference
 #     make ports               the library on every processor, on emulators
 #     make refused             the wrong programs that the gate leaves out; CRATES='cells board' only theirs and of crates below
@@ -47,6 +47,7 @@ check:
 
 test: faces ports
 	python3 tests/reference/selftest.py && tests/stored && tests/differential 3000
+	python3 tests/reference/selftest_workshop.py && tests/workshop && tests/differential --workshop 2000
 
 faces:
 	tests/faces 400

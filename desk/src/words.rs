@@ -20,11 +20,11 @@ fn said(text: &mut Text, why: &str) {
 
 /// Why a line is malformed.
 pub fn flaw(text: &mut Text, line: &[u8], flaw: &Flaw) {
-    let (place, found) = (flaw.at + 1, found(line, flaw.at));
+    let (place, found) = (flaw.at + 1, byte_at(line, flaw.at));
     let why = match flaw.what {
         What::TooLong => format!("a line has at most {LONGEST_LINE} bytes"),
         What::Empty => "an empty line asks nothing; try help".to_string(),
-        What::NoLetter => format!("no line begins with {found}; try help"),
+        What::NoLetter => format!("no line begins with {}; try help", byte_at(line, 0)),
         What::NoField => format!("a field is missing: the line ends at byte {}", flaw.at),
         What::NoSpace => format!("{found} at byte {place}, where one space or the end should be"),
         What::NoNumber => format!("{found} at byte {place}, where a number should be"),
@@ -38,7 +38,7 @@ pub fn flaw(text: &mut Text, line: &[u8], flaw: &Flaw) {
 }
 
 /// A byte of a line, as a person would name it.
-fn found(line: &[u8], at: usize) -> String {
+fn byte_at(line: &[u8], at: usize) -> String {
     match line.get(at) {
         None => "the end".to_string(),
         Some(b' ') => "a space".to_string(),
