@@ -1,0 +1,46 @@
+"""Stored sessions of the workshop, tests/desk/NAME.txt.
+
+`>` stands before a line and `<` before its answer, as the page has them. In a
+line `\\xff` stands for a byte, and `{TEXT*N}` for N times a text; `>.` is a
+last line without its newline; `#` is a remark.
+"""
+
+import os
+import re
+
+from workshop import Workshop
+
+SESSIONS = os.path.join(os.path.dirname(os.path.dirname(os.path.abspath(__file__))), "desk")
+
+
+def line_of(text):
+    """The bytes of a stored line."""
+    text = re.sub(r"\{([^{}]*)\*(\d+)\}", lambda found: found[1] * int(found[2]), text)
+    text = re.sub(r"\\x([0-9a-f]{2})", lambda found: chr(int(found[1], 16)), text)
+    return text.encode("latin-1")
+
+
+class Stored:
+    """A stored session: what is sent, what should come, and its text with the reference's answers."""
+
+    def __init__(self, name):
+        self.path = os.path.join(SESSIONS, name)
+        with open(self.path, encoding="ascii") as file:
+            self.text = file.read()
+        self.sent, self.wanted, fresh, reference = b"", [], [], Workshop()
+        for row in self.text.splitlines():
+            mark, _, text = row.partition(" ")
+            if mark == "<":
+                self.wanted.append(text.encode())
+                continue
+            fresh.append(row)
+            if mark in (">", ">."):
+                line = line_of(text)
+                self.sent += line + (b"\n" if mark == ">" else b"")
+                fresh.extend("< " + answer for answer in reference.answer(line).decode().split("\n"))
+        self.fresh = "\n".join(fresh) + "\n"
+
+
+def stored_sessions():
+    """All of them, by name."""
+    return {name: Stored(name) for name in sorted(os.listdir(SESSIONS))}
