@@ -8,6 +8,7 @@
 #     make test                the references' own tests, the bench and the workshop against them, and the three below
 #     make faces               the C and Rust faces against the reference
 #     make ports               the library on every processor, on emulators
+#     make fuzz                about a minute of fuzzing, the C face and the workshop's lines
 #     make refused             the wrong programs that the gate leaves out; CRATES='cells board' only theirs and of crates below
 #     make perf                the benchmarks
 #     make gate                what has to pass before anything lands
@@ -20,7 +21,7 @@ VERSION := 1.0.0
 INTO := $(DESTDIR)$(PREFIX)
 BUILT := target/ports/$(TARGET)
 
-.PHONY: all install uninstall check test faces ports refused perf gate
+.PHONY: all install uninstall check test faces ports fuzz refused perf gate
 
 # rt itself knows what has changed since it last proved a crate
 all:
@@ -45,7 +46,7 @@ uninstall:
 check:
 	rt check
 
-test: faces ports
+test: faces ports fuzz
 	python3 tests/reference/selftest.py && tests/stored && tests/differential 3000
 	python3 tests/reference/selftest_workshop.py && tests/workshop && tests/differential --workshop 2000
 
@@ -54,6 +55,9 @@ faces:
 
 ports:
 	tests/ports 120
+
+fuzz:
+	tests/fuzz/run face 45 && tests/fuzz/run lines 15
 
 refused:
 	tests/refused $(CRATES)
