@@ -3,12 +3,13 @@
 //! A form that a request brings is added in two places here: its case in [`Line`], and its letter in [`take_apart`]. The
 //! compiler then names what else has to speak of it.
 use adomvik::{Readings, FRAME_BYTES};
-use std::io::BufRead;
 
 /// The most bytes of a line, its newline not counted.
 pub const LONGEST_LINE: usize = 300_000;
 /// The largest number, sign aside.
 pub const LARGEST: u32 = 2_147_483_647;
+/// The bytes that are searched for a newline at once.
+const STRETCH: usize = 32;
 /// A number that may be small enough has no more digits.
 const MOST_DIGITS: usize = 10;
 /// No line has more fields: each takes a space and a byte.
@@ -49,13 +50,13 @@ pub enum What {
 
 /// Memory for the lists of one line after another, lent once: it has room for the longest line.
 pub struct Lent {
-    numbers: Vec<u32>,
-    bytes: Vec<u8>,
+    numbers: Box<[u32]>,
+    bytes: Box<[u8]>,
 }
 
 impl Lent {
     pub fn new() -> Lent {
-        Lent { numbers: Vec::with_capacity(MOST_FIELDS), bytes: Vec::with_capacity(MOST_FIELDS) }
+        Lent { numbers: vec![0; MOST_FIELDS].into(), bytes: vec![0; MOST_FIELDS].into() }
     }
 }
 
@@ -178,7 +179,7 @@ impl Fields<'_> {
     }
 
     #[inline(never)]
-    fn sample<'a>(&mut self, lent: &'a mut Vec<u32>) -> Result<Line<'a>, What> {
+    fn sample<'a>(&mut self, lent: &'a mut [u32]) -> Result<Line<'a>, What> {
         let board = self.number()?;
         let elapsed = self.number()?;
         let load = self.number()?;
@@ -189,16 +190,16 @@ impl Fields<'_> {
     }
 
     /// Fields of one form, to the end of the line.
-    fn list<'a, T>(
-        &mut self,
-        lent: &'a mut Vec<T>,
-        one: impl Fn(&mut Self) -> Result<T, What>,
-    ) -> Result<&'a [T], What> {
-        lent.clear();
-        while self.at < self.line.len() {
-            lent.push(one(self)?);
+    fn list<'a, T>(&mut self, lent: &'a mut [T], one: impl Fn(&mut Self) -> Result<T, What>) -> Result<&'a [T], What> {
+        let mut count = 0;
+        for place in lent.iter_mut() {
+            if self.at == self.line.len() {
+                break;
+            }
+            *place = one(self)?;
+            count += 1;
         }
-        Ok(lent)
+        self.nothing_more(lent.get(..count).unwrap_or_default())
     }
 
     fn nothing_more<T>(&self, asked: T) -> Result<T, What> {
@@ -223,14 +224,17 @@ impl Cutter {
 
     /// Hands on each line that ends in this block, without its newline.
     pub fn feed(&mut self, mut block: &[u8], mut each: impl FnMut(&[u8])) {
-        // to read from memory never fails
-        while block.read_until(b'\n', &mut self.kept).unwrap_or(0) > 0 {
-            if let Some((b'\n', line)) = self.kept.split_last() {
+        while let Some((line, behind)) = first_line(block) {
+            if self.kept.is_empty() {
                 each(line);
+            } else {
+                self.keep(line);
+                each(&self.kept);
                 self.kept.clear();
             }
+            block = behind;
         }
-        self.kept.truncate(LONGEST_LINE + 1);
+        self.keep(block);
     }
 
     /// Hands on a last line that lacks its newline; nothing follows the last newline.
@@ -240,4 +244,18 @@ impl Cutter {
             self.kept.clear();
         }
     }
+
+    fn keep(&mut self, piece: &[u8]) {
+        let room = (LONGEST_LINE + 1).saturating_sub(self.kept.len());
+        self.kept.extend_from_slice(piece.get(..room).unwrap_or(piece));
+    }
+}
+
+/// The first line of a block and what is behind its newline. Whether a stretch has one is asked of all its bytes at once, which
+/// the compiler makes a few instructions of.
+fn first_line(block: &[u8]) -> Option<(&[u8], &[u8])> {
+    let has_newline = |stretch: &[u8]| stretch.iter().fold(false, |found, byte| found | (*byte == b'\n'));
+    let from = STRETCH * block.chunks_exact(STRETCH).take_while(|stretch| !has_newline(stretch)).count();
+    let at = from + block.get(from..)?.iter().position(|byte| *byte == b'\n')?;
+    Some((block.get(..at)?, block.get(at + 1..)?))
 }
