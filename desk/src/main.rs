@@ -27,10 +27,11 @@ fn run(reader: Reader) -> io::Result<()> {
     let (mut input, mut out) = (io::stdin().lock(), io::stdout().lock());
     let mut session = Session::new(reader);
     let (mut block, mut text) = (vec![0; BLOCK], Text::new());
-    let prompt = if reader == Reader::Person { words::PROMPT } else { "" };
-    if reader == Reader::Person {
-        print::words(&mut text, words::GREETING);
-    }
+    let (greeting, prompt, farewell) = match reader {
+        Reader::Person => (words::GREETING, words::PROMPT, "\n"),
+        Reader::Program => ("", "", ""),
+    };
+    print::words(&mut text, greeting);
     loop {
         print::words(&mut text, prompt);
         give(&mut out, &mut text)?;
@@ -42,6 +43,7 @@ fn run(reader: Reader) -> io::Result<()> {
         }
     }
     session.finish(&mut text);
+    print::words(&mut text, farewell);
     give(&mut out, &mut text)
 }
 

@@ -49,61 +49,51 @@ fn byte_at(line: &[u8], at: usize) -> String {
 
 /// Why the library refused what a line asked.
 pub fn refusal(text: &mut Text, refused: Refusal, line: &Line, desk: &Desk) {
-    let why = match refused {
-        Refusal::BadRow => bad_row(line),
-        Refusal::NoBoard => format!("no such board: the stack has {}", desk.counts().len()),
-        Refusal::CellList => format!("the cell list has another length: {}", cell_list(line, desk)),
-        Refusal::Elapsed => "the elapsed time is out of range: 1 to 100000 us".to_string(),
-        Refusal::OutOfRange => format!("a reading is out of range: {}", out_of_range(line)),
-        Refusal::FrameLength => format!("a frame has {FRAME_BYTES} bytes: {} are given", bytes(line).len()),
-        Refusal::ReplyRoom => format!("no room for the reply: it takes {FRAME_BYTES} bytes"),
-        Refusal::CheckByte => format!("the check byte is wrong: {}", check_byte(line, desk)),
-        Refusal::NoRegister => format!("no such register: {}", access(line)),
-        Refusal::BadValue => format!("the value is not allowed: {}", access(line)),
-        Refusal::NoCycle => "no programming cycle is left: three are spent, and the staged settings differ".to_string(),
+    let why = match line {
+        Line::Opening { counts } => opening(counts),
+        Line::Sample { board, readings, cells } => sample(refused, *board, readings, cells, desk),
+        Line::Frame { bytes, room } => frame(refused, bytes, *room, desk),
+        Line::Reading => not_open(),
     };
     said(text, &why);
 }
 
-fn bad_row(line: &Line) -> String {
-    match line {
-        Line::Opening { counts } if counts.is_empty() || counts.len() > BOARDS_MAX => {
-            format!("no such stack: it would have {} boards, and 1 to {BOARDS_MAX} can be opened", counts.len())
+fn not_open() -> String {
+    "no stack is open: O 5 opens one".to_string()
+}
+
+fn opening(counts: &[u32]) -> String {
+    match (1..).zip(counts).find(|(_, count)| !(5..=10).contains(*count)) {
+        Some((board, count)) if counts.len() <= BOARDS_MAX => {
+            format!("no such stack: board {board} would have {count} cells, and can have 5 to 10")
         }
-        Line::Opening { counts } => match (1..).zip(*counts).find(|(_, count)| !(5..=10).contains(*count)) {
-            Some((board, count)) => {
-                format!("no such stack: board {board} would have {count} cells, and 5 to 10 it can have")
-            }
-            None => "no such stack".to_string(),
-        },
-        _ => "no stack is open: O 5 opens one".to_string(),
+        _ => format!("no such stack: it would have {} boards, and can have 1 to {BOARDS_MAX}", counts.len()),
     }
 }
 
-fn cell_list(line: &Line, desk: &Desk) -> String {
-    match line {
-        Line::Sample { board, cells, .. } => match (1..).zip(desk.counts()).find(|(number, _)| number == board) {
-            Some((_, count)) => format!("board {board} has {count} cells, {} are given", cells.len()),
-            None => String::new(),
-        },
-        _ => String::new(),
+fn no_board(board: u32, desk: &Desk) -> String {
+    format!("no such board: {board}, and the stack has {}", desk.counts().len())
+}
+
+fn sample(refused: Refusal, board: u32, readings: &Readings, cells: &[u32], desk: &Desk) -> String {
+    match refused {
+        Refusal::NoBoard => no_board(board, desk),
+        Refusal::CellList => {
+            let count = (1..).zip(desk.counts()).find(|(number, _)| *number == board).map_or(0, |(_, count)| *count);
+            format!("the cell list has another length: board {board} has {count} cells, {} are given", cells.len())
+        }
+        Refusal::Elapsed => format!("the elapsed time is out of range: {} us, not 1 to 100000", readings.elapsed),
+        Refusal::OutOfRange => format!("a reading is out of range: {}", out_of_range(readings, cells)),
+        _ => not_open(),
     }
 }
 
 /// The first reading of a sample that is out of its range.
-fn out_of_range(line: &Line) -> String {
-    match line {
-        Line::Sample { readings, cells, .. } => match (1..).zip(*cells).find(|(_, reads)| **reads > 5_000) {
-            Some((cell, reads)) => format!("cell {cell} reads {reads} mV, over 5000"),
-            None => beside_cells(readings),
-        },
-        _ => String::new(),
-    }
-}
-
-fn beside_cells(readings: &Readings) -> String {
+fn out_of_range(readings: &Readings, cells: &[u32]) -> String {
     let Readings { shunt, thermistor, load, .. } = readings;
-    if *thermistor > 5_000 {
+    if let Some((cell, reads)) = (1..).zip(cells).find(|(_, reads)| **reads > 5_000) {
+        format!("cell {cell} reads {reads} mV, over 5000")
+    } else if *thermistor > 5_000 {
         format!("the thermistor reads {thermistor} mV, over 5000")
     } else if !(-500_000..=500_000).contains(shunt) {
         format!("the shunt reads {shunt} uV, beyond 500000")
@@ -112,34 +102,34 @@ fn beside_cells(readings: &Readings) -> String {
     }
 }
 
-/// The bytes of a frame, if a line is one.
-fn bytes<'a>(line: &'a Line) -> &'a [u8] {
-    match line {
-        Line::Frame { bytes, .. } => bytes,
-        _ => &[],
-    }
-}
-
-/// The one that the library takes, for who has no table at hand.
-fn check_byte(line: &Line, desk: &Desk) -> String {
-    match bytes(line) {
-        [address, register, value, check] => match desk.right_check(*address, *register, *value) {
-            Some(right) => format!("{check} is given, {right} is right"),
-            None => format!("{check} is given"),
-        },
-        _ => String::new(),
-    }
-}
-
-/// What a frame asks of a register.
-fn access(line: &Line) -> String {
-    match bytes(line) {
-        [address, register, value, ..] if address % 2 == 1 => {
-            format!("a write of {value} to register {register} of board {}", address / 2)
+fn frame(refused: Refusal, bytes: &[u8], room: usize, desk: &Desk) -> String {
+    match (refused, bytes) {
+        (Refusal::FrameLength, _) => format!("a frame has {FRAME_BYTES} bytes: {} are given", bytes.len()),
+        (Refusal::ReplyRoom, _) => format!("no room for the reply: it takes {FRAME_BYTES} bytes, {room} are lent"),
+        (Refusal::CheckByte, [address, register, value, check]) => {
+            let right = desk.right_check(*address, *register, *value).map_or(0, u32::from);
+            format!("the check byte is wrong: {check} is given, {right} is right")
         }
-        [address, register, value, ..] => {
-            format!("a read of register {register} of board {} with value {value}", address / 2)
+        (Refusal::NoBoard, [address, ..]) => no_board((address / 2).into(), desk),
+        (Refusal::NoRegister, [address, register, ..]) => {
+            let done = if address % 2 == 1 { "written" } else { "read" };
+            format!("no such register: {register} of board {} cannot be {done}", address / 2)
         }
-        _ => String::new(),
+        (Refusal::BadValue, [address, register, value, ..]) if address % 2 == 1 => {
+            format!("the value is not allowed: {value} written to register {register} of board {}", address / 2)
+        }
+        (Refusal::BadValue, [address, register, value, ..]) => {
+            format!(
+                "the value is not allowed: a read, here of register {register} of board {}, carries 0 and not {value}",
+                address / 2
+            )
+        }
+        (Refusal::NoCycle, [address, ..]) => {
+            format!(
+                "no programming cycle is left: board {} has spent three, and its staged settings differ",
+                address / 2
+            )
+        }
+        _ => not_open(),
     }
 }
