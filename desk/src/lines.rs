@@ -40,6 +40,7 @@ pub enum What {
     NoLetter,
     NoField,
     NoSpace,
+    NoEnd,
     NoNumber,
     LeadingZero,
     MinusZero,
@@ -204,7 +205,7 @@ impl Fields<'_> {
 
     fn nothing_more<T>(&self, asked: T) -> Result<T, What> {
         if self.at < self.line.len() {
-            Err(What::NoSpace)
+            Err(What::NoEnd)
         } else {
             Ok(asked)
         }

@@ -27,6 +27,7 @@ pub fn flaw(text: &mut Text, line: &[u8], flaw: &Flaw) {
         What::NoLetter => format!("no line begins with {}; try help", byte_at(line, 0)),
         What::NoField => format!("a field is missing: the line ends at byte {}", flaw.at),
         What::NoSpace => format!("{found} at byte {place}, where one space or the end should be"),
+        What::NoEnd => format!("{found} at byte {place}, where the line should end"),
         What::NoNumber => format!("{found} at byte {place}, where a number should be"),
         What::LeadingZero => format!("a leading zero at byte {place}"),
         What::MinusZero => format!("a minus sign before a zero at byte {place}"),
@@ -49,42 +50,58 @@ fn byte_at(line: &[u8], at: usize) -> String {
 
 /// Why the library refused what a line asked.
 pub fn refusal(text: &mut Text, refused: Refusal, line: &Line, desk: &Desk) {
-    let why = match line {
-        Line::Opening { counts } => opening(counts),
-        Line::Sample { board, readings, cells } => sample(refused, *board, readings, cells, desk),
-        Line::Frame { bytes, room } => frame(refused, bytes, *room, desk),
-        Line::Reading => not_open(),
+    said(text, short(refused));
+    let particulars = match (refused, line) {
+        (Refusal::BadRow, Line::Opening { counts }) => opening(counts),
+        (Refusal::BadRow, _) => Some("none is open, and O 5 opens one".to_string()),
+        (_, Line::Sample { board, readings, cells }) => sample(refused, *board, readings, cells, desk),
+        (_, Line::Frame { bytes, room }) => frame(refused, bytes, *room, desk),
+        _ => None,
     };
-    said(text, &why);
-}
-
-fn not_open() -> String {
-    "no stack is open: O 5 opens one".to_string()
-}
-
-fn opening(counts: &[u32]) -> String {
-    match (1..).zip(counts).find(|(_, count)| !(5..=10).contains(*count)) {
-        Some((board, count)) if counts.len() <= BOARDS_MAX => {
-            format!("no such stack: board {board} would have {count} cells, and can have 5 to 10")
-        }
-        _ => format!("no such stack: it would have {} boards, and can have 1 to {BOARDS_MAX}", counts.len()),
+    if let Some(particulars) = particulars {
+        print::words(text, ": ");
+        print::words(text, &particulars);
     }
 }
 
-fn no_board(board: u32, desk: &Desk) -> String {
-    format!("no such board: {board}, and the stack has {}", desk.counts().len())
+fn short(refused: Refusal) -> &'static str {
+    match refused {
+        Refusal::BadRow => "no such stack",
+        Refusal::NoBoard => "no such board",
+        Refusal::CellList => "the cell list has another length",
+        Refusal::Elapsed => "the elapsed time is out of range",
+        Refusal::OutOfRange => "a reading is out of range",
+        Refusal::FrameLength => "no frame has that length",
+        Refusal::ReplyRoom => "no room for the reply",
+        Refusal::CheckByte => "the check byte is wrong",
+        Refusal::NoRegister => "no such register",
+        Refusal::BadValue => "the value is not allowed",
+        Refusal::NoCycle => "no programming cycle is left",
+    }
 }
 
-fn sample(refused: Refusal, board: u32, readings: &Readings, cells: &[u32], desk: &Desk) -> String {
+fn opening(counts: &[u32]) -> Option<String> {
+    if counts.is_empty() || counts.len() > BOARDS_MAX {
+        return Some(format!("it would have {} boards, and can have 1 to {BOARDS_MAX}", counts.len()));
+    }
+    let (board, count) = (1..).zip(counts).find(|(_, count)| !(5..=10).contains(*count))?;
+    Some(format!("board {board} would have {count} cells, and can have 5 to 10"))
+}
+
+fn no_board(board: u32, desk: &Desk) -> String {
+    format!("{board}, and the stack has {}", desk.counts().len())
+}
+
+fn sample(refused: Refusal, board: u32, readings: &Readings, cells: &[u32], desk: &Desk) -> Option<String> {
     match refused {
-        Refusal::NoBoard => no_board(board, desk),
+        Refusal::NoBoard => Some(no_board(board, desk)),
         Refusal::CellList => {
-            let count = (1..).zip(desk.counts()).find(|(number, _)| *number == board).map_or(0, |(_, count)| *count);
-            format!("the cell list has another length: board {board} has {count} cells, {} are given", cells.len())
+            let (_, count) = (1..).zip(desk.counts()).find(|(number, _)| *number == board)?;
+            Some(format!("board {board} has {count} cells, {} are given", cells.len()))
         }
-        Refusal::Elapsed => format!("the elapsed time is out of range: {} us, not 1 to 100000", readings.elapsed),
-        Refusal::OutOfRange => format!("a reading is out of range: {}", out_of_range(readings, cells)),
-        _ => not_open(),
+        Refusal::Elapsed => Some(format!("{} us, not 1 to 100000", readings.elapsed)),
+        Refusal::OutOfRange => Some(out_of_range(readings, cells)),
+        _ => None,
     }
 }
 
@@ -102,34 +119,35 @@ fn out_of_range(readings: &Readings, cells: &[u32]) -> String {
     }
 }
 
-fn frame(refused: Refusal, bytes: &[u8], room: usize, desk: &Desk) -> String {
-    match (refused, bytes) {
-        (Refusal::FrameLength, _) => format!("a frame has {FRAME_BYTES} bytes: {} are given", bytes.len()),
-        (Refusal::ReplyRoom, _) => format!("no room for the reply: it takes {FRAME_BYTES} bytes, {room} are lent"),
-        (Refusal::CheckByte, [address, register, value, check]) => {
-            let right = desk.right_check(*address, *register, *value).map_or(0, u32::from);
-            format!("the check byte is wrong: {check} is given, {right} is right")
+fn frame(refused: Refusal, bytes: &[u8], room: usize, desk: &Desk) -> Option<String> {
+    if refused == Refusal::FrameLength {
+        return Some(format!("{} bytes, not {FRAME_BYTES}", bytes.len()));
+    }
+    if refused == Refusal::ReplyRoom {
+        return Some(format!("it takes {FRAME_BYTES} bytes, {room} are lent"));
+    }
+    match bytes {
+        [address, register, value, check] => of_register(refused, [*address, *register, *value, *check], desk),
+        _ => None,
+    }
+}
+
+fn of_register(refused: Refusal, frame: [u8; FRAME_BYTES], desk: &Desk) -> Option<String> {
+    let [address, register, value, check] = frame;
+    let (board, writes) = (address / 2, address % 2 == 1);
+    match refused {
+        Refusal::CheckByte => {
+            let right = desk.right_check(address, register, value)?;
+            Some(format!("{check} is given, {right} is right"))
         }
-        (Refusal::NoBoard, [address, ..]) => no_board((address / 2).into(), desk),
-        (Refusal::NoRegister, [address, register, ..]) => {
-            let done = if address % 2 == 1 { "written" } else { "read" };
-            format!("no such register: {register} of board {} cannot be {done}", address / 2)
+        Refusal::NoBoard => Some(no_board(board.into(), desk)),
+        Refusal::NoRegister if writes => Some(format!("{register} of board {board} cannot be written")),
+        Refusal::NoRegister => Some(format!("{register} of board {board} cannot be read")),
+        Refusal::BadValue if writes => Some(format!("{value} written to register {register} of board {board}")),
+        Refusal::BadValue => {
+            Some(format!("{value} in a read of register {register} of board {board}, which carries 0"))
         }
-        (Refusal::BadValue, [address, register, value, ..]) if address % 2 == 1 => {
-            format!("the value is not allowed: {value} written to register {register} of board {}", address / 2)
-        }
-        (Refusal::BadValue, [address, register, value, ..]) => {
-            format!(
-                "the value is not allowed: a read, here of register {register} of board {}, carries 0 and not {value}",
-                address / 2
-            )
-        }
-        (Refusal::NoCycle, [address, ..]) => {
-            format!(
-                "no programming cycle is left: board {} has spent three, and its staged settings differ",
-                address / 2
-            )
-        }
-        _ => not_open(),
+        Refusal::NoCycle => Some(format!("board {board} has spent three, and its staged settings differ")),
+        _ => None,
     }
 }
