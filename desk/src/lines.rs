@@ -1,6 +1,6 @@
 //! Lines: input cut at its newlines, and a line taken apart into what it asks. Every line is of a form, or has a flaw.
 //!
-//! A form that a request brings is added in two places here: its case in [`Line`], and its letter in [`take_apart`]. The
+//! A form that a request brings is added in two places here: its case in [`Line`], and its letter in [`asked`]. The
 //! compiler then names what else has to speak of it.
 use adomvik::{Readings, FRAME_BYTES};
 
@@ -179,6 +179,7 @@ impl Fields<'_> {
         }
     }
 
+    // as part of a larger function it would keep its place in the line in memory
     #[inline(never)]
     fn sample<'a>(&mut self, lent: &'a mut [u32]) -> Result<Line<'a>, What> {
         let board = self.number()?;

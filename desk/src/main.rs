@@ -32,25 +32,29 @@ fn run(reader: Reader) -> io::Result<()> {
         Reader::Program => ("", "", ""),
     };
     print::words(&mut text, greeting);
-    loop {
+    let ended = loop {
         print::words(&mut text, prompt);
         give(&mut out, &mut text)?;
         match input.read(&mut block) {
-            Ok(0) => break,
+            Ok(0) => break Ok(()),
             Ok(taken) => session.feed(block.get(..taken).unwrap_or_default(), &mut text),
             Err(why) if why.kind() == io::ErrorKind::Interrupted => {}
-            Err(_) => break,
+            Err(why) => break Err(why),
         }
-    }
+    };
     session.finish(&mut text);
     print::words(&mut text, farewell);
-    give(&mut out, &mut text)
+    give(&mut out, &mut text).and(ended)
 }
 
-/// `--desk` says that a person sits at a terminal. Where nobody hears any more, it ends.
+/// `--desk` says that a person sits at a terminal.
 fn main() {
     let reader = if env::args_os().any(|word| word == "--desk") { Reader::Person } else { Reader::Program };
-    if run(reader).is_err() {
+    if let Err(why) = run(reader) {
+        // that nobody hears any more is nothing to speak of, and perhaps nobody hears this either
+        if why.kind() != io::ErrorKind::BrokenPipe {
+            let _ = writeln!(io::stderr(), "workshop: {why}");
+        }
         std::process::exit(1);
     }
 }
