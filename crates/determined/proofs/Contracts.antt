@@ -15,7 +15,7 @@ use Rattle.frame.specs.declared.Outcome.{Outcome}
 use Rattle.frame.specs.declared.Request.{Request}
 use Rattle.registers.specs.Registers.{obeyedOf}
 use Rattle.frame.specs.declared.Reply.{Reply}
-use Rattle.frame.specs.Reply.{replyOf, bufferWith}
+use Rattle.frame.specs.Way.{replyOf, bufferWith}
 use Rattle.stack.specs.Sample.{sampleAnswer, sampleRow}
 use Rattle.stack.specs.Frame.{frameAnswer, frameRow, frameBuffer}
 use Rattle.stack.specs.declared.View.{View}

@@ -10,7 +10,8 @@ use lib.Bits.{bitXor, xor-block, xor-comm, xor-mod, xor-shifted, xor-shr, xor-lt
 use lib.Dec.{eqb}
 use borrow.Author.Tests.{eqb-true}
 use Rattle.lists.proofs.Below.{right-below, right-at}
-use Rattle.frame.specs.Check.{shifted, times, checked, checkOf, checkMoved, checkAfter}
+use Rattle.frame.specs.Check.{shifted, times, checked, checkOf}
+use Rattle.frame.specs.Way.{checkMoved, checkAfter}
 
 abbrev pub bySeven : ℕ → ℕ
 bySeven x = bitXor (bitXor x (2 * x)) (4 * x)

@@ -4,7 +4,7 @@ use Prim.Native.Nat.{ℕ, zero, suc, _*_, _-_}
 use mathlib.Core.Bool.{cond}
 use mathlib.Core.List.{List, [], _∷_}
 use lib.Bits.{bitXor}
-use lib.Dec.{ltb, eqb}
+use lib.Dec.{ltb}
 
 -- the polynomial x^8 + x^2 + x + 1 below its x^8
 abbrev pub polynomial : ℕ
@@ -29,12 +29,3 @@ checkFrom r (byte ∷ bytes) = checkFrom (checked r byte) bytes
 -- start 0
 abbrev pub checkOf : List ℕ → ℕ
 checkOf bytes = checkFrom 0 bytes
-
--- the check of three bytes of which the last becomes another: by the check that it had, which moves by what the change comes to.
--- Where that one was right, as in every frame taken apart, it is the fresh check
-abbrev pub checkMoved : ℕ → ℕ → ℕ → ℕ
-checkMoved check old new = bitXor check (checked old new)
-
-abbrev pub checkAfter : ℕ → ℕ → ℕ → ℕ → ℕ → ℕ
-checkAfter address register old check new =
-    cond (eqb check (checkOf (address ∷ register ∷ old ∷ []))) (checkOf (address ∷ register ∷ new ∷ [])) (checkMoved check old new)

@@ -1,14 +1,11 @@
--- A frame taken apart into address, register, value and check, or else refused (01, Frames and registers; Refusal numbers 6, 7, 8).
+-- The bytes of a frame, and when it is refused as it stands (01, Frames and registers; Refusal numbers 6, 7, 8).
 -- Assumes nothing.
 use Prim.Native.Nat.{ℕ, _/_, _%_}
-use mathlib.Core.Bool.{Bool, cond, not}
+use mathlib.Core.Bool.{Bool, not}
 use mathlib.Core.List.{List, [], _∷_}
 use lib.Dec.{ltb, eqb}
 use lib.ListN.{length, getD}
-use Rattle.refusal.specs.declared.Refusal.the-variants.{Malformed}
-use Rattle.refusal.specs.Refusals.{numberOf, numbered}
-use Rattle.refusal.specs.Said.{Said, refuses, accepts, value, Bar, bar, judged}
-use Rattle.frame.specs.declared.Taken.{Taken}
+use Rattle.refusal.specs.Said.{Bar, bar}
 use Rattle.frame.specs.Check.{checkOf}
 
 -- byte i of a frame, from 0: address, register, value, check
@@ -29,15 +26,3 @@ frameBars frame room =
     ∷ bar 7 (ltb room 4)
     ∷ bar 8 (not (eqb (byte frame 3) (checkOf (byte frame 0 ∷ byte frame 1 ∷ byte frame 2 ∷ []))))
     ∷ []
-
--- the paper's number and values of a frame taken apart; one that is refused has no values, and zeros stand for them
-abbrev pub partsSaid : Taken → Said
-partsSaid t = cond (t .refused) (refuses (numberOf (t .why))) (accepts (t .request .address ∷ t .request .register ∷ t .request .value ∷ t .check ∷ []))
-
--- the frame taken apart that says them; one that is not refused has no why, and Malformed stands for it
-abbrev pub partsSaying : Said → Taken
-partsSaying s =
-    record { request = record { address = value 0 s; register = value 1 s; value = value 2 s }; check = value 3 s; refused = not (eqb (s .number) 0); why = cond (eqb (s .number) 0) Malformed (numbered (s .number)) }
-
-unfoldable pub takenApart : List ℕ → ℕ → Taken
-takenApart frame room = partsSaying (judged (frameBars frame room) (byte frame 0 ∷ byte frame 1 ∷ byte frame 2 ∷ byte frame 3 ∷ []))

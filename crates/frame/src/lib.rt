@@ -4,10 +4,8 @@ ghost use mathlib.Core.Path.{_≡_};
 ghost use mathlib.Core.List.{[], _∷_};
 ghost use lib.Bits.{bitXor};
 ghost use lib.ListN.{length};
-ghost use Rattle.frame.specs.Check.{checked, checkOf, checkMoved};
-ghost use Rattle.frame.specs.Frame.{takenApart};
-ghost use Rattle.frame.specs.Reply.{replyOf, bufferWith};
-ghost use Rattle.frame.specs.Way.{decoded, refusedAs};
+ghost use Rattle.frame.specs.Check.{checked, checkOf};
+ghost use Rattle.frame.specs.Way.{decoded, refusedAs, checkMoved, takenApart, replyOf, bufferWith};
 use refusal::Refusal;
 
 // A product by x^2 + x + 1, that is by 7, without carries.

@@ -13,7 +13,7 @@ use Rattle.board.specs.declared.Board.{Board}
 use Rattle.frame.specs.declared.Request.{Request}
 use Rattle.frame.specs.declared.Verdict.the-variants as verdict
 use Rattle.frame.specs.Frame.{writes}
-use Rattle.frame.specs.Reply.{outcomeSaid, outcomeSaying}
+use Rattle.frame.specs.Way.{outcomeSaid, outcomeSaying}
 use Rattle.registers.specs.Map.{noRegister, fits, readValue}
 use Rattle.registers.specs.Registers.{shownOf, programs, staging, spent, lacksCycle, accessBars, boardAfter, replyValue, obeyedOf}
 use Rattle.registers.specs.Way.{gives}

@@ -12,7 +12,7 @@ use Rattle.board.specs.declared.Board.{Board}
 use Rattle.latches.specs.Latches.{latchesOf, register0}
 use Rattle.frame.specs.declared.Request.{Request}
 use Rattle.frame.specs.Frame.{writes}
-use Rattle.frame.specs.Reply.{outcomeSaying}
+use Rattle.frame.specs.Way.{outcomeSaying}
 use Rattle.registers.specs.declared.Obeyed.{Obeyed}
 use Rattle.registers.specs.Map.{Shown, noRegister, fits, readValue}
 

@@ -22,10 +22,10 @@ use Rattle.board.specs.Sample.{fresh, badBoard, readingBars, boardNext, sampleO
 use Rattle.frame.specs.declared.Taken.{Taken}
 use Rattle.frame.specs.declared.Reply.{Reply}
 use Rattle.frame.specs.declared.Reply.the-variants.{Refused}
-use Rattle.frame.specs.Frame.{byte, boardOf, writes, takenApart}
-use Rattle.frame.specs.Check.{checkOf, checkAfter}
-use Rattle.frame.specs.Reply.{replyBytes, outcomeSaying, replySaying, replyBy, replyOf, bufferWith}
-use Rattle.frame.specs.Way.{refusedAs}
+use Rattle.frame.specs.Frame.{byte, boardOf, writes}
+use Rattle.frame.specs.Check.{checkOf}
+use Rattle.frame.specs.Reply.{replyBytes, replySaying}
+use Rattle.frame.specs.Way.{decoded, refusedAs, takenApart, checkAfter, outcomeSaying, replyBy, replyOf, bufferWith}
 use Rattle.registers.specs.Registers.{accessBars, replyValue, obeyedOf}
 use Rattle.stack.specs.Row.{badCount, goodRow, noBoard, placeOf, boardAt}
 use Rattle.stack.specs.Sample.{sampleAnswer, sampleRow}
@@ -117,19 +117,19 @@ module _ (bytes : List ℕ) (room : ℕ) where
   right = eqb (byte bytes 3) (checkOf (byte bytes 0 ∷ byte bytes 1 ∷ byte bytes 2 ∷ []))
 
   apart-6 : eqb (length bytes) 4 ≡ false → takenApart bytes room ≡ refusedAs (numbered 6)
-  unfolding takenApart
+  unfolding takenApart decoded
   apart-6 e6 = rw e6
 
   apart-7 : eqb (length bytes) 4 ≡ true → ltb room 4 ≡ true → takenApart bytes room ≡ refusedAs (numbered 7)
-  unfolding takenApart
+  unfolding takenApart decoded
   apart-7 e6 e7 = rw (e6, e7)
 
   apart-8 : eqb (length bytes) 4 ≡ true → ltb room 4 ≡ false → right ≡ false → takenApart bytes room ≡ refusedAs (numbered 8)
-  unfolding takenApart
+  unfolding takenApart decoded
   apart-8 e6 e7 e8 = rw (e6, e7, e8)
 
   apart-none : eqb (length bytes) 4 ≡ true → ltb room 4 ≡ false → right ≡ true → takenApart bytes room ≡ partsOf bytes
-  unfolding takenApart
+  unfolding takenApart decoded
   apart-none e6 e7 e8 = rw (e6, e7, e8)
 
 -- a frame to a board of a good row

@@ -19,8 +19,8 @@ use Rattle.frame.specs.declared.Request.{Request}
 use Rattle.frame.specs.declared.Reply.{Reply}
 use Rattle.frame.specs.declared.Reply.the-variants as reply
 use Rattle.frame.specs.declared.Outcome.{Outcome}
-use Rattle.frame.specs.Frame.{boardOf, takenApart}
-use Rattle.frame.specs.Reply.{replyOf, bufferWith}
+use Rattle.frame.specs.Frame.{boardOf}
+use Rattle.frame.specs.Way.{takenApart, replyOf, bufferWith}
 use Rattle.registers.specs.Registers.{obeyedOf}
 use Rattle.registers.specs.Way.{denies}
 use Rattle.stack.specs.declared.View.{View}

@@ -3,7 +3,7 @@
 use Prim.Native.Nat.{ℕ}
 use mathlib.Core.Path.{ap}
 use Rattle.frame.specs.declared.Reply.the-variants.{Replied}
-use Rattle.frame.specs.Reply.{replyOf}
+use Rattle.frame.specs.Way.{replyOf}
 use borrow.Author.Needs.{needs}
 use Rattle.frame.proofs.Product.{moved-check}
 use Rattle.frame.proofs.reply_of.Statement.{statement}

@@ -13,9 +13,8 @@ use Rattle.frame.specs.declared.Taken.{Taken}
 use Rattle.frame.specs.declared.Outcome.{Outcome}
 use Rattle.frame.specs.declared.Reply.{Reply}
 use Rattle.frame.specs.declared.Reply.the-variants.{Refused}
-use Rattle.frame.specs.Frame.{takenApart}
 use Rattle.frame.proofs.Laws.{room-for}
-use Rattle.frame.specs.Reply.{replyOf, bufferWith}
+use Rattle.frame.specs.Way.{takenApart, replyOf, bufferWith}
 use Rattle.stack.specs.Way.{obeyOutcomeAt, obeyRowAt, takenAnswer, takenRow, frameAnswerIn, frameRowIn, frameBufferIn}
 use Rattle.board.proofs.Board as Boards
 use Rattle.frame.proofs.Taken as Takens
