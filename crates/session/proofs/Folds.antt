@@ -7,7 +7,8 @@ use mathlib.Core.Path.{_≡_, refl, sym}
 use mathlib.Core.List.{List, [], _∷_, _++_, append-nil}
 use lib.ListN.{length}
 use Rattle.held.specs.declared.Stack.{Stack}
-use Rattle.text.specs.Text.{textOf, Put}
+use Rattle.text.specs.Text.{textOf}
+use Rattle.text.specs.Way.{Put}
 use Rattle.text.proofs.Puts.{put-then, put-same}
 use Rattle.lines.specs.Lines.{before, ended, left, upTo}
 use Rattle.lines.specs.Kept.{clip}

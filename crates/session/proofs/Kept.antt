@@ -9,7 +9,8 @@ use mathlib.Core.List.{List, [], _∷_, _++_, append-nil}
 use lib.ListN.{length, take, drop, length-set, take-append-drop}
 use lib.Seq.{take-all}
 use Rattle.held.specs.declared.Stack.{Stack}
-use Rattle.text.specs.Text.{textOf, Put}
+use Rattle.text.specs.Text.{textOf}
+use Rattle.text.specs.Way.{Put}
 use Rattle.lines.specs.declared.Cutter.{Cutter}
 use Rattle.lines.specs.Lines.{ended, left, upTo}
 use Rattle.lines.specs.Line.{lineOf}

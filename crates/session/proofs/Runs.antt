@@ -17,7 +17,8 @@ use Rattle.held.proofs.Rows.{with-same}
 use Rattle.acts.specs.declared.Told.{Told}
 use Rattle.acts.specs.Acts.{actTold, actRow}
 use Rattle.acts.proofs.Laws.{act-length}
-use Rattle.text.specs.Text.{textOf, placed, Put}
+use Rattle.text.specs.Text.{textOf}
+use Rattle.text.specs.Way.{placed, Put}
 use Rattle.text.proofs.Puts.{placed-all, put-same}
 use Rattle.text.proofs.Lines.{text-short}
 use Rattle.lines.specs.Field.{restAt, endAt}

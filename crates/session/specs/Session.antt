@@ -6,7 +6,8 @@ use mathlib.Core.Logic.{_⊎_}
 use mathlib.Core.List.{List, [], _∷_, _++_}
 use lib.ListN.{length, take}
 use Rattle.held.specs.declared.Stack.{Stack}
-use Rattle.text.specs.Text.{textOf, Put}
+use Rattle.text.specs.Text.{textOf}
+use Rattle.text.specs.Way.{Put}
 use Rattle.lines.specs.Line.{lineOf}
 use Rattle.lines.specs.declared.Cutter.{Cutter}
 use Rattle.lines.specs.Lines.{ended, left}

@@ -12,7 +12,8 @@ use borrow.Author.Tests.{le-ltb}
 use Rattle.lists.specs.Marks.{bit}
 use Rattle.acts.specs.declared.Told.{Told}
 use Rattle.acts.specs.declared.Told.the-variants.{Opened, Refused, Status, Reply, Reading}
-use Rattle.text.specs.Text.{bytes, digit, decimal, wordsOf, textOf, Typed}
+use Rattle.text.specs.Text.{bytes, digit, decimal, wordsOf, textOf}
+use Rattle.text.specs.Way.{Typed}
 use Rattle.text.proofs.Decimal.{decimal-fold}
 
 -- the value of each word in base ten, letters too; a space or a newline ends a word, and the first has come to v already

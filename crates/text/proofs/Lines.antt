@@ -13,7 +13,8 @@ use Rattle.lists.specs.Every.{every}
 use Rattle.lists.proofs.Split.{split}
 use Rattle.acts.specs.declared.Told.{Told}
 use Rattle.acts.specs.declared.Told.the-variants.{Opened, Refused, Status, Reply, Reading}
-use Rattle.text.specs.Text.{digit, decimal, wordsOf, textOf, placed, Typed}
+use Rattle.text.specs.Text.{digit, decimal, wordsOf, textOf}
+use Rattle.text.specs.Way.{placed, Typed}
 use Rattle.text.proofs.Decimal.{decimal-five as five, decimal-fold, flag-digit}
 
 abbrev pub plain : ℕ → Bool

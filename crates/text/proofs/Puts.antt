@@ -10,7 +10,8 @@ use lib.ListN.{length, getD, set, take, drop, length-append}
 use lib.Seq.{sets, length-sets, sets-eq, length-take-le, take-suc, take-all, take-at}
 use borrow.Author.Tests.{le-leb, lt-leb}
 use Rattle.acts.specs.declared.Told.{Told}
-use Rattle.text.specs.Text.{wordsOf, textOf, placed, Put}
+use Rattle.text.specs.Text.{wordsOf, textOf}
+use Rattle.text.specs.Way.{placed, Put}
 
 sets-append : (l : List ℕ) (i : ℕ) (a b : List ℕ) → sets l i (a ++ b) ≡ sets (sets l i a) (i + length a) b
 sets-append l i [] b = rw (add-zero i)

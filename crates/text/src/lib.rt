@@ -4,7 +4,8 @@ ghost use Prim.Native.Nat.{_+_, _<_, _≤_};
 ghost use lib.ListN.{length};
 ghost use Rattle.lists.specs.Marks.{bit};
 ghost use Rattle.acts.specs.declared.Told.the-variants as told;
-ghost use Rattle.text.specs.Text.{Put, placed, digit, placeOf, decimal, wordsOf};
+ghost use Rattle.text.specs.Text.{digit, placeOf, decimal, wordsOf};
+ghost use Rattle.text.specs.Way.{Put, placed};
 use acts::Told;
 
 // Puts s into out from at on, and gives the place after it.
