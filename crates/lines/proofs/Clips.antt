@@ -11,7 +11,7 @@ use borrow.Author.Tests.{ltb-true, ltb-false}
 use borrow.Table.Steps.{cases}
 use Rattle.lines.specs.Lines.{ended, left, lastLine, linesOf}
 use Rattle.lines.proofs.Pieces.{ended-none, left-none, ended-byte, left-byte}
-use Rattle.lines.specs.Kept.{most, clip, endedIn, leftIn}
+use Rattle.lines.specs.Way.{most, clip, endedIn, leftIn}
 use Rattle.lines.proofs.Blocks.{ended-append, left-append}
 
 pub clip-append : (p s : List ℕ) → clip (clip p ++ s) ≡ clip (p ++ s)

@@ -22,7 +22,7 @@ use Rattle.lines.specs.declared.Line.{Line}
 use Rattle.lines.specs.declared.Field.{Field}
 use Rattle.lines.specs.declared.Field.the-variants.{Good, Bad}
 use Rattle.lines.specs.Line.{words, worth, startsWell, isNumber, negative, unsigned, sizeOf, isField, letter, kindOf, rulesOf, isShunt, allFields, obeys, anyNegative, blank, malformed, said, wordsSay, lineOf}
-use Rattle.lines.specs.Field.{restAt, endAt, front, numberAt, fieldAt, foundAt}
+use Rattle.lines.specs.Way.{restAt, endAt, front, numberAt, fieldAt, foundAt}
 use Rattle.lines.proofs.Words.{rest-end, rest-on, end-on, before-long, rest-drop, end-behind}
 use Rattle.lines.proofs.Numbers.{field-in}
 use Rattle.lines.proofs.Fronts.{front-long, number-word, front-or, plain-negative, plain-unsigned}

@@ -14,7 +14,7 @@ use Rattle.lists.proofs.Split.{split, both}
 use Rattle.lines.specs.Lines.{before}
 use Rattle.lines.proofs.Pieces.{behind}
 use Rattle.lines.specs.Line.{isDigit, startsWell, isNumber, negative, unsigned}
-use Rattle.lines.specs.Field.{digits, front}
+use Rattle.lines.specs.Way.{digits, front}
 use Rattle.lines.proofs.Numbers.{digit-range}
 
 digits-long : (t : List ℕ) → length (digits t) ≤ length t

@@ -13,7 +13,7 @@ use borrow.Table.Steps.{cases}
 use Rattle.lines.specs.declared.Cutter.{Cutter}
 use Rattle.lines.specs.Lines.{before, pieces, upTo}
 use Rattle.lines.specs.Line.{kindOf, wordsSay, malformed, lineOf}
-use Rattle.lines.specs.Kept.{most, clip, held, byteKept, listKept, Kept, oneLine, lineEnded}
+use Rattle.lines.specs.Way.{most, clip, held, byteKept, listKept, Kept, oneLine, lineEnded}
 use Rattle.lines.proofs.Fields.{from-malformed}
 use Rattle.lines.proofs.Words.{all-before}
 use Rattle.lines.proofs.Newlines.{newline-malformed}

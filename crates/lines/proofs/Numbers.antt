@@ -12,7 +12,7 @@ use Rattle.lists.specs.Every.{every}
 use Rattle.lists.proofs.Split.{split, both}
 use Rattle.lines.specs.declared.Field.the-variants.{Good, Bad}
 use Rattle.lines.specs.Line.{isDigit, worth, startsWell, isNumber}
-use Rattle.lines.specs.Field.{restAt, digits, front, digitsFrom, numberAt, fieldAt}
+use Rattle.lines.specs.Way.{restAt, digits, front, digitsFrom, numberAt, fieldAt}
 use Rattle.lines.proofs.Words.{rest-at, rest-end, rest-on}
 
 -- digits more make no number smaller

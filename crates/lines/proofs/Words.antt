@@ -13,7 +13,7 @@ use lib.Seq.{drop-drop}
 use borrow.Author.Tests.{eq-eqb, ne-eqb}
 use Rattle.lists.proofs.Split.{split}
 use Rattle.lines.specs.Lines.{before}
-use Rattle.lines.specs.Field.{restAt, endAt}
+use Rattle.lines.specs.Way.{restAt, endAt}
 
 -- a byte of the bytes, whatever stands for those behind their end
 pub byte-any : (s : List ℕ) (i d e : ℕ) → i < length s → getD s i d ≡ getD s i e

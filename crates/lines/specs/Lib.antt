@@ -1,5 +1,4 @@
 pub mod Lines
-pub mod Kept
 pub mod Line
-pub mod Field
+pub mod Way
 pub mod Edges

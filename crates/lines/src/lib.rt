@@ -4,9 +4,8 @@ ghost use mathlib.Core.Path.{_≡_};
 ghost use Prim.Native.Nat.{_+_, _≤_};
 ghost use lib.ListN.{getD, length, drop};
 ghost use Rattle.lines.specs.Lines.{upTo};
-ghost use Rattle.lines.specs.Kept.{held, nothing, emptiedOf, byteKept, Kept, oneLine, lineEnded};
 ghost use Rattle.lines.specs.Line.{isDigit, letter, rulesOf, blank, malformed};
-ghost use Rattle.lines.specs.Field.{restAt, endAt, digitsFrom, numberAt, fieldAt, foundAt};
+ghost use Rattle.lines.specs.Way.{held, nothing, emptiedOf, byteKept, Kept, oneLine, lineEnded, restAt, endAt, digitsFrom, numberAt, fieldAt, foundAt};
 
 pub enum Kind {
     Open,

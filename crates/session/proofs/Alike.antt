@@ -9,7 +9,7 @@ use borrow.Author.Tests.{lt-leb}
 use Rattle.lines.specs.Line.{lineOf}
 use Rattle.text.specs.Text.{textOf}
 use Rattle.held.specs.declared.Stack.{Stack}
-use Rattle.lines.specs.Kept.{clip}
+use Rattle.lines.specs.Way.{clip}
 use Rattle.lines.proofs.Clips.{read-clip}
 use Rattle.session.specs.Session.{stepOf, stackAfter, outputOf}
 

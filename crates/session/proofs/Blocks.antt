@@ -9,7 +9,7 @@ use Rattle.text.proofs.Puts.{put-take}
 use Rattle.held.specs.declared.Stack.{Stack}
 use Rattle.lines.specs.declared.Cutter.{Cutter}
 use Rattle.lines.specs.Lines.{lastLine, linesOf, ended}
-use Rattle.lines.specs.Kept.{held, endedIn, leftIn}
+use Rattle.lines.specs.Way.{held, endedIn, leftIn}
 use Rattle.lines.proofs.Clips.{lines-flatten}
 use Rattle.session.specs.declared.Fed.{Fed}
 use Rattle.session.specs.Session.{stackAfter, outputOf, Fold, Run, lacking}

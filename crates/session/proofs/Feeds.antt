@@ -10,7 +10,7 @@ use lib.Seq.{take-all, take-add, drop-drop}
 use Rattle.held.specs.declared.Stack.{Stack}
 use Rattle.text.proofs.Puts.{put-same}
 use Rattle.lines.specs.declared.Cutter.{Cutter}
-use Rattle.lines.specs.Kept.{clip, held}
+use Rattle.lines.specs.Way.{clip, held}
 use Rattle.lines.proofs.Pieces.{ended-none}
 use Rattle.lines.proofs.Ends.{rest-free}
 use Rattle.lines.proofs.Keeping.{held-clip}

@@ -11,7 +11,7 @@ use Rattle.text.specs.Text.{textOf}
 use Rattle.text.specs.Way.{Put}
 use Rattle.text.proofs.Puts.{put-then, put-same}
 use Rattle.lines.specs.Lines.{before, ended, left, upTo}
-use Rattle.lines.specs.Kept.{clip}
+use Rattle.lines.specs.Way.{clip}
 use Rattle.lines.proofs.Pieces.{ended-newline, left-newline}
 use Rattle.lines.proofs.Blocks.{ended-append, left-append}
 use Rattle.lines.proofs.Ends.{ended-free, left-free}

@@ -14,7 +14,7 @@ use Rattle.text.specs.Way.{Put}
 use Rattle.lines.specs.declared.Cutter.{Cutter}
 use Rattle.lines.specs.Lines.{ended, left, upTo}
 use Rattle.lines.specs.Line.{lineOf}
-use Rattle.lines.specs.Kept.{clip, held, emptiedOf, oneLine, lineEnded}
+use Rattle.lines.specs.Way.{clip, held, emptiedOf, oneLine, lineEnded}
 use Rattle.lines.proofs.Pieces.{ended-newline}
 use Rattle.lines.proofs.Blocks.{ended-append}
 use Rattle.lines.proofs.Ends.{line-take, ended-free, left-free, to-newline, rest-free}

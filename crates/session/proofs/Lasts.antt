@@ -11,7 +11,7 @@ use Rattle.text.proofs.Puts.{put-take}
 use Rattle.held.specs.declared.Stack.{Stack}
 use Rattle.lines.specs.declared.Cutter.{Cutter}
 use Rattle.lines.specs.Lines.{ended, lastLine}
-use Rattle.lines.specs.Kept.{held}
+use Rattle.lines.specs.Way.{held}
 use Rattle.lines.proofs.Keeping.{held-clip}
 use Rattle.lines.proofs.Pieces.{ended-none, ended-newline}
 use Rattle.session.specs.declared.Fed.{Fed}

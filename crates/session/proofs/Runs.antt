@@ -21,8 +21,7 @@ use Rattle.text.specs.Text.{textOf}
 use Rattle.text.specs.Way.{placed, Put}
 use Rattle.text.proofs.Puts.{placed-all, put-same}
 use Rattle.text.proofs.Lines.{text-short}
-use Rattle.lines.specs.Field.{restAt, endAt}
-use Rattle.lines.specs.Kept.{clip}
+use Rattle.lines.specs.Way.{restAt, endAt, clip}
 use Rattle.lines.proofs.Ends.{to-newline}
 use Rattle.session.specs.declared.Acted.{Acted}
 use Rattle.session.specs.declared.Pace.{Pace}

@@ -21,8 +21,7 @@ use Rattle.lines.specs.declared.Kind.the-variants.{Open, Sample, Frame, Read, M
 use Rattle.lines.specs.declared.Line.{Line}
 use Rattle.lines.specs.declared.Cutter.{Cutter}
 use Rattle.lines.specs.Line.{lineOf}
-use Rattle.lines.specs.Field.{restAt, endAt}
-use Rattle.lines.specs.Kept.{held}
+use Rattle.lines.specs.Way.{restAt, endAt, held}
 use Rattle.session.specs.declared.Fed.{Fed}
 use Rattle.session.specs.declared.Pace.{Pace}
 use Rattle.session.specs.declared.Turn.{Turn}

@@ -11,7 +11,7 @@ use Rattle.text.specs.Way.{Put}
 use Rattle.lines.specs.Line.{lineOf}
 use Rattle.lines.specs.declared.Cutter.{Cutter}
 use Rattle.lines.specs.Lines.{ended, left}
-use Rattle.lines.specs.Kept.{clip, held}
+use Rattle.lines.specs.Way.{clip, held}
 use Rattle.session.specs.declared.Acted.{Acted}
 use Rattle.session.specs.declared.Fed.{Fed}
 use Rattle.session.specs.LineActs.{answered}

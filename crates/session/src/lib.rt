@@ -2,7 +2,7 @@
 ghost use mathlib.Core.Path.{_≡_};
 ghost use Prim.Native.Nat.{_≤_, _-_, min};
 ghost use lib.ListN.{length};
-ghost use Rattle.lines.specs.Kept.{held};
+ghost use Rattle.lines.specs.Way.{held};
 ghost use Rattle.session.specs.LineActs.{shuntOf, readingsOf, cellPlaces, bytesOf, sampleOf, frameOf, opens};
 ghost use Rattle.session.specs.Pace.{actOf, isOpen, lineTold, tightAt, stopAt, turnOf, actIn, paceAfter, outAfter, lineDone, runDone, ranIn, ranInOut, paceAt, ranOf, ranOut, Answered, Completed};
 ghost use Rattle.session.specs.Session.{Run, lacking};

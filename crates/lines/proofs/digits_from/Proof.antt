@@ -6,7 +6,7 @@ use mathlib.Core.Path.{_≡_, refl, sym, _∙_}
 use lib.ListN.{length}
 use mathlib.Core.Bool.{true}
 use Rattle.lines.specs.Line.{isDigit}
-use Rattle.lines.specs.Field.{restAt, digitsFrom}
+use Rattle.lines.specs.Way.{restAt, digitsFrom}
 use Rattle.lines.proofs.Words.{byte-within}
 use Rattle.lines.proofs.Numbers.{digit-range, digit-on, digits-over, digits-turn, digits-end}
 use borrow.Author.Needs.{needs}

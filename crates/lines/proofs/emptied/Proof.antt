@@ -1,7 +1,7 @@
 -- `lines::emptied` meets its contract: it keeps nothing.
 -- Assumes nothing.
 use mathlib.Core.Path.{refl}
-use Rattle.lines.specs.Kept.{emptiedOf}
+use Rattle.lines.specs.Way.{emptiedOf}
 use Rattle.lines.proofs.emptied.Statement.{statement}
 use Rattle.lines.proofs.emptied.Tie as tie
 

@@ -2,7 +2,7 @@
 -- Assumes nothing.
 use Prim.Native.Nat.{_<_}
 use native.Mathlib.Omega.{arith}
-use Rattle.lines.specs.Kept.{lineEnded}
+use Rattle.lines.specs.Way.{lineEnded}
 use Rattle.lines.proofs.Keeping.{one-short}
 use borrow.Author.Needs.{needs}
 use Rattle.lines.proofs.end_line.Statement.{statement}

@@ -4,7 +4,7 @@ use Prim.Native.Nat.{_-_}
 use native.Mathlib.Omega.{arith}
 use mathlib.Core.Path.{_≡_, refl}
 use lib.ListN.{length, drop}
-use Rattle.lines.specs.Kept.{listKept}
+use Rattle.lines.specs.Way.{listKept}
 use Rattle.lines.proofs.Keeping.{kept-turn, kept-all}
 use borrow.Author.Needs.{needs}
 use Rattle.lines.proofs.keep.Statement.{statement}

@@ -1,7 +1,7 @@
 -- `lines::keep_byte` meets its contract: one store, while there is room.
 -- Assumes nothing.
 use borrow.Author.Tests.{le-leb, lt-leb}
-use Rattle.lines.specs.Kept.{byteKept}
+use Rattle.lines.specs.Way.{byteKept}
 use borrow.Author.Needs.{needs}
 use Rattle.lines.proofs.keep_byte.Statement.{statement}
 use Rattle.lines.proofs.keep_byte.Tie as tie

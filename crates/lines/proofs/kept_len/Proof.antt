@@ -3,7 +3,7 @@
 use native.Mathlib.Omega.{arith}
 use mathlib.Core.Path.{_≡_}
 use lib.ListN.{length, length-take}
-use Rattle.lines.specs.Kept.{held}
+use Rattle.lines.specs.Way.{held}
 use borrow.Author.Needs.{needs}
 use Rattle.lines.proofs.kept_len.Statement.{statement}
 use Rattle.lines.proofs.kept_len.Tie as tie

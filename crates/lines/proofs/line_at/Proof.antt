@@ -8,7 +8,7 @@ use lib.ListN.{length, set, length-set}
 use borrow.Author.Needs.{needs}
 use Rattle.lines.proofs.Pieces.{behind}
 use Rattle.lines.specs.Line.{words, wordsSay, blank}
-use Rattle.lines.specs.Field.{restAt, endAt}
+use Rattle.lines.specs.Way.{restAt, endAt}
 use Rattle.lines.proofs.Words.{byte-within, end-on}
 use Rattle.lines.proofs.Fields.{lineFrom, onField, words-none, words-start, found-malformed, found-wrong, found-right, after-full, after-space, after-field, field-past, row-limits, set-past}
 use Rattle.lines.proofs.line_at.Statement.{statement}

@@ -1,7 +1,7 @@
 -- `lines::new_cutter` meets its contract: it keeps nothing.
 -- Assumes nothing.
 use mathlib.Core.Path.{refl}
-use Rattle.lines.specs.Kept.{nothing}
+use Rattle.lines.specs.Way.{nothing}
 use Rattle.lines.proofs.new_cutter.Statement.{statement}
 use Rattle.lines.proofs.new_cutter.Tie as tie
 

@@ -7,7 +7,7 @@ use lib.ListN.{length}
 use lib.Seq.{length-take-le}
 use borrow.Author.Tests.{lt-ltb, le-ltb}
 use Rattle.lines.specs.Lines.{upTo}
-use Rattle.lines.specs.Kept.{held, oneLine}
+use Rattle.lines.specs.Way.{held, oneLine}
 use Rattle.lines.proofs.Keeping.{held-few, held-take}
 use borrow.Author.Needs.{needs}
 use Rattle.lines.proofs.one_len.Statement.{statement}

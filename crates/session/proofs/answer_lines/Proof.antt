@@ -9,7 +9,7 @@ use lib.ListN.{length}
 use borrow.Author.Tests.{ltb-true}
 use Rattle.text.proofs.Puts.{put-same}
 use Rattle.lines.specs.declared.Found.{Found}
-use Rattle.lines.specs.Field.{foundAt}
+use Rattle.lines.specs.Way.{foundAt}
 use Rattle.session.specs.Pace.{Sofar}
 use Rattle.session.proofs.Runs.{sofar-none, sofar-opening, ran-sofar, ran-from, ran-halts}
 use borrow.Author.Needs.{needs}

@@ -1,7 +1,7 @@
 -- `session::finish` meets its contract: nothing, or a newline fed.
 -- Assumes nothing.
 use mathlib.Core.Path.{sym, _∙_}
-use Rattle.lines.specs.Kept.{held}
+use Rattle.lines.specs.Way.{held}
 use Rattle.session.proofs.Lasts.{lacking-one, run-none}
 use borrow.Author.Needs.{needs}
 use Rattle.session.proofs.finish.Statement.{statement}

@@ -3,7 +3,7 @@
 use borrow.Author.Tests.{le-leb, lt-leb}
 use mathlib.Core.Path.{ap}
 use Rattle.lines.specs.declared.Found.{Found}
-use Rattle.lines.specs.Field.{foundAt}
+use Rattle.lines.specs.Way.{foundAt}
 use Rattle.session.specs.Pace.{turnOf, goOn}
 use borrow.Author.Needs.{needs}
 use Rattle.session.proofs.take_line.Statement.{statement}
