@@ -9,7 +9,7 @@ use borrow.Author.Tests.{le-leb, lt-leb, ltb-true, ltb-false}
 use Rattle.lists.proofs.Split.{split}
 use Rattle.refusal.proofs.Laws.{said-refused}
 use Rattle.settings.specs.Faults.{Fault, SCD, OCD, OV, UV, OT}
-use Rattle.cells.specs.Ends.{highOf, spanOf}
+use Rattle.cells.specs.Way.{highOf, spanOf}
 use Rattle.cells.proofs.Ends.{every-within, all-below-release, all-above-release}
 use Rattle.board.specs.declared.Board.{Board}
 use Rattle.board.specs.declared.Readings.{Readings}

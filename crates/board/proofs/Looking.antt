@@ -7,7 +7,7 @@ use mathlib.Core.List.{List}
 use lib.Dec.{T as Holds, eqb}
 use Rattle.refusal.specs.Refusals.{numbered}
 use Rattle.refusal.specs.Said.{accepts, refuses, first}
-use Rattle.cells.specs.Ends.{spanOf}
+use Rattle.cells.specs.Way.{spanOf}
 use Rattle.board.specs.declared.Board.{Board}
 use Rattle.board.specs.declared.Readings.{Readings}
 use Rattle.board.specs.declared.Answer.{Answer}

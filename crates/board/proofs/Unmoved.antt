@@ -15,8 +15,7 @@ use Rattle.settings.specs.Faults.{SCD, OCD, delay}
 use Rattle.runs.specs.Kept.{runNext, stood}
 use Rattle.lists.specs.Marks.{number}
 use Rattle.cells.specs.declared.Swept.{Swept}
-use Rattle.cells.specs.Ends.{spanOf}
-use Rattle.cells.specs.Cells.{calmOf}
+use Rattle.cells.specs.Way.{spanOf, calmOf}
 use Rattle.cells.proofs.Stays.{calm-readable, calm-sweep}
 use Rattle.latches.specs.Latches.{latches, latchesByte, register0}
 use Rattle.board.specs.declared.Board.{Board}

@@ -12,8 +12,7 @@ use Rattle.settings.specs.Levels.{ovRelease, uvRelease, ocdLevel, scdLevel}
 use Rattle.settings.specs.Faults.{Fault, SCD, OCD, OV, UV, OT}
 use Rattle.cells.specs.declared.Span.{Span}
 use Rattle.cells.specs.declared.Swept.{Swept}
-use Rattle.cells.specs.Ends.{spanOf}
-use Rattle.cells.specs.Cells.{calmOf}
+use Rattle.cells.specs.Way.{spanOf, calmOf}
 use Rattle.latches.specs.declared.Latches.{Latches}
 use Rattle.latches.specs.Latches.{latch, latches, latchNext, latchesOf, register0}
 use Rattle.board.specs.declared.Board.{Board}

@@ -13,7 +13,8 @@ use lib.Seq.{drop-cons}
 use lib.Pow.{pow-mono}
 use Rattle.lists.specs.Marks.{number, marked, marks}
 use Rattle.lists.proofs.Marks.{marks-length, marks-at, number-below}
-use Rattle.cells.specs.Bleed.{next, bled, markNext}
+use Rattle.cells.specs.Bleed.{next, bled}
+use Rattle.cells.specs.Way.{markNext}
 
 -- a cell below others, and the number with it
 pub mark-turn : (b : Bool) (above : List Bool) → markNext b (number above) ≡ number (b ∷ above)

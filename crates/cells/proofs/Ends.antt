@@ -15,7 +15,7 @@ use Rattle.lists.proofs.Split.{split}
 use Rattle.settings.specs.declared.Settings.{Settings}
 use Rattle.settings.specs.Levels.{ovRelease, uvRelease}
 use Rattle.settings.proofs.Laws.{ov-hysteresis-within}
-use Rattle.cells.specs.Ends.{lowOf, highOf, spanOf}
+use Rattle.cells.specs.Way.{lowOf, highOf, spanOf}
 
 -- ---- of two
 both-below : (n a b : ℕ) → (ltb a n && ltb b n) ≡ ltb (max a b) n

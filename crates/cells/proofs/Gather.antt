@@ -14,8 +14,9 @@ use Rattle.lists.specs.Marks.{number, marked, marks}
 use Rattle.lists.proofs.Marks.{number-below, marks-number}
 use Rattle.cells.specs.declared.Cell.{Cell}
 use Rattle.lists.specs.Each.{each}
-use Rattle.cells.specs.Bleed.{bled, markNext}
-use Rattle.cells.specs.Cells.{cellBy, cellAt, readingAt, cellCount, flagAt, Limits, nextAt, ovStoodAt, uvStoodAt, flaggedAt, sweepBy}
+use Rattle.cells.specs.Bleed.{bled}
+use Rattle.cells.specs.Cells.{cellBy, cellAt, readingAt, cellCount, Limits, nextAt, ovStoodAt, uvStoodAt, flaggedAt, sweepBy}
+use Rattle.cells.specs.Way.{markNext, flagAt}
 use Rattle.lists.proofs.Each.{each-length, each-down, each-none, each-same, set-front}
 use Rattle.cells.proofs.Bleed.{mark-turn, below-ten}
 use Rattle.cells.proofs.Sets.{set-at}

@@ -12,7 +12,7 @@ use lib.Dec.{eqb}
 use Rattle.lists.specs.Marks.{number, marked, marks, lowest}
 use Rattle.lists.proofs.Marks.{without, number-at, number-marks, or-turn, without-turn, lowest-zero}
 use Rattle.lists.specs.Each.{each, some}
-use Rattle.cells.specs.Cells.{flagAt}
+use Rattle.cells.specs.Way.{flagAt}
 use Rattle.lists.proofs.Each.{each-length, each-place}
 
 module _ (f g : ℕ → Bool) where

@@ -1,7 +1,6 @@
 -- Which cells are bled (01, Bleeding).
 -- Assumes nothing.
-use Prim.Native.Nat.{ℕ, _+_, _*_}
-use mathlib.Core.Bool.{Bool, false, cond, not, _&&_}
+use mathlib.Core.Bool.{Bool, false, not, _&&_}
 use mathlib.Core.List.{List, [], _∷_}
 
 -- the next higher cell, where there is one
@@ -13,7 +12,3 @@ next (b ∷ higher) = b
 unfoldable pub bled : List Bool → List Bool
 bled [] = []
 bled (flagged ∷ higher) = (flagged && not (next (bled higher))) ∷ bled higher
-
--- a number of cells with one more below them: that one is worth 1, and the others move up
-abbrev pub markNext : Bool → ℕ → ℕ
-markNext marked above = cond marked (2 * above + 1) (2 * above)

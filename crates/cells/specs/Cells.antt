@@ -3,15 +3,14 @@
 use Prim.Native.Nat.{ℕ, min}
 use mathlib.Core.Bool.{Bool, not, _&&_, _||_}
 use mathlib.Core.List.{List, _++_}
-use lib.Dec.{ltb, leb, eqb}
+use lib.Dec.{ltb, leb}
 use lib.ListN.{length, getD, drop, replicate}
 use Rattle.lists.specs.Every.{every}
 use Rattle.settings.specs.declared.Settings.{Settings}
-use Rattle.settings.specs.Levels.{ovLevel, ovRelease, ovDelay, uvLevel, uvRelease, uvDelay}
+use Rattle.settings.specs.Levels.{ovLevel, ovRelease, ovDelay, uvLevel, uvDelay}
 use Rattle.runs.specs.Kept.{runNext, stood}
 use Rattle.lists.specs.Marks.{number, marked}
 use Rattle.cells.specs.declared.Cell.{Cell}
-use Rattle.cells.specs.declared.Span.{Span}
 use Rattle.cells.specs.declared.Swept.{Swept}
 use Rattle.lists.specs.Each.{each}
 use Rattle.cells.specs.Bleed.{bled}
@@ -41,10 +40,6 @@ readingAt mv k = getD mv k 0
 -- a board has 10 cells at most
 abbrev pub cellCount : List ℕ → ℕ
 cellCount mv = min (length mv) 10
-
--- the cell at a place is flagged, from the numbers of the cells whose OV run has stood, of those that read low and of those flagged before
-abbrev pub flagAt : ℕ → ℕ → ℕ → ℕ → Bool
-flagAt stands low flags k = marked stands k || (marked flags k && not (marked low k))
 
 -- what the cells are held against, from the settings
 pub record Limits : Type 0 where
@@ -93,13 +88,3 @@ noCells = replicate 10 (record { ov = 0; uv = 0 })
 -- no cell reads above 5,000 mV
 abbrev pub readable : List ℕ → Bool
 readable mv = every (λ v. leb v 5000) mv
-
--- nothing is the matter with the ten cells that a board keeps, nor was before: no run, and the lowest and the highest where UV and OV let go
-abbrev pub noRun : Cell → Bool
-noRun c = eqb (c .ov) 0 && eqb (c .uv) 0
-
-abbrev pub noRuns : List Cell → Bool
-noRuns cells = every noRun cells
-
-unfoldable pub calmOf : Settings → List Cell → Span → Bool
-calmOf s cells span = eqb (length cells) 10 && (noRuns cells && (ltb (uvRelease s) (span .low) && ltb (span .high) (ovRelease s)))

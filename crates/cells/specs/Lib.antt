@@ -1,3 +1,3 @@
 pub mod Bleed
-pub mod Ends
 pub mod Cells
+pub mod Way

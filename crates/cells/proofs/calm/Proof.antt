@@ -2,7 +2,7 @@ use mathlib.Core.Path.{_≡_}
 use lib.ListN.{length}
 use borrow.Author.Tests.{eq-eqb}
 use borrow.Author.Needs.{needs}
-use Rattle.cells.specs.Cells.{calmOf}
+use Rattle.cells.specs.Way.{calmOf}
 use Rattle.cells.proofs.calm.Statement.{statement}
 use Rattle.cells.proofs.calm.Tie as tie
 

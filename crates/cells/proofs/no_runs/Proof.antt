@@ -5,7 +5,7 @@ use Prim.Native.Nat.{_≤_, _-_}
 use mathlib.Core.Bool.{_&&_}
 use lib.ListN.{length, drop}
 use borrow.Author.Needs.{needs}
-use Rattle.cells.specs.Cells.{noRun, noRuns}
+use Rattle.cells.specs.Way.{noRun, noRuns}
 use Rattle.cells.proofs.no_runs.Statement.{statement}
 use Rattle.cells.proofs.no_runs.Tie as tie
 
