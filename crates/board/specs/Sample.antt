@@ -3,8 +3,9 @@
 use Prim.Native.Nat.{ℕ}
 use mathlib.Core.Bool.{Bool, cond, not, _&&_, _||_}
 use mathlib.Core.List.{List, [], _∷_}
-use lib.Dec.{ltb, eqb}
+use lib.Dec.{eqb}
 use lib.ListN.{length}
+use Rattle.lists.specs.Compare.{_above_, _below_}
 use Rattle.refusal.specs.Refusals.{numberOf, numbered}
 use Rattle.refusal.specs.Said.{Said, refuses, accepts, value, Bar, bar, judged, kept}
 use Rattle.lists.specs.Every.{every}
@@ -48,7 +49,7 @@ currentsNext s runs x =
 
 -- overtemperature: the thermistor below 975 mV
 abbrev pub hot : Readings → Bool
-hot x = ltb (x .thermistor) 975
+hot x = x .thermistor below 975
 
 -- 1 attached, 0 not
 abbrev pub attached : Readings → Bool
@@ -67,8 +68,8 @@ module _ (s : Settings) (swept : Swept) (runs : Currents) (x : Readings) where
   abbrev pub letsGo : List ℕ → Fault → Bool
   letsGo mv SCD = not (attached x) && not (shuntAbove (scdLevel s) (x .shunt))
   letsGo mv OCD = not (attached x) && not (shuntAbove (ocdLevel s) (x .shunt))
-  letsGo mv OV = every (λ v. ltb v (ovRelease s)) mv
-  letsGo mv UV = every (λ v. ltb (uvRelease s) v) mv
+  letsGo mv OV = every (λ v. v below ovRelease s) mv
+  letsGo mv UV = every (λ v. v above uvRelease s) mv
   letsGo mv OT = not (hot x)
 
   unfoldable pub latchesNext : List ℕ → Latches → Latches
@@ -113,10 +114,10 @@ abbrev pub answerSaying : Said → Answer
 answerSaying s = cond (eqb (s .number) 0) (Sampled (value 0 s) (value 1 s)) (Refused (numbered (s .number)))
 
 abbrev pub outside : ℕ → ℕ → ℕ → Bool
-outside low high n = ltb n low || ltb high n
+outside low high n = n below low || n above high
 
 abbrev pub outOfRange : Readings → List ℕ → Bool
-outOfRange x mv = not (readable mv) || ltb 5000 (x .thermistor) || shuntOutside (x .shunt) || ltb 1 (x .load)
+outOfRange x mv = not (readable mv) || x .thermistor above 5000 || shuntOutside (x .shunt) || x .load above 1
 
 -- a board without 5 to 10 cells
 abbrev pub badBoard : Board → Bool

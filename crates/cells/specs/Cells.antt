@@ -3,8 +3,8 @@
 use Prim.Native.Nat.{ℕ, min}
 use mathlib.Core.Bool.{Bool, not, _&&_, _||_}
 use mathlib.Core.List.{List, _++_}
-use lib.Dec.{ltb, leb}
 use lib.ListN.{length, getD, drop, replicate}
+use Rattle.lists.specs.Compare.{_above_, _below_, _atOrBelow_}
 use Rattle.lists.specs.Every.{every}
 use Rattle.settings.specs.declared.Settings.{Settings}
 use Rattle.settings.specs.Levels.{ovLevel, ovRelease, ovDelay, uvLevel, uvDelay}
@@ -17,14 +17,14 @@ use Rattle.cells.specs.Bleed.{bled}
 
 -- OV is a cell above its level, UV a cell below its level; a cell keeps a run of each
 unfoldable pub cellBy : ℕ → ℕ → ℕ → Cell → ℕ → Cell
-cellBy ov uv elapsed c mv = record { ov = runNext (c .ov) (ltb ov mv) elapsed; uv = runNext (c .uv) (ltb mv uv) elapsed }
+cellBy ov uv elapsed c mv = record { ov = runNext (c .ov) (mv above ov) elapsed; uv = runNext (c .uv) (mv below uv) elapsed }
 
 abbrev pub cellNext : Settings → ℕ → Cell → ℕ → Cell
 cellNext s elapsed c mv = cellBy (ovLevel s) (uvLevel s) elapsed c mv
 
 -- a cell is flagged when its OV run has stood the delay, and loses its flag when it reads lower than OV level less hysteresis
 abbrev pub flagBy : ℕ → Bool → Bool → ℕ → Bool
-flagBy release stands flagged mv = stands || (flagged && not (ltb mv release))
+flagBy release stands flagged mv = stands || (flagged && not (mv below release))
 
 abbrev pub flagNext : Settings → Bool → Bool → ℕ → Bool
 flagNext s stands flagged mv = flagBy (ovRelease s) stands flagged mv
@@ -87,4 +87,4 @@ noCells = replicate 10 (record { ov = 0; uv = 0 })
 
 -- no cell reads above 5,000 mV
 abbrev pub readable : List ℕ → Bool
-readable mv = every (λ v. leb v 5000) mv
+readable mv = every (λ v. v atOrBelow 5000) mv

@@ -4,8 +4,9 @@ use Prim.Native.Nat.{ℕ, _+_}
 use mathlib.Core.Bool.{Bool, false, cond, not, _&&_}
 use mathlib.Core.List.{List, [], _∷_, _++_}
 use mathlib.Core.Option.{Option}
-use lib.Dec.{leb, ltb, eqb}
+use lib.Dec.{eqb}
 use lib.ListN.{drop}
+use Rattle.lists.specs.Compare.{_above_, _below_, _atOrAbove_, _atOrBelow_}
 use Rattle.settings.specs.declared.Settings.{Settings}
 use Rattle.settings.specs.Levels.{factory, ovLevel, ovRelease, uvLevel, uvRelease, ocdLevel, scdLevel}
 use Rattle.settings.specs.Bytes.{withByte, same}
@@ -37,7 +38,7 @@ History = List Entry
 -- a write to registers 6 to 10 stages
 abbrev pub stages : Entry → Bool
 stages (sampled x mv) = false
-stages (framed address register v) = writes address && (leb 6 register && leb register 10)
+stages (framed address register v) = writes address && (register atOrAbove 6 && register atOrBelow 10)
 
 -- a write to register 11 programs
 abbrev pub programming : Entry → Bool
@@ -87,8 +88,8 @@ since (framed address register v ∷ h) = cond (spends (framed address register 
 abbrev pub holds : Fault → Settings → ℕ → Sample → Bool
 holds SCD s k x = shuntAbove (scdLevel s) (x .readings .shunt)
 holds OCD s k x = shuntAbove (ocdLevel s) (x .readings .shunt)
-holds OV s k x = ltb (ovLevel s) (readingAt (x .cells) k)
-holds UV s k x = ltb (readingAt (x .cells) k) (uvLevel s)
+holds OV s k x = readingAt (x .cells) k above ovLevel s
+holds UV s k x = readingAt (x .cells) k below uvLevel s
 holds OT s k x = hot (x .readings)
 
 -- the run of a condition at the newest sample; a spent cycle starts every run over, so the settings of a stretch are those that work now
@@ -115,8 +116,8 @@ stands n f h = some (each 0 (places f n) (λ k. stoodDelay f k h))
 abbrev pub letsGo : ℕ → Fault → Settings → Sample → Bool
 letsGo n SCD s x = not (attached (x .readings)) && not (shuntAbove (scdLevel s) (x .readings .shunt))
 letsGo n OCD s x = not (attached (x .readings)) && not (shuntAbove (ocdLevel s) (x .readings .shunt))
-letsGo n OV s x = all (each 0 n (λ k. ltb (readingAt (x .cells) k) (ovRelease s)))
-letsGo n UV s x = all (each 0 n (λ k. ltb (uvRelease s) (readingAt (x .cells) k)))
+letsGo n OV s x = all (each 0 n (λ k. readingAt (x .cells) k below ovRelease s))
+letsGo n UV s x = all (each 0 n (λ k. readingAt (x .cells) k above uvRelease s))
 letsGo n OT s x = not (hot (x .readings))
 
 -- at each accepted sample an unlatched fault latches exactly if it stands, and a latched one unlatches exactly if it lets go; frames leave it

@@ -3,8 +3,9 @@
 use Prim.Native.Nat.{ℕ, _/_, _%_}
 use mathlib.Core.Bool.{Bool, not}
 use mathlib.Core.List.{List, [], _∷_}
-use lib.Dec.{ltb, eqb}
+use lib.Dec.{eqb}
 use lib.ListN.{length, getD}
+use Rattle.lists.specs.Compare.{_below_}
 use Rattle.refusal.specs.Said.{Bar, bar}
 use Rattle.frame.specs.Check.{checkOf}
 
@@ -23,6 +24,6 @@ writes address = eqb (address % 2) 1
 abbrev pub frameBars : List ℕ → ℕ → List Bar
 frameBars frame room =
     bar 6 (not (eqb (length frame) 4))
-    ∷ bar 7 (ltb room 4)
+    ∷ bar 7 (room below 4)
     ∷ bar 8 (not (eqb (byte frame 3) (checkOf (byte frame 0 ∷ byte frame 1 ∷ byte frame 2 ∷ []))))
     ∷ []

@@ -1,3 +1,4 @@
+pub mod Compare
 pub mod Every
 pub mod Each
 pub mod Marks

@@ -4,7 +4,7 @@ use Prim.Native.Nat.{ℕ, _+_}
 use mathlib.Core.Bool.{Bool, false, cond}
 use mathlib.Core.List.{List, [], _∷_, dropLast}
 use mathlib.Core.Option.{Option, some, none}
-use lib.Dec.{leb}
+use Rattle.lists.specs.Compare.{_atOrAbove_}
 
 -- the unbroken stretch of samples on which the condition holds, ending at the newest
 abbrev pub stretch : {X : Type 0} → (X → Bool) → List X → List X
@@ -28,4 +28,4 @@ run elapsed holds samples = lasting elapsed (stretch holds samples)
 -- the condition has stood its delay when its run is at or past the delay
 abbrev pub past : ℕ → Option ℕ → Bool
 past delay none = false
-past delay (some t) = leb delay t
+past delay (some t) = t atOrAbove delay
