@@ -13,7 +13,6 @@ pub mod OverRow
 pub mod Through
 pub mod Beside
 pub mod BesideTwo
-pub mod Looked
 pub mod Every
 pub mod Fold
 pub mod Sought

@@ -17,7 +17,8 @@
 //                 let at = look; if at < row.len() { piece } piece        at-place, of a `&mut [T]` that is the first parameter
 //                 f(&mut row[at], x, ..)            lends-at: its answer is returned
 //
-// crates/stack/proofs has set_board (a branch by what is asked), program_board (by the record), sample_stack (by the row), sample_at (a place in a row) and sample_board (a look first).
+// crates/registers has obey_board (branches by what is asked) and program_board (by the record), crates/stack sample_stack (by the row) and sample_at (a place in a row), and crates/board
+// sample_board (a look first).
 //
 // Else it is one of the shapes below, each in proofs/NAME.antt, statement for statement, and is proved by a file that fills in the records Shape and Knows of its theorem and cites `meets`.
 // crates/stack, crates/held and crates/session have functions of these shapes with that file, and proofs/Known.antt with what is to be known of the crate's own types.
@@ -33,9 +34,6 @@
 //                 f: r ≡ F b x cells            g: (r ≡ F b x cells .answer) × (b' ≡ F b x cells .board)
 // BesideTwo       fn g(b: &mut T, x: X, z: Z, cells: &[E]) -> O { let s = f(*b, x, z, cells); *b = s.board; s.answer }
 //                 f: r ≡ F b x z cells          g: (r ≡ F b x z cells .answer) × (b' ≡ F b x z cells .board)
-// Looked          fn g(b: &mut T, x: X, cells: &[E]) -> O { let d = look(*b, x, cells); if done(d) { return told(d); } let z = part(d); if calm(d) { return f(b, x, z, cells); } h(b, x, z, cells) }
-//                 look: r ≡ F b x cells         done: r ≡ is-done d      told: r ≡ tells d   part: r ≡ part-of d     calm: r ≡ is-calm d
-//                 f and h as g of BesideTwo     g: (r ≡ A b x cells) × (b' ≡ C b x cells)
 // Every           fn g(row: &[T]) -> bool { if f0(row.len()) { return false; } let mut i = 0; while i < row.len() { if f(row[i]) { return false; } i += 1; } true }
 //                 f0: r ≡ bad-count n           f: r ≡ bad b             g: r ≡ A row
 // Fold            fn g(row: &[T]) -> B { let mut acc = init(); let mut i = 0; while i < row.len() { acc = f(acc, i, row[i]); i += 1; } acc }
@@ -54,8 +52,8 @@
 //                 requires n ≤ N                f as g of Framed         g: (r ≡ A boards n bytes reply) × (reply' ≡ C boards n bytes reply)
 // LendsShared     fn g(boards: [T; N], n: usize) -> O { f(&boards[..n]) }
 //                 requires n ≤ N                f: r ≡ F row             g: r ≡ A boards n
-// Lined           fn g(row: &mut [T], s: S, block: &[E], out: &mut [G]) -> O { let d = f1(s, block); let y = f2(row, d); f3(out, d, y) }
-//                 f1: r ≡ P s block             f2: (r ≡ A2 row d) × (row' ≡ R2 row d)   f3: (r ≡ A3 out d y) × (out' ≡ C3 out d y)
+// Lined           fn g(row: &mut [T], s: S, block: &[E], out: &mut [G]) -> O { let d = f1(s, block); let z = part(d); let y = f2(row, z); f3(out, d, y) }
+//                 f1: r ≡ P s block             part: r ≡ part-of d      f2: (r ≡ A2 row z) × (row' ≡ R2 row z)   f3: (r ≡ A3 out d y) × (out' ≡ C3 out d y)
 //                 g: (r ≡ A row s block out) × ((row' ≡ R row s block out) × (out' ≡ C row s block out))
 // Turning         fn g(row: &mut [T], s: S, block: &[E], out: &mut [G]) -> S { let mut st = s; while more(st) { st = f(row, st, block, out); } st }
 //                 more: r ≡ m st                f as g of Lined, with S for O                  g as f
