@@ -4,3 +4,4 @@ pub mod TellsRow
 pub mod TellsOne
 pub mod TellsBeside
 pub mod Laws
+pub mod Contracts
