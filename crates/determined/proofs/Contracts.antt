@@ -1,32 +1,8 @@
--- What every public contract determines: any two outcomes that it allows are equal.
--- A function that takes and gives plain values, or reads a slice, is cited with what its callers learn from its contract (`Learnt`): its result is determined.
--- One that writes into what it was lent is stated with its contract's own equations: its result and every value at exit are.
+-- What every public contract determines, of the functions that take and give plain values or read a slice of numbers: the result.
+-- Each is cited with what its callers learn from its contract (`Learnt`). Those that change what they are lent stand in Lent.
 -- Assumes nothing.
-use Prim.Native.Nat.{ℕ}
-use mathlib.Core.Path.{_≡_, sym, _∙_}
-use mathlib.Core.List.{List}
-use Rattle.determined.specs.Determined.{Determined}
-use Rattle.board.specs.declared.Board.{Board}
-use Rattle.board.specs.declared.Readings.{Readings}
-use Rattle.board.specs.declared.Answer.{Answer}
-use Rattle.board.specs.Sample.{sampleOf}
-use Rattle.frame.specs.declared.Taken.{Taken}
-use Rattle.frame.specs.declared.Outcome.{Outcome}
-use Rattle.frame.specs.declared.Request.{Request}
-use Rattle.registers.specs.Registers.{obeyedOf}
-use Rattle.frame.specs.declared.Reply.{Reply}
-use Rattle.frame.specs.Way.{replyOf, bufferWith}
-use Rattle.stack.specs.Sample.{sampleAnswer, sampleRow}
-use Rattle.stack.specs.Frame.{frameAnswer, frameRow, frameBuffer}
-use Rattle.stack.specs.declared.View.{View}
-use Rattle.stack.specs.Read.{readingOf}
-use Rattle.acts.specs.declared.Act.{Act}
-use Rattle.acts.specs.declared.Told.{Told}
-use Rattle.acts.specs.Acts.{actTold, actRow}
-use Rattle.adomvik.specs.declared.Sampled.{Sampled}
-use Rattle.adomvik.specs.declared.Reading.{Reading}
-use Rattle.stack.specs.Open.{openAnswer, openRow}
-use Rattle.adomvik.specs.Acts.{openNumber, sampleNumber, sampleOut, boardNumber, boardOut, frameNumber, readNumber, readOut}
+use mathlib.Core.Path.{_≡_}
+use Rattle.determined.proofs.Lent.{agree}
 use Rattle.refusal.proofs.number.Reads as refusal-number
 use Rattle.settings.proofs.Settings.ov_level.Reads as settings-ov-level
 use Rattle.settings.proofs.Settings.ov_hysteresis.Reads as settings-ov-hysteresis
@@ -83,21 +59,6 @@ use Rattle.lines.proofs.emptied.Reads as lines-emptied
 use Rattle.lines.proofs.kept_len.Reads as lines-kept-len
 use Rattle.lines.proofs.line_end.Reads as lines-line-end
 use Rattle.lines.proofs.keep.Reads as lines-keep
-use Rattle.text.proofs.put_told.Reads as text-put-told
-use Rattle.held.proofs.frame_held.Reads as held-frame-held
-
--- two results that are the same value; two outcomes of a result and one value at exit; and of two values at exit
-agree : {A : Type 0} {v r t : A} → r ≡ v → t ≡ v → r ≡ t
-agree p q = p ∙ sym q
-
-one : {A : Type 0} (v : A) → Determined (λ (r : A). r ≡ v)
-one v r t p q = agree p q
-
-two : {A B : Type 0} (v : A) (w : B) → Determined (λ (o : A × B). (o .0 ≡ v) × (o .1 ≡ w))
-two v w o p a b = λ i. (agree (a .0) (b .0) i, agree (a .1) (b .1) i)
-
-three : {A B C : Type 0} (v : A) (w : B) (x : C) → Determined (λ (o : A × (B × C)). (o .0 ≡ v) × ((o .1 .0 ≡ w) × (o .1 .1 ≡ x)))
-three v w x o p a b = λ i. (agree (a .0) (b .0) i, (agree (a .1 .0) (b .1 .0) i, agree (a .1 .1) (b .1 .1) i))
 
 -- ---- refusal
 pub refusal-number-one : (κs : _) (a : _) (r t : _) (s u : _) → refusal-number.Learnt κs a r s → refusal-number.Learnt κs a t u → r ≡ t
@@ -278,57 +239,3 @@ lines-line-end-one κs a r t s u = agree
 
 pub lines-keep-one : (κs : _) (a : _) (r t : _) (s u : _) → lines-keep.Learnt κs a r s → lines-keep.Learnt κs a t u → r ≡ t
 lines-keep-one κs a r t s u p q = agree (p .whole) (q .whole)
-
-pub text-put-told-one : (κs : _) (a : _) (r t : _) (s u : _) → text-put-told.Learnt κs a r s → text-put-told.Learnt κs a t u → r ≡ t
-text-put-told-one κs a r t s u p q = agree (p .after) (q .after)
-
-pub held-frame-held-one : (κs : _) (a : _) (r t : _) (s u : _) → held-frame-held.Learnt κs a r s → held-frame-held.Learnt κs a t u → r ≡ t
-held-frame-held-one κs a r t s u p q = agree (p .0) (q .0)
-
--- ---- what writes into what it was lent
--- the result, and the buffer
-pub frame-put-two : (buffer : List ℕ) (t : Taken) (made : Outcome) → Determined (λ (o : Reply × List ℕ). (o .0 ≡ replyOf t made) × (o .1 ≡ bufferWith buffer (replyOf t made)))
-frame-put-two buffer t made = two (replyOf t made) (bufferWith buffer (replyOf t made))
-
--- the answer, and the record
-pub board-sample-board-two : (b : Board) (x : Readings) (mv : List ℕ) → Determined (λ (o : Answer × Board). (o .0 ≡ sampleOf b x mv .answer) × (o .1 ≡ sampleOf b x mv .board))
-board-sample-board-two b x mv = two (sampleOf b x mv .answer) (sampleOf b x mv .board)
-
--- the outcome, and the record
-pub registers-obey-board-two : (b : Board) (asked : Request) → Determined (λ (o : Outcome × Board). (o .0 ≡ obeyedOf b asked .outcome) × (o .1 ≡ obeyedOf b asked .board))
-registers-obey-board-two b asked = two (obeyedOf b asked .outcome) (obeyedOf b asked .board)
-
--- the answer, and the row
-pub stack-sample-stack-two : (row : List Board) (n : ℕ) (x : Readings) (mv : List ℕ) → Determined (λ (o : Answer × List Board). (o .0 ≡ sampleAnswer row n x mv) × (o .1 ≡ sampleRow row n x mv))
-stack-sample-stack-two row n x mv = two (sampleAnswer row n x mv) (sampleRow row n x mv)
-
-pub acts-act-row-two : (row : List Board) (a : Act) → Determined (λ (o : Told × List Board). (o .0 ≡ actTold row a) × (o .1 ≡ actRow row a))
-acts-act-row-two row a = two (actTold row a) (actRow row a)
-
--- the answer, the row and the buffer
-pub stack-frame-stack-three : (row : List Board) (bytes buffer : List ℕ)
-    → Determined (λ (o : Reply × (List Board × List ℕ)). (o .0 ≡ frameAnswer row bytes buffer) × ((o .1 .0 ≡ frameRow row bytes buffer) × (o .1 .1 ≡ frameBuffer row bytes buffer)))
-stack-frame-stack-three row bytes buffer = three (frameAnswer row bytes buffer) (frameRow row bytes buffer) (frameBuffer row bytes buffer)
-
--- the answer; the row is only read
-pub stack-read-stack-one : (row : List Board) → Determined (λ (v : View). v ≡ readingOf row)
-stack-read-stack-one row = one (readingOf row)
-
--- ---- the library for C: the number, then what was lent
-pub adomvik-open-two : (row : List Board) (counts : List ℕ) → Determined (λ (o : ℕ × List Board). (o .0 ≡ openNumber row counts) × (o .1 ≡ openRow row counts))
-adomvik-open-two row counts = two (openNumber row counts) (openRow row counts)
-
-pub adomvik-sample-three : (row : List Board) (n : ℕ) (x : Readings) (mv : List ℕ) (out : Sampled)
-    → Determined (λ (o : ℕ × (List Board × Sampled)). (o .0 ≡ sampleNumber row n x mv) × ((o .1 .0 ≡ sampleRow row n x mv) × (o .1 .1 ≡ sampleOut row n x mv out)))
-adomvik-sample-three row n x mv out = three (sampleNumber row n x mv) (sampleRow row n x mv) (sampleOut row n x mv out)
-
-pub adomvik-sample-board-three : (b : Board) (x : Readings) (mv : List ℕ) (out : Sampled)
-    → Determined (λ (o : ℕ × (Board × Sampled)). (o .0 ≡ boardNumber b x mv) × ((o .1 .0 ≡ sampleOf b x mv .board) × (o .1 .1 ≡ boardOut b x mv out)))
-adomvik-sample-board-three b x mv out = three (boardNumber b x mv) (sampleOf b x mv .board) (boardOut b x mv out)
-
-pub adomvik-frame-three : (row : List Board) (bytes buffer : List ℕ)
-    → Determined (λ (o : ℕ × (List Board × List ℕ)). (o .0 ≡ frameNumber row bytes buffer) × ((o .1 .0 ≡ frameRow row bytes buffer) × (o .1 .1 ≡ frameBuffer row bytes buffer)))
-adomvik-frame-three row bytes buffer = three (frameNumber row bytes buffer) (frameRow row bytes buffer) (frameBuffer row bytes buffer)
-
-pub adomvik-read-two : (row : List Board) (out : Reading) → Determined (λ (o : ℕ × Reading). (o .0 ≡ readNumber row) × (o .1 ≡ readOut row out))
-adomvik-read-two row out = two (readNumber row) (readOut row out)

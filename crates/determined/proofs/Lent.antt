@@ -1,0 +1,160 @@
+-- What is determined of each public function that changes what it is lent, or walks a lent row: the result and every value at exit.
+-- Each is cited by its whole contract; that of a routine of stack or of an act for C is the form that its own crate shows it to be.
+-- Assumes nothing.
+use Prim.Native.Nat.{ℕ}
+use mathlib.Core.Path.{_≡_, refl, sym, _∙_}
+use mathlib.Core.List.{List, [], _∷_}
+use lib.ListN.{length}
+use contract.Lifetimes.{Lfts}
+use denote.RattleType.{RattleType}
+use denote.Builtin.{u8, u32, usize}
+use denote.Ref.{now}
+use Rattle.walks.proofs.Form.{Kind, value, shown, handed, behind, Form, Passed}
+use Rattle.walks.proofs.Callee.{on-one, on-record, on-row, of-slice}
+use Rattle.determined.specs.Determined.{Lent, AtExit, lentAt, Takes, Also, gives, Determined}
+use Rattle.board.specs.Sample.{sampleOf}
+use Rattle.frame.specs.Reply.{replyOf, putOf}
+use Rattle.registers.specs.Registers.{obeyedOf}
+use Rattle.reading.specs.Way.{readRow}
+use Rattle.stack.specs.Open.{openAnswer, openRow}
+use Rattle.stack.specs.Sample.{sampleAnswer, sampleRow}
+use Rattle.stack.specs.Frame.{frameAnswer, frameRow, frameBuffer}
+use Rattle.stack.specs.Read.{readingOf}
+use Rattle.adomvik.specs.Acts.{openNumber, sampleNumber, sampleOut, boardNumber, boardOut, frameNumber, readNumber, readOut}
+use Rattle.held.specs.Held.{framedOf, framedBuffer}
+use Rattle.acts.specs.Acts.{actTold, actRow}
+use Rattle.text.specs.Text.{placed, Put}
+use Rattle.board.proofs.Board as Board
+use Rattle.board.proofs.Readings as Readings
+use Rattle.board.proofs.Answer as Answer
+use Rattle.frame.proofs.Taken as Frame-taken
+use Rattle.frame.proofs.Outcome as Frame-outcome
+use Rattle.frame.proofs.Request as Request
+use Rattle.frame.proofs.Reply as Reply
+use Rattle.reading.proofs.Whole as Whole
+use Rattle.held.proofs.Stack as Stack
+use Rattle.held.proofs.FramedStack as FramedStack
+use Rattle.acts.proofs.Act as Act
+use Rattle.acts.proofs.Told as Told
+use Rattle.stack.proofs.Contracts as stack
+use Rattle.adomvik.proofs.Contracts as adomvik
+use Rattle.frame.proofs.put as frame-put
+use Rattle.board.proofs.sample_board as sample-board
+use Rattle.registers.proofs.obey_board as obey-board
+use Rattle.reading.proofs.read_row as read-row
+use Rattle.stack.proofs.open_row as open-row
+use Rattle.stack.proofs.sample_stack as sample-stack
+use Rattle.stack.proofs.frame_stack as frame-stack
+use Rattle.stack.proofs.read_stack as read-stack
+use Rattle.adomvik.proofs.adomvik_open as adomvik-open
+use Rattle.adomvik.proofs.adomvik_sample as adomvik-sample
+use Rattle.adomvik.proofs.adomvik_sample_board as adomvik-sample-board
+use Rattle.adomvik.proofs.adomvik_frame as adomvik-frame
+use Rattle.adomvik.proofs.adomvik_read as adomvik-read
+use Rattle.held.proofs.frame_held as frame-held
+use Rattle.acts.proofs.act_row as act-row
+use Rattle.text.proofs.put_told as put-told
+
+-- ---- equations determine
+
+pub agree : {A : Type 0} {v r t : A} → r ≡ v → t ≡ v → r ≡ t
+agree p q = p ∙ sym q
+
+module _ {n : ℕ} (κs : Lfts n) where
+  equal-lent : (ks : List (Kind n)) {P Q : Type 0} (w : Lent ks) (e u : AtExit κs ks) → Also κs ks P w e → Also κs ks Q w u → P × Q × (lentAt κs ks e ≡ lentAt κs ks u)
+  equal-lent [] w e u p q = (p, q, refl)
+  equal-lent (value R ∷ ks) w e u p q = equal-lent ks w (e .1) (u .1) p q
+  equal-lent (shown j ok R ∷ ks) w e u p q = equal-lent ks w (e .1) (u .1) p q
+  equal-lent (handed j ok R ∷ ks) w e u p q = let rest = equal-lent ks (w .1) (e .1) (u .1) (p .1) (q .1) in (p .0, q .0, λ i. (agree (rest .0) (rest .1) i, rest .2 i))
+  equal-lent (behind j ok R ∷ ks) w e u p q = let rest = equal-lent ks (w .1) (e .1) (u .1) (p .1) (q .1) in (p .0, q .0, λ i. (agree (rest .0) (rest .1) i, rest .2 i))
+
+by-equations : {n : ℕ} (ks : List (Kind n)) (O : RattleType) (result : Takes ks (O .Denot)) (lent : Takes ks (Lent ks)) (κs : Lfts n) (a : Passed κs ks) (r t : O .Denot) (e u : AtExit κs ks)
+    → gives ks O result lent .says-of κs a r e → gives ks O result lent .says-of κs a t u → (r ≡ t) × (lentAt κs ks e ≡ lentAt κs ks u)
+by-equations ks O result lent κs a r t e u p q = let both = equal-lent κs ks _ e u p q in (agree (both .0) (both .1), both .2)
+
+-- ---- the public library: open_row, sample_stack, frame_stack, read_stack
+
+pub open-row-one : Determined stack.openForm (λ M. open-row.spec {M = M})
+open-row-one = record { cited = λ M. stack.open-row-says {M = M}; one = by-equations (stack.openForm .params) (stack.openForm .result) openAnswer (λ row plans. (openRow row plans, tt)) }
+
+pub sample-stack-one : Determined stack.sampleForm (λ M. sample-stack.spec {M = M})
+sample-stack-one = record { cited = λ M. stack.sample-stack-says {M = M}; one = by-equations (stack.sampleForm .params) (stack.sampleForm .result) sampleAnswer (λ row n x mv. (sampleRow row n x mv, tt)) }
+
+pub frame-stack-one : Determined stack.frameForm (λ M. frame-stack.spec {M = M})
+frame-stack-one = record { cited = λ M. stack.frame-stack-says {M = M}; one = by-equations (stack.frameForm .params) (stack.frameForm .result) frameAnswer (λ row bytes buffer. (frameRow row bytes buffer, (frameBuffer row bytes buffer, tt))) }
+
+pub read-stack-one : Determined stack.readForm (λ M. read-stack.spec {M = M})
+read-stack-one = record { cited = λ M. stack.read-stack-says {M = M}; one = by-equations (stack.readForm .params) (stack.readForm .result) readingOf (λ row. tt) }
+
+-- ---- the acts for C
+
+pub adomvik-open-one : Determined adomvik.openForm (λ M. adomvik-open.spec {M = M})
+adomvik-open-one = record { cited = λ M. adomvik.open-says {M = M}; one = by-equations (adomvik.openForm .params) u8 openNumber (λ row counts. (openRow row counts, tt)) }
+
+pub adomvik-sample-one : Determined adomvik.sampleForm (λ M. adomvik-sample.spec {M = M})
+adomvik-sample-one = record { cited = λ M. adomvik.sample-says {M = M}; one = by-equations (adomvik.sampleForm .params) u8 (λ row n x mv out. sampleNumber row n x mv) (λ row n x mv out. (sampleRow row n x mv, (sampleOut row n x mv out, tt))) }
+
+pub adomvik-sample-board-one : Determined adomvik.boardForm (λ M. adomvik-sample-board.spec {M = M})
+adomvik-sample-board-one = record { cited = λ M. adomvik.sample-board-says {M = M}; one = by-equations (adomvik.boardForm .params) u8 (λ b x mv out. boardNumber b x mv) (λ b x mv out. (sampleOf b x mv .board, (boardOut b x mv out, tt))) }
+
+pub adomvik-frame-one : Determined adomvik.frameForm (λ M. adomvik-frame.spec {M = M})
+adomvik-frame-one = record { cited = λ M. adomvik.frame-says {M = M}; one = by-equations (adomvik.frameForm .params) u8 frameNumber (λ row bytes buffer. (frameRow row bytes buffer, (frameBuffer row bytes buffer, tt))) }
+
+pub adomvik-read-one : Determined adomvik.readForm (λ M. adomvik-read.spec {M = M})
+adomvik-read-one = record { cited = λ M. adomvik.read-says {M = M}; one = by-equations (adomvik.readForm .params) u8 (λ row out. readNumber row) (λ row out. (readOut row out, tt)) }
+
+-- ---- below and beside the library
+
+-- the reply, and the buffer
+abbrev putForm : Form
+putForm = gives {n = 1} (handed 0 tt u8 ∷ value Frame-taken.the-row ∷ value Frame-outcome.the-row ∷ []) Reply.the-row (λ buffer. replyOf) (λ buffer taken outcome. (putOf buffer (replyOf taken outcome), tt))
+
+pub frame-put-one : Determined putForm (λ M. frame-put.spec {M = M})
+frame-put-one = record { cited = λ M 𝓤 H A mem run. refl; one = by-equations (putForm .params) Reply.the-row (λ buffer. replyOf) (λ buffer taken outcome. (putOf buffer (replyOf taken outcome), tt)) }
+
+-- the answer, and the record
+abbrev sampleBoardForm : Form
+sampleBoardForm = on-record Answer.the-row Board.the-row Readings.the-row u32 (λ b x mv. sampleOf b x mv .answer) (λ b x mv. sampleOf b x mv .board)
+
+pub sample-board-one : Determined sampleBoardForm (λ M. sample-board.spec {M = M})
+sample-board-one = record { cited = λ M 𝓤 H A mem run. refl; one = by-equations (sampleBoardForm .params) Answer.the-row (λ b x mv. sampleOf b x mv .answer) (λ b x mv. (sampleOf b x mv .board, tt)) }
+
+-- the outcome, and the record
+abbrev obeyForm : Form
+obeyForm = on-one Frame-outcome.the-row Board.the-row Request.the-row (λ b asked. obeyedOf b asked .outcome) (λ b asked. obeyedOf b asked .board)
+
+pub obey-board-one : Determined obeyForm (λ M. obey-board.spec {M = M})
+obey-board-one = record { cited = λ M 𝓤 H A mem run. refl; one = by-equations (obeyForm .params) Frame-outcome.the-row (λ b asked. obeyedOf b asked .outcome) (λ b asked. (obeyedOf b asked .board, tt)) }
+
+-- the reading of a row, which is only read
+abbrev readRowForm : Form
+readRowForm = of-slice Whole.the-row Board.the-row readRow
+
+pub read-row-one : Determined readRowForm (λ M. read-row.spec {M = M})
+read-row-one = record { cited = λ M 𝓤 H A mem run. refl; one = by-equations (readRowForm .params) Whole.the-row readRow (λ row. tt) }
+
+-- what is told, and the row
+abbrev actForm : Form
+actForm = on-row Told.the-row Board.the-row Act.the-row actTold actRow
+
+pub act-row-one : Determined actForm (λ M. act-row.spec {M = M})
+act-row-one = record { cited = λ M 𝓤 H A mem run. refl; one = by-equations (actForm .params) Told.the-row actTold (λ row a. (actRow row a, tt)) }
+
+-- the stack with its answer, and the buffer
+abbrev frameHeldForm : Form
+frameHeldForm = gives {n = 2} (value Stack.the-row ∷ shown 0 tt u8 ∷ handed 1 tt u8 ∷ []) FramedStack.the-row framedOf (λ s bytes buffer. (framedBuffer s bytes buffer, tt))
+
+pub frame-held-one : Determined frameHeldForm (λ M. frame-held.spec {M = M})
+frame-held-one = record { cited = λ M 𝓤 H A mem run. refl; one = by-equations (frameHeldForm .params) FramedStack.the-row framedOf (λ s bytes buffer. (framedBuffer s bytes buffer, tt)) }
+
+-- the place after what is printed, and the buffer
+abbrev putToldForm : Form
+putToldForm = record {
+  lifetimes = 1;
+  params = handed 0 tt u8 ∷ value usize ∷ value Told.the-row ∷ [];
+  result = usize;
+  says-of = λ κs a r e. let out = now (a .0) in let at = a .1 .0 in Put at (placed (length out) at (a .1 .1 .0)) out (now (e .0)) r;
+}
+
+pub put-told-one : Determined putToldForm (λ M. put-told.spec {M = M})
+put-told-one = record { cited = λ M 𝓤 H A mem run. refl; one = λ κs a r t e u p q. (agree (p .after) (q .after), λ i. (agree (p .whole) (q .whole) i, tt)) }
