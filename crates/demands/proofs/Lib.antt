@@ -17,3 +17,4 @@ pub mod Mechanic
 pub mod Asked
 pub mod Refused
 pub mod Whole
+pub mod Face

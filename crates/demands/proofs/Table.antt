@@ -28,7 +28,7 @@ use Rattle.demands.proofs.Clear.{numbered}
 
 -- ---- the first row that holds, by its number; no row has number 0
 
-first-is : (rows : List Bar) (n : ℕ) → 0 < n → first rows ≡ n → FirstIs n rows
+pub first-is : (rows : List Bar) (n : ℕ) → 0 < n → first rows ≡ n → FirstIs n rows
 first-is [] n p e = absurd (omega arith)
 first-is (b ∷ rows) n p e = split (b .when) (λ h. inl (h, rw h at e)) (λ h. inr (h, first-is rows n p (rw h at e)))
 
@@ -37,7 +37,7 @@ is-first [] n f = absurd f
 is-first (b ∷ rows) n (inl (h, e)) = rw h e
 is-first (b ∷ rows) n (inr (h, f)) = rw h (is-first rows n f)
 
-none-is : (rows : List Bar) → numbered rows ≡ true → first rows ≡ 0 → NoneHolds rows
+pub none-is : (rows : List Bar) → numbered rows ≡ true → first rows ≡ 0 → NoneHolds rows
 none-is [] u e = tt
 none-is (b ∷ rows) u e =
     let m = both (not (eqb (b .number) 0)) (numbered rows) u in

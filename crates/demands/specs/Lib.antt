@@ -11,3 +11,4 @@ pub mod Turns
 pub mod Mechanic
 pub mod Refused
 pub mod Whole
+pub mod Face
