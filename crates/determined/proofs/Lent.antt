@@ -1,7 +1,7 @@
 -- What is determined of each public function that changes what it is lent, or walks a lent row: the result and every value at exit.
 -- Each is cited by its whole contract; that of a routine of stack or of an act for C is the form that its own crate shows it to be.
 -- Assumes nothing.
-use Prim.Native.Nat.{ℕ}
+use Prim.Native.Nat.{ℕ, _≤_}
 use mathlib.Core.Path.{_≡_, refl, sym, _∙_}
 use mathlib.Core.List.{List, [], _∷_}
 use lib.ListN.{length}
@@ -11,9 +11,9 @@ use denote.Builtin.{u8, u32, usize}
 use denote.Ref.{now}
 use Rattle.walks.proofs.Form.{Kind, value, shown, handed, behind, Form, Passed}
 use Rattle.walks.proofs.Callee.{on-one, on-record, on-row, of-slice}
-use Rattle.determined.specs.Determined.{Lent, AtExit, lentAt, Takes, Also, gives, Determined}
+use Rattle.determined.specs.Determined.{Lent, AtExit, lentAt, Takes, Also, gives, Determined, DeterminedIf}
 use Rattle.board.specs.Sample.{sampleOf}
-use Rattle.frame.specs.Reply.{replyOf, putOf}
+use Rattle.frame.specs.Way.{replyOf, bufferWith}
 use Rattle.registers.specs.Registers.{obeyedOf}
 use Rattle.reading.specs.Way.{readRow}
 use Rattle.stack.specs.Open.{openAnswer, openRow}
@@ -23,7 +23,7 @@ use Rattle.stack.specs.Read.{readingOf}
 use Rattle.adomvik.specs.Acts.{openNumber, sampleNumber, sampleOut, boardNumber, boardOut, frameNumber, readNumber, readOut}
 use Rattle.held.specs.Held.{framedOf, framedBuffer}
 use Rattle.acts.specs.Acts.{actTold, actRow}
-use Rattle.text.specs.Text.{placed, Put}
+use Rattle.text.specs.Way.{placed, Put}
 use Rattle.board.proofs.Board as Board
 use Rattle.board.proofs.Readings as Readings
 use Rattle.board.proofs.Answer as Answer
@@ -105,12 +105,12 @@ adomvik-read-one = record { cited = λ M. adomvik.read-says {M = M}; one = by-eq
 
 -- ---- below and beside the library
 
--- the reply, and the buffer
+-- the reply, and the buffer, which has room for it
 abbrev putForm : Form
-putForm = gives {n = 1} (handed 0 tt u8 ∷ value Frame-taken.the-row ∷ value Frame-outcome.the-row ∷ []) Reply.the-row (λ buffer. replyOf) (λ buffer taken outcome. (putOf buffer (replyOf taken outcome), tt))
+putForm = gives {n = 1} (handed 0 tt u8 ∷ value Frame-taken.the-row ∷ value Frame-outcome.the-row ∷ []) Reply.the-row (λ buffer. replyOf) (λ buffer taken outcome. (bufferWith buffer (replyOf taken outcome), tt))
 
-pub frame-put-one : Determined putForm (λ M. frame-put.spec {M = M})
-frame-put-one = record { cited = λ M 𝓤 H A mem run. refl; one = by-equations (putForm .params) Reply.the-row (λ buffer. replyOf) (λ buffer taken outcome. (putOf buffer (replyOf taken outcome), tt)) }
+pub frame-put-one : DeterminedIf putForm (λ κs a. 4 ≤ length (now (a .0))) (λ M. frame-put.spec {M = M})
+frame-put-one = record { cited = λ M 𝓤 H A mem run. refl; one = by-equations (putForm .params) Reply.the-row (λ buffer. replyOf) (λ buffer taken outcome. (bufferWith buffer (replyOf taken outcome), tt)) }
 
 -- the answer, and the record
 abbrev sampleBoardForm : Form

@@ -19,7 +19,7 @@ use denote.Signature.{Signature}
 use denote.Triple.End.{Outs, all}
 use denote.Triple.Clauses.{closing}
 use denote.Triple.Spec.{Spec}
-use Rattle.walks.proofs.Form.{Kind, value, shown, handed, behind, slots, Passed, Form, ended-of, clauses-of}
+use Rattle.walks.proofs.Form.{Kind, value, shown, handed, behind, slots, Passed, Form, ended-of, clauses-of, clauses-if}
 
 module _ {n : ℕ} where
   -- what is lent to be changed: a value for each `&mut`
@@ -44,11 +44,21 @@ module _ {n : ℕ} where
 abbrev pub Contract : Signature → Type 2
 Contract S = (M : Type 1) (𝓤 : URA M) (H : Heap 𝓤) → Atoms 𝓤 → (Memory → SProp 𝓤) → (Routine → Fun 𝓤) → Spec 𝓤 S
 
+-- any two outcomes that a form allows agree
+abbrev pub One : Form → Type 0
+One f = (κs : Lfts (f .lifetimes)) (a : Passed κs (f .params)) (r t : f .result .Denot) (e u : AtExit κs (f .params)) → f .says-of κs a r e → f .says-of κs a t u
+    → (r ≡ t) × (lentAt κs (f .params) e ≡ lentAt κs (f .params) u)
+
 pub record Determined (f : Form) (contract : Contract (ended-of f .signature)) : Type 2 where
   pub cited : (M : Type 1) (𝓤 : URA M) (H : Heap 𝓤) (A : Atoms 𝓤) (mem : Memory → SProp 𝓤) (run : Routine → Fun 𝓤)
       → contract M 𝓤 H A mem run ≡ closing 𝓤 H A (ended-of f) (clauses-of f 𝓤)
-  pub one : (κs : Lfts (f .lifetimes)) (a : Passed κs (f .params)) (r t : f .result .Denot) (e u : AtExit κs (f .params)) → f .says-of κs a r e → f .says-of κs a t u
-      → (r ≡ t) × (lentAt κs (f .params) e ≡ lentAt κs (f .params) u)
+  pub one : One f
+
+-- the same of a contract with a `requires`
+pub record DeterminedIf (f : Form) (φ : (κs : Lfts (f .lifetimes)) → Passed κs (f .params) → Type 0) (contract : Contract (ended-of f .signature)) : Type 2 where
+  pub cited : (M : Type 1) (𝓤 : URA M) (H : Heap 𝓤) (A : Atoms 𝓤) (mem : Memory → SProp 𝓤) (run : Routine → Fun 𝓤)
+      → contract M 𝓤 H A mem run ≡ closing 𝓤 H A (ended-of f) (clauses-if f 𝓤 φ)
+  pub one : One f
 
 -- ---- the form that nearly every contract has: the result and all that was lent to be changed are each one function of the arguments
 
