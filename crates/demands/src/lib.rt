@@ -1,1 +1,1 @@
-// What is promised of the whole stack, stated over the definitions that the contracts of crate stack cite; no code.
+// What is promised of the whole stack, stated over the definitions that the contracts of crates stack and adomvik cite; no code.

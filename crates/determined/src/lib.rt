@@ -1,1 +1,1 @@
-// What every public contract determines: statements in proofs/Contracts.antt, and no code.
+// What every public contract determines: statements in proofs/, and no code.
