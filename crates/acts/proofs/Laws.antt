@@ -8,7 +8,7 @@ use Rattle.stack.proofs.Laws.{sample-length, frame-length}
 use Rattle.acts.specs.declared.ActKind.{ActKind}
 use Rattle.acts.specs.declared.ActKind.the-variants.{Sample, Frame, Read}
 use Rattle.acts.specs.declared.Act.{Act}
-use Rattle.acts.specs.Acts.{cellsIn, bytesIn, lentIn, rowBy, actRow}
+use Rattle.acts.specs.InPlace.{cellsIn, bytesIn, lentIn, rowBy, actRow}
 
 pub act-length : (row : List Board) (a : Act) → length (actRow row a) ≡ length row
 unfolding actRow

@@ -1,2 +1,2 @@
-pub mod Acts
+pub mod InPlace
 pub mod Way

@@ -9,7 +9,7 @@ use Rattle.acts.specs.declared.Told.{Told}
 use Rattle.acts.specs.declared.ActKind.{ActKind}
 use Rattle.acts.specs.declared.ActKind.the-variants.{Sample, Frame, Read}
 use Rattle.acts.specs.declared.Act.{Act}
-use Rattle.acts.specs.Acts.{toldBy, rowBy}
+use Rattle.acts.specs.InPlace.{toldBy, rowBy}
 
 -- ---- how many places of an act count
 abbrev pub cellCountIn : Act → ℕ

@@ -2,7 +2,7 @@
 // Crates above make acts, of lines or of what was recorded, and print or compare what is told.
 ghost use mathlib.Core.Path.{_≡_};
 ghost use Prim.Native.Nat.{min};
-ghost use Rattle.acts.specs.Acts.{openingTold, sampleTold, replyTold, viewTold, noSample, noFrame, sampleAct, frameAct, readingAct, toldBy, rowBy, actTold, actRow};
+ghost use Rattle.acts.specs.InPlace.{openingTold, sampleTold, replyTold, viewTold, noSample, noFrame, sampleAct, frameAct, readingAct, toldBy, rowBy, actTold, actRow};
 ghost use Rattle.acts.specs.Way.{cellCountIn, byteCountIn, roomIn, noBytes, isSample, isFrame, otherTold, otherRow};
 use board::Answer;
 use board::Board;

@@ -21,7 +21,7 @@ use Rattle.board.proofs.Readings as Readings
 use Rattle.stack.specs.Open.{openRow}
 use Rattle.stack.specs.Sample.{sampleRow}
 use Rattle.stack.specs.Frame.{frameRow, frameBuffer}
-use Rattle.adomvik.specs.Acts.{openNumber, sampleNumber, sampleOut, boardNumber, boardOut, frameNumber, readNumber, readOut}
+use Rattle.adomvik.specs.Calls.{openNumber, sampleNumber, sampleOut, boardNumber, boardOut, frameNumber, readNumber, readOut}
 use Rattle.adomvik.proofs.Sampled as Sampled
 use Rattle.adomvik.proofs.Reading as Reading
 use Rattle.adomvik.proofs.adomvik_open as adomvik-open

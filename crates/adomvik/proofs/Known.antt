@@ -13,10 +13,10 @@ use Rattle.adomvik.proofs.Sampled as Sampled
 use Rattle.adomvik.proofs.Sampled.Laws as Sampled′
 use Rattle.adomvik.proofs.Reading as Reading
 use Rattle.adomvik.proofs.Reading.Laws as Reading′
-use Rattle.adomvik.proofs.ToldSample as ToldSample
-use Rattle.adomvik.proofs.ToldSample.Laws as ToldSample′
-use Rattle.adomvik.proofs.ToldReading as ToldReading
-use Rattle.adomvik.proofs.ToldReading.Laws as ToldReading′
+use Rattle.adomvik.proofs.PlacedSample as PlacedSample
+use Rattle.adomvik.proofs.PlacedSample.Laws as PlacedSample′
+use Rattle.adomvik.proofs.PlacedReading as PlacedReading
+use Rattle.adomvik.proofs.PlacedReading.Laws as PlacedReading′
 
 module _ {M : Type 1} (𝓤 : URA M) (H : Heap 𝓤) (A : Atoms 𝓤) (W : Given 𝓤 H A) where
   abbrev pub byte : PlainType 𝓤 H A u8
@@ -29,24 +29,24 @@ module _ {M : Type 1} (𝓤 : URA M) (H : Heap 𝓤) (A : Atoms 𝓤) (W : Given
   reading = struct 𝓤 H A W Reading.the-type Reading′.the-laws Reading′.the-plain Reading′.the-copy
 
   -- what the functions by value return
-  abbrev pub told-sample : PlainPair 𝓤 H A ToldSample.the-type Sampled.the-row u8 (λ z. z .out) (λ z. z .number)
-  told-sample =
+  abbrev pub placed-sample : PlainPair 𝓤 H A PlacedSample.the-type Sampled.the-row u8 (λ z. z .out) (λ z. z .number)
+  placed-sample =
       record {
-        both = struct 𝓤 H A W ToldSample.the-type ToldSample′.the-laws ToldSample′.the-plain ToldSample′.the-copy;
+        both = struct 𝓤 H A W PlacedSample.the-type PlacedSample′.the-laws PlacedSample′.the-plain PlacedSample′.the-copy;
         first = sampled;
         second = byte;
         laid-out = refl;
         spelled = λ z. refl;
-        owed = λ z is. (LL.owed ToldSample.the-type ToldSample′.the-laws z _ is .0, LL.owed ToldSample.the-type ToldSample′.the-laws z _ is .1 .0);
+        owed = λ z is. (LL.owed PlacedSample.the-type PlacedSample′.the-laws z _ is .0, LL.owed PlacedSample.the-type PlacedSample′.the-laws z _ is .1 .0);
       }
 
-  abbrev pub told-reading : PlainPair 𝓤 H A ToldReading.the-type Reading.the-row u8 (λ z. z .out) (λ z. z .number)
-  told-reading =
+  abbrev pub placed-reading : PlainPair 𝓤 H A PlacedReading.the-type Reading.the-row u8 (λ z. z .out) (λ z. z .number)
+  placed-reading =
       record {
-        both = struct 𝓤 H A W ToldReading.the-type ToldReading′.the-laws ToldReading′.the-plain ToldReading′.the-copy;
+        both = struct 𝓤 H A W PlacedReading.the-type PlacedReading′.the-laws PlacedReading′.the-plain PlacedReading′.the-copy;
         first = reading;
         second = byte;
         laid-out = refl;
         spelled = λ z. refl;
-        owed = λ z is. (LL.owed ToldReading.the-type ToldReading′.the-laws z _ is .0, LL.owed ToldReading.the-type ToldReading′.the-laws z _ is .1 .0);
+        owed = λ z is. (LL.owed PlacedReading.the-type PlacedReading′.the-laws z _ is .0, LL.owed PlacedReading.the-type PlacedReading′.the-laws z _ is .1 .0);
       }

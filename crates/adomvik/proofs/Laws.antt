@@ -14,7 +14,7 @@ use Rattle.stack.specs.Open.{openBars}
 use Rattle.stack.specs.Sample.{sampleRowBars}
 use Rattle.stack.specs.Frame.{frameRowBars, frameReply}
 use Rattle.stack.proofs.Laws.{open-said, sample-said, frame-said}
-use Rattle.adomvik.specs.Acts.{openNumber, sampleNumber, frameNumber}
+use Rattle.adomvik.specs.Calls.{openNumber, sampleNumber, frameNumber}
 
 pub open-number : (row : List Board) (counts : List ℕ) → openNumber row counts ≡ first (openBars (length row) counts)
 unfolding openNumber

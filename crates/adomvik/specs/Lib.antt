@@ -1,2 +1,2 @@
-pub mod Told
-pub mod Acts
+pub mod Placed
+pub mod Calls

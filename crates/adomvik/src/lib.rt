@@ -6,8 +6,8 @@ ghost use Rattle.stack.specs.Frame.{frameRow, frameBuffer};
 ghost use Rattle.board.specs.Sample.{sampleOf};
 ghost use Rattle.lists.specs.Marks.{bit};
 ghost use Rattle.stack.specs.Open.{openRow};
-ghost use Rattle.adomvik.specs.Told.{toldSample, toldReading, numberOfReply, numberOfOpening};
-ghost use Rattle.adomvik.specs.Acts.{openNumber, sampleNumber, sampleOut, boardNumber, boardOut, frameNumber, readNumber, readOut};
+ghost use Rattle.adomvik.specs.Placed.{placedSample, placedReading, numberOfReply, numberOfOpening};
+ghost use Rattle.adomvik.specs.Calls.{openNumber, sampleNumber, sampleOut, boardNumber, boardOut, frameNumber, readNumber, readOut};
 use board::Answer;
 use board::Board;
 use board::Readings;
@@ -34,13 +34,13 @@ pub struct Reading {
 
 // ---- what an answer puts into its place, and its number
 
-struct ToldSample {
+struct PlacedSample {
     out: Sampled,
     number: u8,
 }
 
-fn told_sample(out: Sampled, a: Answer) -> ToldSample
-    ensures { λ r. ⌜ r ≡ toldSample out a ⌝ }
+fn placed_sample(out: Sampled, a: Answer) -> PlacedSample
+    ensures { λ r. ⌜ r ≡ placedSample out a ⌝ }
 {
     match a {
         Answer::Sampled { status, bled } => {
@@ -48,27 +48,27 @@ fn told_sample(out: Sampled, a: Answer) -> ToldSample
                 status: status,
                 bled: bled,
             };
-            ToldSample {
+            PlacedSample {
                 out: next,
                 number: 0,
             }
         }
-        Answer::Refused(why) => ToldSample {
+        Answer::Refused(why) => PlacedSample {
             out: out,
             number: refusal::number(why),
         },
     }
 }
 
-fn tell_sample(out: &mut Sampled, a: Answer) -> u8
-    ensures { λ r. ⌜ (r ≡ toldSample (now (out .entry)) a .number) × (now (out .exit) ≡ toldSample (now (out .entry)) a .out) ⌝ }
+fn place_sample(out: &mut Sampled, a: Answer) -> u8
+    ensures { λ r. ⌜ (r ≡ placedSample (now (out .entry)) a .number) × (now (out .exit) ≡ placedSample (now (out .entry)) a .out) ⌝ }
 {
-    let s = told_sample(*out, a);
+    let s = placed_sample(*out, a);
     *out = s.out;
     s.number
 }
 
-struct ToldReading {
+struct PlacedReading {
     out: Reading,
     number: u8,
 }
@@ -79,8 +79,8 @@ fn byte_of(b: bool) -> u8
     if b { 1 } else { 0 }
 }
 
-fn told_reading(out: Reading, v: View) -> ToldReading
-    ensures { λ r. ⌜ r ≡ toldReading out v ⌝ }
+fn placed_reading(out: Reading, v: View) -> PlacedReading
+    ensures { λ r. ⌜ r ≡ placedReading out v ⌝ }
 {
     match v {
         View::Read(whole) => {
@@ -91,22 +91,22 @@ fn told_reading(out: Reading, v: View) -> ToldReading
                 board: whole.flagged.board,
                 cell: whole.flagged.cell,
             };
-            ToldReading {
+            PlacedReading {
                 out: next,
                 number: 0,
             }
         }
-        View::Refused(why) => ToldReading {
+        View::Refused(why) => PlacedReading {
             out: out,
             number: refusal::number(why),
         },
     }
 }
 
-fn tell_reading(out: &mut Reading, v: View) -> u8
-    ensures { λ r. ⌜ (r ≡ toldReading (now (out .entry)) v .number) × (now (out .exit) ≡ toldReading (now (out .entry)) v .out) ⌝ }
+fn place_reading(out: &mut Reading, v: View) -> u8
+    ensures { λ r. ⌜ (r ≡ placedReading (now (out .entry)) v .number) × (now (out .exit) ≡ placedReading (now (out .entry)) v .out) ⌝ }
 {
-    let s = told_reading(*out, v);
+    let s = placed_reading(*out, v);
     *out = s.out;
     s.number
 }
@@ -152,7 +152,7 @@ pub extern "C" fn adomvik_sample(
     ensures { λ r. ⌜ (r ≡ sampleNumber (now (row .entry)) board x (now (cells .entry))) × ((now (row .exit) ≡ sampleRow (now (row .entry)) board x (now (cells .entry))) × (now (out .exit) ≡ sampleOut (now (row .entry)) board x (now (cells .entry)) (now (out .entry)))) ⌝ }
 {
     let a = stack::sample_stack(row, board, x, cells);
-    tell_sample(out, a)
+    place_sample(out, a)
 }
 
 // A sample of one record that is lent by itself.
@@ -166,7 +166,7 @@ pub extern "C" fn adomvik_sample_board(
     ensures { λ r. ⌜ (r ≡ boardNumber (now (b .entry)) x (now (cells .entry))) × ((now (b .exit) ≡ sampleOf (now (b .entry)) x (now (cells .entry)) .board) × (now (out .exit) ≡ boardOut (now (b .entry)) x (now (cells .entry)) (now (out .entry)))) ⌝ }
 {
     let a = board::sample_board(b, x, cells);
-    tell_sample(out, a)
+    place_sample(out, a)
 }
 
 // A frame from the host, its reply in the lent buffer.
@@ -184,5 +184,5 @@ pub extern "C" fn adomvik_read(row: &[Board], out: &mut Reading) -> u8
     ensures { λ r. ⌜ (r ≡ readNumber (now (row .entry))) × (now (out .exit) ≡ readOut (now (row .entry)) (now (out .entry))) ⌝ }
 {
     let v = stack::read_stack(row);
-    tell_reading(out, v)
+    place_reading(out, v)
 }

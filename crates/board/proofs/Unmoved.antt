@@ -12,7 +12,7 @@ use Rattle.lists.proofs.Split.{both, not-yes}
 use Rattle.refusal.specs.Said.{accepts}
 use Rattle.settings.specs.Levels.{ocdLevel, scdLevel}
 use Rattle.settings.specs.Faults.{SCD, OCD, delay}
-use Rattle.runs.specs.Kept.{runNext, stood}
+use Rattle.runs.specs.Stored.{runNext, stood}
 use Rattle.lists.specs.Marks.{number}
 use Rattle.cells.specs.declared.Swept.{Swept}
 use Rattle.cells.specs.Way.{spanOf, calmOf}

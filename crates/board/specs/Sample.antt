@@ -7,12 +7,12 @@ use lib.Dec.{eqb}
 use lib.ListN.{length}
 use Rattle.lists.specs.Compare.{_above_, _below_}
 use Rattle.refusal.specs.Refusals.{numberOf, numbered}
-use Rattle.refusal.specs.Said.{Said, refuses, accepts, value, Bar, bar, judged, kept}
+use Rattle.refusal.specs.Said.{Said, refuses, accepts, value, Bar, bar, judged, unlessRefused}
 use Rattle.lists.specs.Every.{every}
 use Rattle.settings.specs.declared.Settings.{Settings}
 use Rattle.settings.specs.Levels.{factory, ovRelease, uvRelease, ocdLevel, scdLevel}
 use Rattle.settings.specs.Faults.{Fault, SCD, OCD, OV, UV, OT, delay}
-use Rattle.runs.specs.Kept.{runNext, stood}
+use Rattle.runs.specs.Stored.{runNext, stood}
 use Rattle.cells.specs.declared.Swept.{Swept}
 use Rattle.cells.specs.Cells.{sweepOf, noCells, readable}
 use Rattle.board.specs.declared.Board.{Board}
@@ -143,6 +143,6 @@ sampleBars b x mv = bar 1 (badBoard b) ∷ readingBars b x mv
 unfoldable pub sampleOf : Board → Readings → List ℕ → Stepped
 sampleOf b x mv =
     record {
-      board = kept (sampleBars b x mv) b (boardNext b x mv);
+      board = unlessRefused (sampleBars b x mv) b (boardNext b x mv);
       answer = answerSaying (judged (sampleBars b x mv) (sampleValues b x mv));
     }

@@ -9,7 +9,7 @@ use mathlib.Core.List.{List, [], _∷_, _++_}
 use lib.Dec.{ltb}
 use lib.ListN.{length, take, drop, set, take-append-drop, length-append, length-take, length-drop, List·getD-append}
 use lib.Seq.{getD-take}
-use Rattle.runs.specs.Kept.{runNext, stood}
+use Rattle.runs.specs.Stored.{runNext, stood}
 use Rattle.lists.specs.Marks.{number, marked, marks}
 use Rattle.lists.proofs.Marks.{number-below, marks-number}
 use Rattle.cells.specs.declared.Cell.{Cell}

@@ -6,7 +6,7 @@ use mathlib.Core.List.{List}
 use lib.ListN.{length, drop, List·getD-append}
 use Rattle.settings.specs.declared.Settings.{Settings}
 use Rattle.settings.specs.Levels.{ovDelay, uvDelay}
-use Rattle.runs.specs.Kept.{stood}
+use Rattle.runs.specs.Stored.{stood}
 use Rattle.lists.specs.Marks.{marked}
 use Rattle.cells.specs.declared.Cell.{Cell}
 use Rattle.lists.specs.Each.{each}

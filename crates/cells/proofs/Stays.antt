@@ -13,7 +13,7 @@ use Rattle.lists.proofs.Split.{both}
 use Rattle.lists.proofs.Every.{every-at}
 use Rattle.settings.specs.declared.Settings.{Settings}
 use Rattle.settings.specs.Levels.{ovLevel, ovRelease, uvLevel, uvRelease}
-use Rattle.runs.specs.Kept.{runNext, stood}
+use Rattle.runs.specs.Stored.{runNext, stood}
 use Rattle.lists.specs.Marks.{number}
 use Rattle.lists.proofs.Marks.{marked-above}
 use Rattle.cells.specs.declared.Cell.{Cell}
@@ -119,9 +119,9 @@ module _ (s : Settings) (elapsed : ℕ) (cells : List Cell) (mv : List ℕ) (cal
       let uv = each-same (uvStoodAt (limitsOf s) elapsed cells 0 mv) (λ _. false) 0 n (λ k p. no-uv k (omega arith)) in
       let all-of : 0 + n ≡ n = omega arith in
       let there : 0 + n ≤ length cells = omega (arith, long) in
-      let kept = ap (λ (l : List Cell). l ++ drop n cells) same ∙ ap (λ (m : ℕ). each 0 n (λ k. getD cells k none) ++ drop m cells) (sym all-of) ∙ each-getD cells none 0 n there in
+      let stored = ap (λ (l : List Cell). l ++ drop n cells) same ∙ ap (λ (m : ℕ). each 0 n (λ k. getD cells k none) ++ drop m cells) (sym all-of) ∙ each-getD cells none 0 n there in
       let unflagged = ap number flags ∙ none-number 0 n in
       let unbled = ap (λ (l : List Bool). number (bled l)) flags ∙ ap number (none-bled 0 n) ∙ none-number 0 n in
       let no-ov-yet = ap number ov ∙ none-number 0 n in
       let no-uv-yet = ap number uv ∙ none-number 0 n in
-      λ i. record { cells = kept i; flags = unflagged i; bled = unbled i; «ov_stood» = no-ov-yet i; «uv_stood» = no-uv-yet i }
+      λ i. record { cells = stored i; flags = unflagged i; bled = unbled i; «ov_stood» = no-ov-yet i; «uv_stood» = no-uv-yet i }

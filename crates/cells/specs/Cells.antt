@@ -8,7 +8,7 @@ use Rattle.lists.specs.Compare.{_above_, _below_, _atOrBelow_}
 use Rattle.lists.specs.Every.{every}
 use Rattle.settings.specs.declared.Settings.{Settings}
 use Rattle.settings.specs.Levels.{ovLevel, ovRelease, ovDelay, uvLevel, uvDelay}
-use Rattle.runs.specs.Kept.{runNext, stood}
+use Rattle.runs.specs.Stored.{runNext, stood}
 use Rattle.lists.specs.Marks.{number, marked}
 use Rattle.cells.specs.declared.Cell.{Cell}
 use Rattle.cells.specs.declared.Swept.{Swept}

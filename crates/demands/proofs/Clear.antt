@@ -5,7 +5,7 @@ use mathlib.Core.Path.{_≡_, refl, sym, ap, _∙_}
 use mathlib.Core.Bool.{Bool, true, false, true≢false, cond, not, _&&_}
 use mathlib.Core.List.{List, [], _∷_}
 use lib.Dec.{eqb}
-use Rattle.refusal.specs.Said.{Bar, first, accepts, refuses, judged, kept}
+use Rattle.refusal.specs.Said.{Bar, first, accepts, refuses, judged, unlessRefused}
 
 -- no refusal has number 0, so where none is given the first condition fails, and none of the others is given
 pub clear : (b : Bar) (bars : List Bar) → eqb (b .number) 0 ≡ false → eqb (first (b ∷ bars)) 0 ≡ true → (b .when ≡ false) × (eqb (first bars) 0 ≡ true)
@@ -28,7 +28,7 @@ judged-same bars vs ws = by (eqb (first bars) 0)
     by true e = ap accepts (e refl)
     by false e = refl
 
-pub kept-same : {A B : Type 0} (f : B → A) (bars : List Bar) (old : B) (new : A) (other : B) → (eqb (first bars) 0 ≡ true → new ≡ f other) → kept bars (f old) new ≡ f (kept bars old other)
+pub kept-same : {A B : Type 0} (f : B → A) (bars : List Bar) (old : B) (new : A) (other : B) → (eqb (first bars) 0 ≡ true → new ≡ f other) → unlessRefused bars (f old) new ≡ f (unlessRefused bars old other)
 kept-same f bars old new other = by (eqb (first bars) 0)
   where
     by : (t : Bool) → (t ≡ true → new ≡ f other) → cond t new (f old) ≡ f (cond t other old)

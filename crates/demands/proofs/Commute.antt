@@ -9,7 +9,7 @@ use lib.ListN.{length, set, drop, length-map}
 use lib.Seq.{getD-set-other, set-comm, set-getD}
 use borrow.Author.Tests.{eqb-true, eqb-false, eq-eqb, ne-eqb}
 use Rattle.lists.proofs.Split.{split, both, not-yes}
-use Rattle.refusal.specs.Said.{Said, Bar, bar, accepts, refuses, first, judged, kept}
+use Rattle.refusal.specs.Said.{Said, Bar, bar, accepts, refuses, first, judged, unlessRefused}
 use Rattle.board.specs.declared.Board.{Board}
 use Rattle.board.specs.declared.Readings.{Readings}
 use Rattle.board.specs.Sample.{readingBars}
@@ -46,14 +46,14 @@ late b reading = []
 
 -- what it makes of its board's log, and its outcome there; and its outcome where it is refused early
 abbrev stepIn : Log → Act → Log
-stepIn l a = kept (late (boardGiven l) a) l (joined l (entry a))
+stepIn l a = unlessRefused (late (boardGiven l) a) l (joined l (entry a))
 
 abbrev answerIn : Log → Act → Outcome
 answerIn l (sample n x mv) = record { said = judged (readingBars (boardGiven l) x mv) (sampleSays (joined l (sampled x mv))); buffer = [] }
 answerIn l (frame bytes buffer) =
     let refusals = late (boardGiven l) (frame bytes buffer) in
     let reply = frameSays (joined l (frameEntry bytes)) bytes in
-    record { said = judged refusals reply; buffer = kept refusals buffer (reply ++ drop 4 buffer) }
+    record { said = judged refusals reply; buffer = unlessRefused refusals buffer (reply ++ drop 4 buffer) }
 answerIn l reading = record { said = accepts []; buffer = [] }
 
 abbrev refusedEarly : ℕ → Act → Outcome
@@ -140,10 +140,10 @@ set-kept false logs at l = sym (set-getD logs at (log 0 []))
 
 -- refusals `bs` that come to the early ones `es` and the late ones `ls`
 module _ (bs es ls : List Bar) (parts : first bs ≡ first (es ++ ls)) (n : numbered es ≡ true) where
-  kept-late : {A : Type 0} (old new : A) → eqb (first es) 0 ≡ true → kept bs old new ≡ kept ls old new
+  kept-late : {A : Type 0} (old new : A) → eqb (first es) 0 ≡ true → unlessRefused bs old new ≡ unlessRefused ls old new
   kept-late {A} old new e = ap (λ (k : ℕ). cond {A = A} (eqb k 0) new old) (parts ∙ first-late es ls n e)
 
-  kept-early : {A : Type 0} (old new : A) → eqb (first es) 0 ≡ false → kept bs old new ≡ old
+  kept-early : {A : Type 0} (old new : A) → eqb (first es) 0 ≡ false → unlessRefused bs old new ≡ old
   kept-early {A} old new e = ap (λ (k : ℕ). cond {A = A} (eqb k 0) new old) (parts ∙ first-early es ls e) ∙ ap (λ (t : Bool). cond {A = A} t new old) e
 
   judged-late : (vs : List ℕ) → eqb (first es) 0 ≡ true → judged bs vs ≡ judged ls vs

@@ -8,7 +8,7 @@ use mathlib.Core.List.{List, [], _∷_}
 use lib.Dec.{leb, eqb}
 use lib.ListN.{set}
 use borrow.Author.Tests.{leb-false}
-use Rattle.refusal.specs.Said.{Bar, bar, first, kept}
+use Rattle.refusal.specs.Said.{Bar, bar, first, unlessRefused}
 use Rattle.settings.specs.Bytes.{same}
 use Rattle.board.specs.declared.Board.{Board}
 use Rattle.frame.specs.Frame.{byte, writes}
@@ -36,7 +36,7 @@ three-set (m ∷ logs) (suc at) l p h zero = h zero
 three-set (m ∷ logs) (suc at) l p h (suc i) = three-set logs at l p (λ j. h (suc j)) i
 
 three-kept : (refusals : List Bar) (logs : List Log) (at : ℕ) (e : Entry) → (eqb (first refusals) 0 ≡ true → spent (e ∷ logAt logs at .acts) ≤ 3)
-    → Three logs → Three (kept refusals logs (joins logs at e))
+    → Three logs → Three (unlessRefused refusals logs (joins logs at e))
 three-kept refusals logs at e p h = by (eqb (first refusals) 0) p
   where
     by : (t : Bool) → (t ≡ true → spent (e ∷ logAt logs at .acts) ≤ 3) → Three (cond t (joins logs at e) logs)

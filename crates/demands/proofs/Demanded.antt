@@ -9,7 +9,7 @@ use lib.ListN.{length, replicate, length-replicate, length-map}
 use lib.Seq.{map-set-same}
 use Rattle.lists.specs.Every.{every}
 use Rattle.lists.proofs.Split.{both}
-use Rattle.refusal.specs.Said.{Bar, bar, first, kept}
+use Rattle.refusal.specs.Said.{Bar, bar, first, unlessRefused}
 use Rattle.board.specs.declared.Board.{Board}
 use Rattle.board.specs.Sample.{fresh, badBoard, badPlan}
 use Rattle.stack.specs.Row.{badCount, goodRow, placeOf}
@@ -26,7 +26,7 @@ use Rattle.demands.proofs.Tells.{tells, gives}
 
 -- ---- no act changes a board's cell count, and whether a row is good goes by the counts alone
 
-kept-counts : (refusals : List Bar) (logs : List Log) (at : ℕ) (e : Entry) → countsOf (kept refusals logs (joins logs at e)) ≡ countsOf logs
+kept-counts : (refusals : List Bar) (logs : List Log) (at : ℕ) (e : Entry) → countsOf (unlessRefused refusals logs (joins logs at e)) ≡ countsOf logs
 kept-counts refusals logs at e = by (eqb (first refusals) 0)
   where
     by : (t : Bool) → countsOf (cond t (joins logs at e) logs) ≡ countsOf logs

@@ -13,7 +13,7 @@ use borrow.Author.Tests.{eqb-true, eq-eqb, ne-eqb, le-ltb}
 use Rattle.lists.specs.Every.{every}
 use Rattle.lists.proofs.Every.{every-at}
 use Rattle.lists.proofs.Split.{split, both, not-yes}
-use Rattle.refusal.specs.Said.{Said, Bar, bar, first, judged, kept}
+use Rattle.refusal.specs.Said.{Said, Bar, bar, first, judged, unlessRefused}
 use Rattle.refusal.proofs.Laws.{number-back, judged-number}
 use Rattle.board.specs.declared.Board.{Board}
 use Rattle.board.specs.declared.Readings.{Readings}
@@ -25,8 +25,8 @@ use Rattle.stack.specs.Open.{goodPlans, openBars, openRow}
 use Rattle.stack.specs.Sample.{sampleAnswer, sampleRow}
 use Rattle.stack.specs.Frame.{frameRow, frameBuffer}
 use Rattle.stack.specs.Read.{viewSaid, readBars, readingOf}
-use Rattle.adomvik.specs.Told.{placed, sampledOf}
-use Rattle.adomvik.specs.Acts.{openNumber, sampleNumber, sampleOut, boardNumber, boardOut, frameNumber, readNumber, readOut}
+use Rattle.adomvik.specs.Placed.{placed, sampledOf}
+use Rattle.adomvik.specs.Calls.{openNumber, sampleNumber, sampleOut, boardNumber, boardOut, frameNumber, readNumber, readOut}
 use Rattle.adomvik.proofs.Laws.{open-number, sample-number, frame-number}
 use Rattle.demands.specs.Acts.{Act, reading, Outcome, outcome, next, openedRow, final, answers}
 use Rattle.demands.specs.Shuffle.{picked}
@@ -78,7 +78,7 @@ record-good row good at p =
 board-there : (row : List Board) (at : ℕ) → at < length row → noBoard row (suc at) ≡ false
 board-there row at p = rw (le-ltb (suc at) 1 (omega arith), le-ltb (length row) (suc at) p)
 
-set-kept : (refusals : List Bar) (row : List Board) (at : ℕ) (new : Board) → set row at (kept refusals (boardAt row at) new) ≡ kept refusals row (set row at new)
+set-kept : (refusals : List Bar) (row : List Board) (at : ℕ) (new : Board) → set row at (unlessRefused refusals (boardAt row at) new) ≡ unlessRefused refusals row (set row at new)
 set-kept refusals row at new = split (eqb (first refusals) 0) (λ e. rw e) (λ e. rw e (set-getD row at (fresh 0)))
 
 record-is : (row : List Board) → goodRow row ≡ true → (at : ℕ) → at < length row → (x : Readings) (mv : List ℕ)
@@ -91,9 +91,9 @@ record-is row good at p x mv =
     let here = placed-at at in (
       (λ i. answerSaying (judged (bar 1 (fine i) ∷ readingBars b x mv) (sampleValues b x mv)))
           ∙ sym (λ i. answerSaying (judged (bar 1 (not (good i)) ∷ bar 2 (there i) ∷ readingBars (boardAt row (here i)) x mv) (sampleValues (boardAt row (here i)) x mv))),
-      (λ i. set row at (kept (bar 1 (fine i) ∷ readingBars b x mv) b (boardNext b x mv)))
+      (λ i. set row at (unlessRefused (bar 1 (fine i) ∷ readingBars b x mv) b (boardNext b x mv)))
           ∙ set-kept (readingBars b x mv) row at (boardNext b x mv)
-          ∙ sym (λ i. kept (bar 1 (not (good i)) ∷ bar 2 (there i) ∷ readingBars (boardAt row (here i)) x mv) row (set row (here i) (boardNext (boardAt row (here i)) x mv))),
+          ∙ sym (λ i. unlessRefused (bar 1 (not (good i)) ∷ bar 2 (there i) ∷ readingBars (boardAt row (here i)) x mv) row (set row (here i) (boardNext (boardAt row (here i)) x mv))),
     )
 
 call-is : (row : List Board) → goodRow row ≡ true → (c : Call) → OfRow (length row) c → (returns row c ≡ inC c (outcome row (actOf c))) × (leaves row c ≡ next row (actOf c))

@@ -15,7 +15,7 @@ use Rattle.settings.specs.Bytes.{withByte, same}
 use Rattle.settings.specs.Faults.{Fault, SCD, OCD, OV, UV, OT, delay}
 use Rattle.lists.specs.Marks.{number, marked}
 use Rattle.runs.specs.Run.{past, lasting, stretch, total}
-use Rattle.runs.specs.Kept.{kept, runNext, stood}
+use Rattle.runs.specs.Stored.{stored, runNext, stood}
 use Rattle.runs.proofs.Laws.{kept-run, stood-delay}
 use Rattle.cells.specs.declared.Cell.{Cell}
 use Rattle.cells.specs.declared.Swept.{Swept}
@@ -62,10 +62,10 @@ module _ (n : ℕ) (few : n ≤ 10) (h : History) (x : Readings) (mv : List ℕ)
   count-is = omega arith
 
   -- a run of any fault, at any place
-  run-after : (f : Fault) (k : ℕ) → runNext (kept (runOf f k h)) (holds f (working h) k (sampleOf x mv)) (x .elapsed) ≡ kept (runOf f k after)
+  run-after : (f : Fault) (k : ℕ) → runNext (stored (runOf f k h)) (holds f (working h) k (sampleOf x mv)) (x .elapsed) ≡ stored (runOf f k after)
   run-after f k = kept-run (λ y. y .readings .elapsed) (holds f (working h) k) (sampleOf x mv) (since h)
 
-  stood-after : (f : Fault) (k : ℕ) → stood (delay f (working h)) (runNext (kept (runOf f k h)) (holds f (working h) k (sampleOf x mv)) (x .elapsed)) ≡ stoodDelay f k after
+  stood-after : (f : Fault) (k : ℕ) → stood (delay f (working h)) (runNext (stored (runOf f k h)) (holds f (working h) k (sampleOf x mv)) (x .elapsed)) ≡ stoodDelay f k after
   stood-after f k = ap (stood (delay f (working h))) (run-after f k) ∙ stood-delay f (working h) (runOf f k after)
 
   -- the cell at a place
@@ -193,21 +193,21 @@ module _ (n : ℕ) (h : History) (address register v : ℕ) where
   cellsWith r = each 0 n (λ k. record { ov = r OV k; uv = r UV k }) ++ drop n noCells
 
   with-these : (c : ℕ) (w s : Settings) (r : Fault → ℕ → ℕ) → c ≡ spent then → w ≡ working then → s ≡ staged then
-      → ((f : Fault) (k : ℕ) → r f k ≡ kept (runOf f k then)) → boardOf c w s (currentsWith r) (cellsWith r) ≡ given n then
+      → ((f : Fault) (k : ℕ) → r f k ≡ stored (runOf f k then)) → boardOf c w s (currentsWith r) (cellsWith r) ≡ given n then
   with-these c w s r c-is w-is s-is r-is = λ i. boardOf (c-is i) (w-is i) (s-is i) (currentsWith (λ f k. r-is f k i)) (cellsWith (λ f k. r-is f k i))
 
   -- where it spends no cycle, no more than the staged settings changes
   unspent : (s : Settings) → s ≡ staged then → spends e h ≡ false → boardOf (spent h) (working h) s (given n h .currents) (given n h .cells) ≡ given n then
   unspent s s-is c =
-      with-these (spent h) (working h) s (λ f k. kept (runOf f k h)) (rw c) (sym (working-stays e h c)) s-is
-      (λ f k. sym (ap kept (runs f k h .else-stays address register v c)))
+      with-these (spent h) (working h) s (λ f k. stored (runOf f k h)) (rw c) (sym (working-stays e h c)) s-is
+      (λ f k. sym (ap stored (runs f k h .else-stays address register v c)))
 
   -- where it spends one, staged becomes working and every run starts over
   spent-by : n ≤ 10 → spends e h ≡ true → staged h ≡ working then → staged h ≡ staged then → registers.spent (given n h) ≡ given n then
   unfolding registers.spent
   spent-by few c w-is s-is =
       ap (boardOf (spent h + 1) (staged h) (staged h) (currentsWith (λ f k. 0))) (sym (each-one 0 n 10 noCell few))
-      ∙ with-these (spent h + 1) (staged h) (staged h) (λ f k. 0) (rw c) w-is s-is (λ f k. sym (ap kept (runs f k h .starts-over e c)))
+      ∙ with-these (spent h + 1) (staged h) (staged h) (λ f k. 0) (rw c) w-is s-is (λ f k. sym (ap stored (runs f k h .starts-over e c)))
 
   -- a read stages and spends nothing; a write to register 11 programs; any other write stages, where there is a byte
   pub given-framed : n ≤ 10 → boardAfter (given n h) (writes address) register v ≡ given n then

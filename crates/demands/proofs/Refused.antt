@@ -26,7 +26,7 @@ use Rattle.frame.specs.Check.{checkOf}
 use Rattle.registers.specs.Map.{Register, registerMap, inMap, noRegister, fits}
 use Rattle.registers.specs.Registers.{programs, lacksCycle, accessBars}
 use Rattle.registers.proofs.Map.{below, above, between, takes-setting}
-use Rattle.stack.specs.Row.{badCount, goodRow, noBoard, nowhere, placeOf, boardAt}
+use Rattle.stack.specs.Row.{badCount, goodRow, noBoard, pastEnd, placeOf, boardAt}
 use Rattle.stack.specs.Open.{goodPlans, openBars, openingSaid, openAnswer}
 use Rattle.stack.specs.Sample.{sampleRowBars}
 use Rattle.stack.specs.Frame.{framePlace, frameRowBars}
@@ -68,7 +68,7 @@ row-ask row =
 -- ---- the board of a number, in a row of few boards
 
 log-of : (logs : List Log) → length logs ≤ 16 → (n : ℕ) → logAt logs (placeOf n) ≡ logOf logs n
-log-of logs few zero = List·getD-eq-default logs (log 0 []) {n = nowhere} (omega arith)
+log-of logs few zero = List·getD-eq-default logs (log 0 []) {n = pastEnd} (omega arith)
 log-of logs few (suc at) =
     let back : suc at - 1 ≡ at = omega arith in
     rw (ne-eqb (suc at) 0 (λ e. omega arith), back)

@@ -10,7 +10,7 @@ use lib.Dec.{eqb}
 use lib.ListN.{length}
 use borrow.Author.Tests.{eqb-true, eq-eqb, ne-eqb}
 use Rattle.lists.proofs.Split.{split, both, not-yes}
-use Rattle.refusal.specs.Said.{Said, Bar, accepts, refuses, first, judged, kept}
+use Rattle.refusal.specs.Said.{Said, Bar, accepts, refuses, first, judged, unlessRefused}
 use Rattle.board.specs.declared.Board.{Board}
 use Rattle.board.specs.Sample.{sampleValues}
 use Rattle.reading.specs.declared.Whole.{Whole}
@@ -68,10 +68,10 @@ table rows vs u =
     }
 
 -- where it refuses, what is kept is the old
-pub kept-old : {A : Type 0} (rows : List Bar) (n : ℕ) → 0 < n → first rows ≡ n → (old new : A) → kept rows old new ≡ old
+pub kept-old : {A : Type 0} (rows : List Bar) (n : ℕ) → 0 < n → first rows ≡ n → (old new : A) → unlessRefused rows old new ≡ old
 kept-old rows n p e old new = rw (e, ne-eqb n 0 (λ z. omega arith))
 
-pub stays : {A : Type 0} (rows : List Bar) (vs : List ℕ) (n : ℕ) → 0 < n → judged rows vs ≡ refuses n → (old new : A) → kept rows old new ≡ old
+pub stays : {A : Type 0} (rows : List Bar) (vs : List ℕ) (n : ℕ) → 0 < n → judged rows vs ≡ refuses n → (old new : A) → unlessRefused rows old new ≡ old
 stays rows vs n p e = kept-old rows n p (sym (judged-number rows vs) ∙ ap (λ (s : Said). s .number) e)
 
 -- ---- every act is judged by its rows

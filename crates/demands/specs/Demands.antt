@@ -6,7 +6,7 @@ use mathlib.Core.Bool.{Bool, true, cond}
 use mathlib.Core.List.{List, [], _∷_, _++_, map}
 use lib.Dec.{eqb}
 use lib.ListN.{length, getD, set, drop}
-use Rattle.refusal.specs.Said.{accepts, first, judged, kept}
+use Rattle.refusal.specs.Said.{accepts, first, judged, unlessRefused}
 use Rattle.settings.specs.Bytes.{byteOf}
 use Rattle.lists.specs.Marks.{number}
 use Rattle.cells.specs.Bleed.{bled}
@@ -60,8 +60,8 @@ abbrev pub joins : List Log → ℕ → Entry → List Log
 joins logs at e = set logs at (joined (logAt logs at) e)
 
 abbrev pub taken : List Log → Act → List Log
-taken logs (sample n x mv) = kept (bars (rowGiven logs) (sample n x mv)) logs (joins logs (placeOf n) (sampled x mv))
-taken logs (frame bytes buffer) = kept (bars (rowGiven logs) (frame bytes buffer)) logs (joins logs (framePlace bytes) (frameEntry bytes))
+taken logs (sample n x mv) = unlessRefused (bars (rowGiven logs) (sample n x mv)) logs (joins logs (placeOf n) (sampled x mv))
+taken logs (frame bytes buffer) = unlessRefused (bars (rowGiven logs) (frame bytes buffer)) logs (joins logs (framePlace bytes) (frameEntry bytes))
 taken logs reading = logs
 
 -- ---- what an accepted act says, by the log after it
@@ -104,7 +104,7 @@ told logs (sample n x mv) =
 told logs (frame bytes buffer) =
     let refusals = bars (rowGiven logs) (frame bytes buffer) in
     let reply = frameSays (joined (logAt logs (framePlace bytes)) (frameEntry bytes)) bytes in
-    record { said = judged refusals reply; buffer = kept refusals buffer (reply ++ drop 4 buffer) }
+    record { said = judged refusals reply; buffer = unlessRefused refusals buffer (reply ++ drop 4 buffer) }
 told logs reading = record { said = accepts (readingSays logs); buffer = [] }
 
 -- ---- demand 2

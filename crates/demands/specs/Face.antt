@@ -16,8 +16,8 @@ use Rattle.stack.specs.Sample.{sampleAnswer, sampleRow}
 use Rattle.stack.specs.Frame.{frameRow, frameBuffer}
 use Rattle.adomvik.specs.declared.Sampled.{Sampled}
 use Rattle.adomvik.specs.declared.Reading.{Reading}
-use Rattle.adomvik.specs.Told.{placed, sampledOf, readingOf}
-use Rattle.adomvik.specs.Acts.{openNumber, sampleNumber, sampleOut, boardNumber, boardOut, frameNumber, readNumber, readOut}
+use Rattle.adomvik.specs.Placed.{placed, sampledOf, readingOf}
+use Rattle.adomvik.specs.Calls.{openNumber, sampleNumber, sampleOut, boardNumber, boardOut, frameNumber, readNumber, readOut}
 use Rattle.demands.specs.Acts.{Act, sample, frame, reading, Outcome, bars, outcome, next, openedRow, final, answers}
 use Rattle.demands.specs.Shuffle.{picked, Shuffle}
 use Rattle.demands.specs.Tied.{tied}

@@ -13,7 +13,7 @@ use Rattle.settings.specs.Bytes.{withByte, same}
 use Rattle.settings.specs.Faults.{Fault, SCD, OCD, OV, UV, OT, delay}
 use Rattle.lists.specs.Marks.{number}
 use Rattle.runs.specs.Run.{run, past}
-use Rattle.runs.specs.Kept.{kept}
+use Rattle.runs.specs.Stored.{stored}
 use Rattle.cells.specs.declared.Cell.{Cell}
 use Rattle.lists.specs.Each.{each, some, all}
 use Rattle.cells.specs.Cells.{flagNext, readingAt, noCells}
@@ -143,7 +143,7 @@ flagsAt n h = each 0 n (λ k. flagged k h)
 -- ---- the declared record of a board of n cells with these accepted acts; past its cells it is as it started
 
 abbrev pub cellGiven : History → ℕ → Cell
-cellGiven h k = record { ov = kept (runOf OV k h); uv = kept (runOf UV k h) }
+cellGiven h k = record { ov = stored (runOf OV k h); uv = stored (runOf UV k h) }
 
 abbrev pub given : ℕ → History → Board
 given n h =
@@ -154,6 +154,6 @@ given n h =
       flags = number (flagsAt n h);
       working = working h;
       staged = staged h;
-      currents = record { ocd = kept (runOf OCD 0 h); scd = kept (runOf SCD 0 h) };
+      currents = record { ocd = stored (runOf OCD 0 h); scd = stored (runOf SCD 0 h) };
       cells = each 0 n (cellGiven h) ++ drop n noCells;
     }

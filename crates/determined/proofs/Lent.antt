@@ -20,9 +20,9 @@ use Rattle.stack.specs.Open.{openAnswer, openRow}
 use Rattle.stack.specs.Sample.{sampleAnswer, sampleRow}
 use Rattle.stack.specs.Frame.{frameAnswer, frameRow, frameBuffer}
 use Rattle.stack.specs.Read.{readingOf}
-use Rattle.adomvik.specs.Acts.{openNumber, sampleNumber, sampleOut, boardNumber, boardOut, frameNumber, readNumber, readOut}
+use Rattle.adomvik.specs.Calls.{openNumber, sampleNumber, sampleOut, boardNumber, boardOut, frameNumber, readNumber, readOut}
 use Rattle.held.specs.Held.{framedOf, framedBuffer}
-use Rattle.acts.specs.Acts.{actTold, actRow}
+use Rattle.acts.specs.InPlace.{actTold, actRow}
 use Rattle.text.specs.Way.{placed, Put}
 use Rattle.board.proofs.Board as Board
 use Rattle.board.proofs.Readings as Readings

@@ -5,7 +5,7 @@ use mathlib.Core.Bool.{cond}
 use mathlib.Core.List.{List, [], _++_}
 use lib.Dec.{ltb}
 use lib.ListN.{length, replicate, take, drop}
-use Rattle.refusal.specs.Said.{judged, kept}
+use Rattle.refusal.specs.Said.{judged, unlessRefused}
 use Rattle.board.specs.declared.Board.{Board}
 use Rattle.board.specs.declared.Readings.{Readings}
 use Rattle.board.specs.Sample.{fresh}
@@ -34,7 +34,7 @@ freshRow plans = opened plans ++ replicate (16 - length plans) (fresh 0)
 unfoldable pub openOf : List ℕ → Start
 openOf plans =
     let rows = openBars (length plans) plans in
-    record { stack = kept rows noStack (record { boards = freshRow plans; count = length plans }); answer = openingSaying (judged rows []) }
+    record { stack = unlessRefused rows noStack (record { boards = freshRow plans; count = length plans }); answer = openingSaying (judged rows []) }
 
 -- how many records are the row; of a stack that says it has more than 16 boards none, so that every act gets 1
 unfoldable pub rowCount : Stack → ℕ

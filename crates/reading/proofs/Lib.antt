@@ -1,5 +1,5 @@
 pub mod Laws
-pub mod Turns
+pub mod Gathered
 pub mod Searching
 pub mod Scanned
 pub mod Known

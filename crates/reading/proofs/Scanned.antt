@@ -19,7 +19,7 @@ use Rattle.reading.specs.declared.Seen.{Seen}
 use Rattle.reading.specs.declared.Summary.{Summary}
 use Rattle.reading.specs.Reading.{summaryOf, readOf, place, firstFlagged}
 use Rattle.reading.specs.Way.{someFlag, seenOf, seenWith, seenRow, firstFrom, readRow}
-use Rattle.reading.proofs.Turns.{seen-more, whole-seen, none-flagged}
+use Rattle.reading.proofs.Gathered.{seen-more, whole-seen, none-flagged}
 use Rattle.reading.proofs.Searching.{first-good}
 
 -- ---- the walk over the row

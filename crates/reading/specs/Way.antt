@@ -1,5 +1,5 @@
 -- On the way to a whole-stack reading: what a walk over the boards keeps of them, the search for a flagged cell, and the reading from both. That
--- it is the paper's is shown in proofs/Turns.antt, proofs/Searching.antt and proofs/Scanned.antt; nobody need believe it.
+-- it is the paper's is shown in proofs/Gathered.antt, proofs/Searching.antt and proofs/Scanned.antt; nobody need believe it.
 -- Assumes nothing.
 use Prim.Native.Nat.{ℕ, zero, suc, _+_, _^_}
 use mathlib.Core.Bool.{Bool, false, cond, not, _&&_, _||_}

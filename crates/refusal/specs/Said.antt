@@ -38,5 +38,5 @@ abbrev pub judged : List Bar → List ℕ → Said
 judged bars vs = cond (eqb (first bars) 0) (accepts vs) (refuses (first bars))
 
 -- what a refused act leaves as it was, and an accepted one makes new
-abbrev pub kept : {A : Type 0} → List Bar → A → A → A
-kept bars old new = cond (eqb (first bars) 0) new old
+abbrev pub unlessRefused : {A : Type 0} → List Bar → A → A → A
+unlessRefused bars old new = cond (eqb (first bars) 0) new old

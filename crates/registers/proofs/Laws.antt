@@ -7,7 +7,7 @@ use mathlib.Core.Bool.{Bool, true, false, cond, not, _&&_}
 use mathlib.Core.List.{List, [], _∷_}
 use lib.Dec.{leb, eqb}
 use Rattle.refusal.specs.declared.Refusal.{Refusal}
-use Rattle.refusal.specs.Said.{Bar, bar, accepts, refuses, first, judged, kept}
+use Rattle.refusal.specs.Said.{Bar, bar, accepts, refuses, first, judged, unlessRefused}
 use Rattle.settings.specs.Bytes.{same}
 use Rattle.board.specs.declared.Board.{Board}
 use Rattle.frame.specs.declared.Request.{Request}
@@ -47,7 +47,7 @@ pub staging-unread : (b : Board) (register v k : ℕ) → readValue (shownOf (st
 staging-unread b register v k = refl
 
 -- where the verdict is a refusal, what was there is kept
-refused-kept : {A : Type 0} (bars : List Bar) (vs : List ℕ) (old new : A) (why : Refusal) → outcomeSaying (judged bars vs) .verdict ≡ verdict.Refused why → kept bars old new ≡ old
+refused-kept : {A : Type 0} (bars : List Bar) (vs : List ℕ) (old new : A) (why : Refusal) → outcomeSaying (judged bars vs) .verdict ≡ verdict.Refused why → unlessRefused bars old new ≡ old
 refused-kept bars vs old new why = by (eqb (first bars) 0)
   where
     by : (t : Bool) → outcomeSaying (cond t (accepts vs) (refuses (first bars))) .verdict ≡ verdict.Refused why → cond t new old ≡ old

@@ -13,7 +13,7 @@ use Rattle.frame.specs.Frame.{writes}
 use Rattle.registers.specs.declared.Obeyed.{Obeyed}
 use Rattle.registers.specs.Map.{noRegister, fits}
 use Rattle.registers.specs.Registers.{spent, boardAfter, obeyedOf}
-use Rattle.registers.specs.Way.{barred, barOf, asksProgramming, asksStaging, stagedBy, spentBy, leaves, lookOf, programmedBy, toldOf, waysOf}
+use Rattle.registers.specs.Way.{barred, barOf, asksProgramming, asksStaging, stagedBy, spentBy, leaves, lookOf, programmedBy, readBy, waysOf}
 
 module _ (b : Board) (address register v : ℕ) where
   abbrev asks : Request
@@ -54,7 +54,7 @@ module _ (b : Board) (asked : Request) where
   pub way-stages : Holds (not (barred asked)) → Holds (not (asksProgramming asked)) → Holds (asksStaging asked) → Says (stagedBy b asked) (obeyedOf b asked)
   way-stages h p w = said _ _ (rw (ways-are b asked, is-false (barred asked) h, is-false (asksProgramming asked) p, is-true (asksStaging asked) w))
 
-  pub way-reads : Holds (not (barred asked)) → Holds (not (asksProgramming asked)) → Holds (not (asksStaging asked)) → Says (leaves b (toldOf b asked)) (obeyedOf b asked)
+  pub way-reads : Holds (not (barred asked)) → Holds (not (asksProgramming asked)) → Holds (not (asksStaging asked)) → Says (leaves b (readBy b asked)) (obeyedOf b asked)
   way-reads h p w = said _ _ (rw (ways-are b asked, is-false (barred asked) h, is-false (asksProgramming asked) p, is-false (asksStaging asked) w))
 
 module _ (b : Board) where

@@ -5,7 +5,7 @@ use Prim.Native.Nat.{ℕ, _+_}
 use mathlib.Core.Bool.{Bool, cond, not, _&&_}
 use mathlib.Core.List.{List, [], _∷_}
 use lib.Dec.{leb, eqb}
-use Rattle.refusal.specs.Said.{Bar, bar, judged, kept}
+use Rattle.refusal.specs.Said.{Bar, bar, judged, unlessRefused}
 use Rattle.settings.specs.Bytes.{withByte, same}
 use Rattle.cells.specs.Cells.{noCells}
 use Rattle.board.specs.declared.Board.{Board}
@@ -86,7 +86,7 @@ accessOf b address register v =
     let bars = accessBars b (writes address) register v in
     let after = boardAfter b (writes address) register v in
     let value = replyValue after (writes address) register v in
-    record { board = kept bars b after; outcome = outcomeSaying (judged bars (value ∷ [])) }
+    record { board = unlessRefused bars b after; outcome = outcomeSaying (judged bars (value ∷ [])) }
 
 -- a frame that was taken apart is an access
 unfoldable pub obeyedOf : Board → Request → Obeyed

@@ -69,12 +69,12 @@ unfoldable pub programmedBy : Board → Obeyed
 programmedBy b = cond (lookOf b .spends) (spentBy b) (leaves b (lookOf b .outcome))
 
 -- what is read
-abbrev pub toldOf : Board → Request → Outcome
-toldOf b asked = gives (readValue (shownOf b) (asked .register))
+abbrev pub readBy : Board → Request → Outcome
+readBy b asked = gives (readValue (shownOf b) (asked .register))
 
 -- the ways of a frame, in the table's order
 abbrev pub waysOf : Board → Request → Obeyed
 waysOf b asked =
     cond (barred asked) (leaves b (barOf asked))
     (cond (asksProgramming asked) (programmedBy b)
-    (cond (asksStaging asked) (stagedBy b asked) (leaves b (toldOf b asked))))
+    (cond (asksStaging asked) (stagedBy b asked) (leaves b (readBy b asked))))

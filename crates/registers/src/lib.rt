@@ -3,7 +3,7 @@ ghost use mathlib.Core.Path.{_≡_};
 ghost use Rattle.frame.specs.Frame.{writes};
 ghost use Rattle.registers.specs.Map.{noRegister, fits, readValue};
 ghost use Rattle.registers.specs.Registers.{shownOf, lacksCycle, obeyedOf};
-ghost use Rattle.registers.specs.Way.{gives, denies, barred, barOf, asksProgramming, asksStaging, toldOf, stagedBy, cyclesAfter, rests, lookOf, spentBy, programmedBy};
+ghost use Rattle.registers.specs.Way.{gives, denies, barred, barOf, asksProgramming, asksStaging, readBy, stagedBy, cyclesAfter, rests, lookOf, spentBy, programmedBy};
 use board::Board;
 use board::Currents;
 use frame::Outcome;
@@ -34,7 +34,7 @@ fn given(value: u8) -> Outcome
     }
 }
 
-fn refused(why: Refusal) -> Outcome
+fn denied(why: Refusal) -> Outcome
     ensures { λ r. ⌜ r ≡ denies why ⌝ }
 {
     let verdict = Verdict::Refused(why);
@@ -109,9 +109,9 @@ fn bar_of(asked: Request) -> Outcome
     ensures { λ r. ⌜ r ≡ barOf asked ⌝ }
 {
     if no_register(is_write(asked.address), asked.register) {
-        return refused(Refusal::NoRegister);
+        return denied(Refusal::NoRegister);
     }
-    refused(Refusal::BadValue)
+    denied(Refusal::BadValue)
 }
 
 fn asks_programming(asked: Request) -> bool
@@ -154,7 +154,7 @@ fn look(b: Board) -> Found
     ensures { λ r. ⌜ r ≡ lookOf b ⌝ }
 {
     if lacks_cycle(b) {
-        return rest(refused(Refusal::NoCycle));
+        return rest(denied(Refusal::NoCycle));
     }
     let equal = b.staged.same(b.working);
     if equal {
@@ -181,8 +181,8 @@ fn outcome_of(found: Found) -> Outcome
 // ---- what a frame does to the board
 
 // A read: the board stays.
-fn tell(b: Board, asked: Request) -> Outcome
-    ensures { λ r. ⌜ r ≡ toldOf b asked ⌝ }
+fn reply_read(b: Board, asked: Request) -> Outcome
+    ensures { λ r. ⌜ r ≡ readBy b asked ⌝ }
 {
     given(read(b, asked.register))
 }
@@ -262,5 +262,5 @@ pub fn obey_board(b: &mut Board, asked: Request) -> Outcome
     if asks_staging(asked) {
         return stage_board(b, asked);
     }
-    tell(*b, asked)
+    reply_read(*b, asked)
 }

@@ -12,10 +12,10 @@ use Rattle.settings.specs.declared.Settings.{Settings}
 use Rattle.settings.specs.Faults.{Fault, delay}
 use Rattle.settings.proofs.Laws.{delay-within}
 use Rattle.runs.specs.Run.{stretch, total, lasting, run, past}
-use Rattle.runs.specs.Kept.{runCap, kept, runNext, stood}
+use Rattle.runs.specs.Stored.{runCap, stored, runNext, stood}
 
 -- a delay below the cap has been stood by the kept run exactly if the paper's run is at or past it
-pub kept-stood : (delay : ℕ) (r : Option ℕ) → delay < runCap → stood delay (kept r) ≡ past delay r
+pub kept-stood : (delay : ℕ) (r : Option ℕ) → delay < runCap → stood delay (stored r) ≡ past delay r
 unfolding stood
 kept-stood delay none h = le-ltb delay 0 (omega arith)
 kept-stood delay (some t) h = by (leb delay t) refl
@@ -25,7 +25,7 @@ kept-stood delay (some t) h = by (leb delay t) refl
     by false e = let at : t < delay = leb-false delay t e in le-ltb delay (min runCap (t + 1)) (omega arith) ∙ sym e
 
 -- and so of every fault's delay, whatever the settings
-pub stood-delay : (f : Fault) (s : Settings) (r : Option ℕ) → stood (delay f s) (kept r) ≡ past (delay f s) r
+pub stood-delay : (f : Fault) (s : Settings) (r : Option ℕ) → stood (delay f s) (stored r) ≡ past (delay f s) r
 stood-delay f s r = kept-stood (delay f s) r (omega (arith, delay-within f s))
 
 -- no fault's delay reaches the cap, with room for a run that is longer than any of them
@@ -33,7 +33,7 @@ pub cap-beyond : (f : Fault) (s : Settings) → delay f s + 1 < runCap
 cap-beyond f s = omega (arith, delay-within f s)
 
 module _ {X : Type 0} (elapsed : X → ℕ) (holds : X → Bool) where
-  grows : (x : X) (held : List X) → runNext (kept (lasting elapsed held)) true (elapsed x) ≡ kept (lasting elapsed (x ∷ held))
+  grows : (x : X) (held : List X) → runNext (stored (lasting elapsed held)) true (elapsed x) ≡ stored (lasting elapsed (x ∷ held))
   unfolding runNext
   grows x [] = refl
   grows x (y ∷ held) =
@@ -41,10 +41,10 @@ module _ {X : Type 0} (elapsed : X → ℕ) (holds : X → Bool) where
       rw (ne-eqb (min runCap (t + 1)) 0 (λ e. omega arith)) (omega arith)
 
   -- the kept run follows the paper's run, sample by sample
-  pub kept-run : (x : X) (older : List X) → runNext (kept (run elapsed holds older)) (holds x) (elapsed x) ≡ kept (run elapsed holds (x ∷ older))
+  pub kept-run : (x : X) (older : List X) → runNext (stored (run elapsed holds older)) (holds x) (elapsed x) ≡ stored (run elapsed holds (x ∷ older))
   unfolding runNext
   kept-run x older = by (holds x)
     where
-      by : (b : Bool) → runNext (kept (run elapsed holds older)) b (elapsed x) ≡ kept (lasting elapsed (cond b (x ∷ stretch holds older) []))
+      by : (b : Bool) → runNext (stored (run elapsed holds older)) b (elapsed x) ≡ stored (lasting elapsed (cond b (x ∷ stretch holds older) []))
       by true = grows x (stretch holds older)
       by false = refl

@@ -1,12 +1,12 @@
-// The run of a condition (01, When a fault latches and lets go), kept as one number: 0 where the condition fails,
+// The run of a condition (01, When a fault latches and lets go), stored as one number: 0 where the condition fails,
 // and else one more than the run's microseconds.
 ghost use mathlib.Core.Path.{_≡_};
-ghost use Rattle.runs.specs.Kept.{runNext, stood};
+ghost use Rattle.runs.specs.Stored.{runNext, stood};
 
-// A kept run stops here, past every delay.
+// A stored run stops here, past every delay.
 const RUN_CAP: u64 = 10_000_000;
 
-// The kept run after one more accepted sample.
+// The stored run after one more accepted sample.
 pub fn advance(run: u32, holds: bool, elapsed: u32) -> u32
     ensures { λ r. ⌜ r ≡ runNext run holds elapsed ⌝ }
 {

@@ -11,7 +11,7 @@ use Rattle.board.specs.declared.Board.{Board}
 use Rattle.held.specs.declared.Stack.{Stack}
 use Rattle.held.specs.Held.{heldRow, withRow}
 use Rattle.held.proofs.Rows.{with-same, held-with, with-with}
-use Rattle.acts.specs.Acts.{actTold, actRow}
+use Rattle.acts.specs.InPlace.{actTold, actRow}
 use Rattle.lines.specs.declared.Kind.{Kind}
 use Rattle.lines.specs.declared.Kind.the-variants.{Open, Sample, Frame, Read, Malformed}
 use Rattle.lines.specs.declared.Line.{Line}

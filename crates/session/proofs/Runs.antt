@@ -15,7 +15,7 @@ use Rattle.held.specs.declared.Stack.{Stack}
 use Rattle.held.specs.Held.{heldRow, withRow}
 use Rattle.held.proofs.Rows.{with-same}
 use Rattle.acts.specs.declared.Told.{Told}
-use Rattle.acts.specs.Acts.{actTold, actRow}
+use Rattle.acts.specs.InPlace.{actTold, actRow}
 use Rattle.acts.proofs.Laws.{act-length}
 use Rattle.text.specs.Text.{textOf}
 use Rattle.text.specs.Way.{placed, Put}

@@ -15,7 +15,7 @@ use Rattle.acts.specs.declared.Act.{Act}
 use Rattle.acts.specs.declared.Sample as acts-sample
 use Rattle.acts.specs.declared.Frame as acts-frame
 use Rattle.acts.specs.declared.Told.the-variants as told
-use Rattle.acts.specs.Acts.{openingTold, sampleAct, frameAct, readingAct, actTold, actRow}
+use Rattle.acts.specs.InPlace.{openingTold, sampleAct, frameAct, readingAct, actTold, actRow}
 use Rattle.lines.specs.declared.Kind.{Kind}
 use Rattle.lines.specs.declared.Kind.the-variants.{Open, Sample, Frame, Read, Malformed}
 use Rattle.lines.specs.declared.Line.{Line}

@@ -14,7 +14,7 @@ use Rattle.held.specs.Held.{heldRow, withRow}
 use Rattle.acts.specs.declared.Act.{Act}
 use Rattle.acts.specs.declared.Told.{Told}
 use Rattle.acts.specs.declared.Told.the-variants as told
-use Rattle.acts.specs.Acts.{sampleAct, frameAct, readingAct, actTold, actRow}
+use Rattle.acts.specs.InPlace.{sampleAct, frameAct, readingAct, actTold, actRow}
 use Rattle.text.specs.Way.{placed}
 use Rattle.lines.specs.declared.Kind.{Kind}
 use Rattle.lines.specs.declared.Kind.the-variants.{Open, Sample, Frame, Read, Malformed}

@@ -9,7 +9,7 @@ use lib.Dec.{eqb}
 use lib.ListN.{length, set, length-set}
 use lib.Seq.{getD-set-other}
 use Rattle.lists.proofs.Split.{split}
-use Rattle.refusal.specs.Said.{Bar, first, judged, kept}
+use Rattle.refusal.specs.Said.{Bar, first, judged, unlessRefused}
 use Rattle.refusal.proofs.Laws.{number-back}
 use Rattle.board.specs.declared.Board.{Board}
 use Rattle.board.specs.declared.Readings.{Readings}
@@ -21,14 +21,14 @@ use Rattle.stack.specs.Sample.{sampleRowBars, sampleAnswer, sampleRow}
 use Rattle.stack.specs.Frame.{framePlace, frameRowBars, boardFramed, frameReply, frameAnswer, frameRow}
 
 -- ---- other records stay, and the row keeps its length
-kept-other : (bars : List Bar) (row : List Board) (at : ℕ) (new : Board) (k : ℕ) → k ≢ at → boardAt (kept bars row (set row at new)) k ≡ boardAt row k
+kept-other : (bars : List Bar) (row : List Board) (at : ℕ) (new : Board) (k : ℕ) → k ≢ at → boardAt (unlessRefused bars row (set row at new)) k ≡ boardAt row k
 kept-other bars row at new k h = by (eqb (first bars) 0)
   where
     by : (t : Bool) → boardAt (cond t (set row at new) row) k ≡ boardAt row k
     by true = getD-set-other row at k new (fresh 0) h
     by false = refl
 
-kept-length : (bars : List Bar) (row : List Board) (at : ℕ) (new : Board) → length (kept bars row (set row at new)) ≡ length row
+kept-length : (bars : List Bar) (row : List Board) (at : ℕ) (new : Board) → length (unlessRefused bars row (set row at new)) ≡ length row
 kept-length bars row at new = by (eqb (first bars) 0)
   where
     by : (t : Bool) → length (cond t (set row at new) row) ≡ length row

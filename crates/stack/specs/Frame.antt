@@ -4,7 +4,7 @@ use Prim.Native.Nat.{ℕ}
 use mathlib.Core.Bool.{not}
 use mathlib.Core.List.{List, _∷_, _++_}
 use lib.ListN.{length, set, drop}
-use Rattle.refusal.specs.Said.{Bar, bar, judged, kept}
+use Rattle.refusal.specs.Said.{Bar, bar, judged, unlessRefused}
 use Rattle.board.specs.declared.Board.{Board}
 use Rattle.frame.specs.declared.Reply.{Reply}
 use Rattle.frame.specs.Frame.{byte, boardOf, writes, frameBars}
@@ -41,7 +41,7 @@ unfoldable pub frameAnswer : List Board → List ℕ → List ℕ → Reply
 frameAnswer row bytes buffer = replySaying (judged (frameRowBars row bytes buffer) (frameReply row bytes))
 
 unfoldable pub frameRow : List Board → List ℕ → List ℕ → List Board
-frameRow row bytes buffer = kept (frameRowBars row bytes buffer) row (set row (framePlace bytes) (boardFramed row bytes))
+frameRow row bytes buffer = unlessRefused (frameRowBars row bytes buffer) row (set row (framePlace bytes) (boardFramed row bytes))
 
 unfoldable pub frameBuffer : List Board → List ℕ → List ℕ → List ℕ
-frameBuffer row bytes buffer = kept (frameRowBars row bytes buffer) buffer (frameReply row bytes ++ drop 4 buffer)
+frameBuffer row bytes buffer = unlessRefused (frameRowBars row bytes buffer) buffer (frameReply row bytes ++ drop 4 buffer)

@@ -6,7 +6,7 @@ use mathlib.Core.List.{List, [], _∷_, map}
 use lib.Dec.{eqb}
 use lib.ListN.{length}
 use Rattle.refusal.specs.Refusals.{numberOf, numbered}
-use Rattle.refusal.specs.Said.{Said, refuses, accepts, Bar, bar, judged, kept}
+use Rattle.refusal.specs.Said.{Said, refuses, accepts, Bar, bar, judged, unlessRefused}
 use Rattle.lists.specs.Every.{every}
 use Rattle.board.specs.declared.Board.{Board}
 use Rattle.board.specs.Sample.{fresh, badPlan}
@@ -39,4 +39,4 @@ unfoldable pub openAnswer : List Board → List ℕ → Opening
 openAnswer row plans = openingSaying (judged (openBars (length row) plans) [])
 
 unfoldable pub openRow : List Board → List ℕ → List Board
-openRow row plans = kept (openBars (length row) plans) row (opened plans)
+openRow row plans = unlessRefused (openBars (length row) plans) row (opened plans)

@@ -22,11 +22,11 @@ abbrev pub noBoard : List Board → ℕ → Bool
 noBoard row n = outside 1 (length row) n
 
 -- the place of a board in the row, counted from 0; board 0 has one past every good row
-abbrev pub nowhere : ℕ
-nowhere = 4294967295
+abbrev pub pastEnd : ℕ
+pastEnd = 4294967295
 
 abbrev pub placeOf : ℕ → ℕ
-placeOf n = cond (eqb n 0) nowhere (n - 1)
+placeOf n = cond (eqb n 0) pastEnd (n - 1)
 
 abbrev pub boardAt : List Board → ℕ → Board
 boardAt row at = getD row at (fresh 0)

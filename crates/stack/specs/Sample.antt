@@ -4,7 +4,7 @@ use Prim.Native.Nat.{ℕ}
 use mathlib.Core.Bool.{not}
 use mathlib.Core.List.{List, _∷_}
 use lib.ListN.{set}
-use Rattle.refusal.specs.Said.{Bar, bar, judged, kept}
+use Rattle.refusal.specs.Said.{Bar, bar, judged, unlessRefused}
 use Rattle.board.specs.declared.Board.{Board}
 use Rattle.board.specs.declared.Readings.{Readings}
 use Rattle.board.specs.declared.Answer.{Answer}
@@ -20,4 +20,4 @@ unfoldable pub sampleAnswer : List Board → ℕ → Readings → List ℕ → A
 sampleAnswer row n x mv = answerSaying (judged (sampleRowBars row n x mv) (sampleValues (boardAt row (placeOf n)) x mv))
 
 unfoldable pub sampleRow : List Board → ℕ → Readings → List ℕ → List Board
-sampleRow row n x mv = kept (sampleRowBars row n x mv) row (set row (placeOf n) (boardNext (boardAt row (placeOf n)) x mv))
+sampleRow row n x mv = unlessRefused (sampleRowBars row n x mv) row (set row (placeOf n) (boardNext (boardAt row (placeOf n)) x mv))

@@ -53,13 +53,13 @@ fn good_row(row: &[Board]) -> bool
 }
 
 // Past the end of every good row; the largest number, so that the compiled code takes 1 from 0 too.
-const NOWHERE: usize = 4294967295;
+const PAST_END: usize = 4294967295;
 
 fn place_of(board: u32) -> usize
     ensures { λ r. ⌜ r ≡ placeOf board ⌝ }
 {
     if board == 0 {
-        NOWHERE
+        PAST_END
     } else {
         (board - 1) as usize
     }

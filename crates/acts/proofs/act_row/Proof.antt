@@ -12,7 +12,7 @@ use mathlib.Core.Bool.{not, cond}
 use lib.Dec.{T as Holds}
 use Rattle.acts.specs.declared.ActKind.{ActKind}
 use Rattle.acts.specs.declared.ActKind.the-variants as kind
-use Rattle.acts.specs.Acts.{toldBy, rowBy, actTold, actRow}
+use Rattle.acts.specs.InPlace.{toldBy, rowBy, actTold, actRow}
 use Rattle.acts.specs.Way.{isSample, isFrame, otherTold, otherRow}
 use denote.Ref.{now}
 use contract.Running.{givenOf, tables, tablesOf}

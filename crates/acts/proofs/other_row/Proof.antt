@@ -11,7 +11,7 @@ use Rattle.acts.proofs.Known as known
 use mathlib.Core.Bool.{not}
 use lib.Dec.{T as Holds}
 use Rattle.acts.specs.declared.ActKind.the-variants as kind
-use Rattle.acts.specs.Acts.{toldBy, rowBy}
+use Rattle.acts.specs.InPlace.{toldBy, rowBy}
 use Rattle.acts.specs.Way.{isFrame, otherTold, otherRow}
 use denote.Ref.{now}
 use contract.Running.{givenOf, tables, tablesOf}

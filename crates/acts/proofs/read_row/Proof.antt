@@ -8,7 +8,7 @@ use Rattle.acts.proofs.Known as known
 use Rattle.stack.proofs.Known as rows
 use Rattle.stack.specs.Read.{readingOf}
 use Rattle.acts.specs.declared.ActKind.the-variants as kind
-use Rattle.acts.specs.Acts.{viewTold, toldBy, rowBy}
+use Rattle.acts.specs.InPlace.{viewTold, toldBy, rowBy}
 use denote.Ref.{now}
 use contract.Running.{givenOf, tables, tablesOf}
 use denote.Triple.Table.{entered, cited}

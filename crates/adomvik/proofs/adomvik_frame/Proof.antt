@@ -7,8 +7,8 @@ use denote.Builtin.{u8}
 use denote.Ref.{now}
 use Rattle.board.specs.declared.Board.{Board}
 use Rattle.stack.specs.Frame.{frameAnswer, frameRow, frameBuffer}
-use Rattle.adomvik.specs.Told.{numberOfReply}
-use Rattle.adomvik.specs.Acts.{frameNumber}
+use Rattle.adomvik.specs.Placed.{numberOfReply}
+use Rattle.adomvik.specs.Calls.{frameNumber}
 use Rattle.board.proofs.Board as Boards
 use Rattle.frame.proofs.Reply as Reply
 use contract.Running.{givenOf, tables, tablesOf}

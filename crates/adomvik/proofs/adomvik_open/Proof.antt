@@ -7,8 +7,8 @@ use denote.Builtin.{u8, u32}
 use denote.Ref.{now}
 use Rattle.board.specs.declared.Board.{Board}
 use Rattle.stack.specs.Open.{openAnswer, openRow}
-use Rattle.adomvik.specs.Told.{numberOfOpening}
-use Rattle.adomvik.specs.Acts.{openNumber}
+use Rattle.adomvik.specs.Placed.{numberOfOpening}
+use Rattle.adomvik.specs.Calls.{openNumber}
 use Rattle.board.proofs.Board as Boards
 use contract.Running.{givenOf, tables, tablesOf}
 use denote.Triple.Table.{entered, cited}

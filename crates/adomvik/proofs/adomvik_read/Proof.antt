@@ -6,8 +6,8 @@ use denote.Builtin.{u8}
 use Rattle.board.specs.declared.Board.{Board}
 use Rattle.stack.specs.Read.{readingOf}
 use Rattle.adomvik.specs.declared.Reading.{Reading}
-use Rattle.adomvik.specs.Told.{toldReading}
-use Rattle.adomvik.specs.Acts.{readNumber, readOut}
+use Rattle.adomvik.specs.Placed.{placedReading}
+use Rattle.adomvik.specs.Calls.{readNumber, readOut}
 use Rattle.board.proofs.Board as Boards
 use Rattle.stack.proofs.View as View
 use Rattle.adomvik.proofs.Reading as Place
@@ -22,18 +22,18 @@ use Rattle.stack.proofs.Known as stack-known
 use Rattle.adomvik.proofs.Known as known
 use Rattle.stack.proofs.read_stack.Symbol.{name as #read-stack}
 use Rattle.stack.proofs.read_stack.Met as read-stack′
-use Rattle.adomvik.proofs.tell_reading.Symbol.{name as #tell-reading}
-use Rattle.adomvik.proofs.tell_reading.Met as tell-reading′
+use Rattle.adomvik.proofs.place_reading.Symbol.{name as #place-reading}
+use Rattle.adomvik.proofs.place_reading.Met as place-reading′
 use Rattle.adomvik.proofs.adomvik_read.Key as key
 use Rattle.adomvik.proofs.adomvik_read.Statement as stated
 use Rattle.adomvik.proofs.adomvik_read.Code as code
 
 abbrev shape : Shape
-shape = record { T = Boards.the-type; X = View.the-row; P = Place.the-row; U = u8; f = #read-stack; h = #tell-reading; F = readingOf; number = λ out v. toldReading out v .number; put = λ out v. toldReading out v .out; number-of = λ row _. readNumber row; out-of = readOut }
+shape = record { T = Boards.the-type; X = View.the-row; P = Place.the-row; U = u8; f = #read-stack; h = #place-reading; F = readingOf; number = λ out v. placedReading out v .number; put = λ out v. placedReading out v .out; number-of = λ row _. readNumber row; out-of = readOut }
 
 -- what the contract says
-says-all : (row : List Board) (out : Reading) → (toldReading out (readingOf row) .number ≡ readNumber row) × (toldReading out (readingOf row) .out ≡ readOut row out)
-unfolding toldReading readNumber readOut
+says-all : (row : List Board) (out : Reading) → (placedReading out (readingOf row) .number ≡ readNumber row) × (placedReading out (readingOf row) .out ≡ readOut row out)
+unfolding placedReading readNumber readOut
 says-all row out = (refl, refl)
 
 abbrev knows : {M : Type 1} (𝓤 : URA M) (H : Heap 𝓤) (A : Atoms 𝓤) (W : Given 𝓤 H A) → Knows 𝓤 H A shape
@@ -45,4 +45,4 @@ adomvik-read-spec 𝓤 H 𝓜 𝓖 𝓡 =
     entered 𝓤 H _ _ _ key.name code.function (code.unfolded 𝓤 H 𝓜 𝓡)
     (meets 𝓤 H (𝓖 .A) (givenOf 𝓤 H 𝓜 𝓖) shape (knows 𝓤 H (𝓖 .A) (givenOf 𝓤 H 𝓜 𝓖)) (tablesOf 𝓤 H 𝓜 (tables 𝓤 H 𝓜 𝓡 code.env))
     (cited 𝓤 H _ 𝓜 𝓡 code.env #read-stack _ code.calls-stack·read-stack (read-stack′.met 𝓤 H 𝓜 𝓖 𝓡))
-    (cited 𝓤 H _ 𝓜 𝓡 code.env #tell-reading _ code.calls-adomvik·tell-reading (tell-reading′.met 𝓤 H 𝓜 𝓖 𝓡)))
+    (cited 𝓤 H _ 𝓜 𝓡 code.env #place-reading _ code.calls-adomvik·place-reading (place-reading′.met 𝓤 H 𝓜 𝓖 𝓡)))

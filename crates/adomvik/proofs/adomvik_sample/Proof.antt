@@ -8,8 +8,8 @@ use Rattle.board.specs.declared.Board.{Board}
 use Rattle.board.specs.declared.Readings.{Readings}
 use Rattle.stack.specs.Sample.{sampleAnswer, sampleRow}
 use Rattle.adomvik.specs.declared.Sampled.{Sampled}
-use Rattle.adomvik.specs.Told.{toldSample}
-use Rattle.adomvik.specs.Acts.{sampleNumber, sampleOut}
+use Rattle.adomvik.specs.Placed.{placedSample}
+use Rattle.adomvik.specs.Calls.{sampleNumber, sampleOut}
 use Rattle.board.proofs.Board as Boards
 use Rattle.board.proofs.Readings as Read
 use Rattle.board.proofs.Answer as Answer
@@ -25,18 +25,18 @@ use Rattle.stack.proofs.Known as stack-known
 use Rattle.adomvik.proofs.Known as known
 use Rattle.stack.proofs.sample_stack.Symbol.{name as #sample-stack}
 use Rattle.stack.proofs.sample_stack.Met as sample-stack′
-use Rattle.adomvik.proofs.tell_sample.Symbol.{name as #tell-sample}
-use Rattle.adomvik.proofs.tell_sample.Met as tell-sample′
+use Rattle.adomvik.proofs.place_sample.Symbol.{name as #place-sample}
+use Rattle.adomvik.proofs.place_sample.Met as place-sample′
 use Rattle.adomvik.proofs.adomvik_sample.Key as key
 use Rattle.adomvik.proofs.adomvik_sample.Statement as stated
 use Rattle.adomvik.proofs.adomvik_sample.Code as code
 
 abbrev shape : Shape
-shape = record { T = Boards.the-type; N = u32; X = Read.the-row; E = u32; Y = Answer.the-row; P = Place.the-row; U = u8; f = #sample-stack; h = #tell-sample; answer-in = sampleAnswer; row-in = sampleRow; number = λ out a. toldSample out a .number; put = λ out a. toldSample out a .out; number-of = λ row n x mv _. sampleNumber row n x mv; out-of = sampleOut }
+shape = record { T = Boards.the-type; N = u32; X = Read.the-row; E = u32; Y = Answer.the-row; P = Place.the-row; U = u8; f = #sample-stack; h = #place-sample; answer-in = sampleAnswer; row-in = sampleRow; number = λ out a. placedSample out a .number; put = λ out a. placedSample out a .out; number-of = λ row n x mv _. sampleNumber row n x mv; out-of = sampleOut }
 
 -- what the contract says
-says-all : (row : List Board) (n : ℕ) (x : Readings) (mv : List ℕ) (out : Sampled) → (toldSample out (sampleAnswer row n x mv) .number ≡ sampleNumber row n x mv) × (toldSample out (sampleAnswer row n x mv) .out ≡ sampleOut row n x mv out)
-unfolding toldSample sampleNumber sampleOut
+says-all : (row : List Board) (n : ℕ) (x : Readings) (mv : List ℕ) (out : Sampled) → (placedSample out (sampleAnswer row n x mv) .number ≡ sampleNumber row n x mv) × (placedSample out (sampleAnswer row n x mv) .out ≡ sampleOut row n x mv out)
+unfolding placedSample sampleNumber sampleOut
 says-all row n x mv out = (refl, refl)
 
 abbrev knows : {M : Type 1} (𝓤 : URA M) (H : Heap 𝓤) (A : Atoms 𝓤) (W : Given 𝓤 H A) → Knows 𝓤 H A shape
@@ -48,4 +48,4 @@ adomvik-sample-spec 𝓤 H 𝓜 𝓖 𝓡 =
     entered 𝓤 H _ _ _ key.name code.function (code.unfolded 𝓤 H 𝓜 𝓡)
     (meets 𝓤 H (𝓖 .A) (givenOf 𝓤 H 𝓜 𝓖) shape (knows 𝓤 H (𝓖 .A) (givenOf 𝓤 H 𝓜 𝓖)) (tablesOf 𝓤 H 𝓜 (tables 𝓤 H 𝓜 𝓡 code.env))
     (cited 𝓤 H _ 𝓜 𝓡 code.env #sample-stack _ code.calls-stack·sample-stack (sample-stack′.met 𝓤 H 𝓜 𝓖 𝓡))
-    (cited 𝓤 H _ 𝓜 𝓡 code.env #tell-sample _ code.calls-adomvik·tell-sample (tell-sample′.met 𝓤 H 𝓜 𝓖 𝓡)))
+    (cited 𝓤 H _ 𝓜 𝓡 code.env #place-sample _ code.calls-adomvik·place-sample (place-sample′.met 𝓤 H 𝓜 𝓖 𝓡)))

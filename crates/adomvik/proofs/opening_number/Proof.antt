@@ -1,5 +1,5 @@
 use borrow.Author.Needs.{needs}
-use Rattle.adomvik.specs.Told.{numberOfOpening}
+use Rattle.adomvik.specs.Placed.{numberOfOpening}
 use Rattle.adomvik.proofs.opening_number.Statement.{statement}
 use Rattle.adomvik.proofs.opening_number.Tie as tie
 

@@ -1,5 +1,5 @@
 use borrow.Author.Needs.{needs}
-use Rattle.adomvik.specs.Told.{numberOfReply}
+use Rattle.adomvik.specs.Placed.{numberOfReply}
 use Rattle.adomvik.proofs.reply_number.Statement.{statement}
 use Rattle.adomvik.proofs.reply_number.Tie as tie
 

@@ -6,7 +6,7 @@ use borrow.Author.Tests.{eq-eqb, ne-eqb}
 use borrow.Author.Needs.{needs}
 use Rattle.lists.specs.Marks.{marks}
 use Rattle.reading.specs.Way.{up}
-use Rattle.reading.proofs.Turns.{up-none, up-next}
+use Rattle.reading.proofs.Gathered.{up-none, up-next}
 use borrow.Fn.Kinds.{In}
 use borrow.Fn.PlainCycle.{Measures, is, falls, and}
 use Rattle.reading.proofs.line_up.Reads as line-up

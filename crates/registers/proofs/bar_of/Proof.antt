@@ -10,17 +10,17 @@ is-write-requires c κs = search needs
 no-register-requires : tie.Need-no-register-requires
 no-register-requires c κs = search needs
 
-refused-requires : tie.Need-refused-requires
-refused-requires c κs = search needs
+denied-requires : tie.Need-denied-requires
+denied-requires c κs = search needs
 
 returns : tie.Need-returns
-returns c = rw (c .refused .ensures, ← (c .before .before .before .is-write .ensures), ← (c .before .before .no-register .ensures), c .before .if1 .taken)
+returns c = rw (c .denied .ensures, ← (c .before .before .before .is-write .ensures), ← (c .before .before .no-register .ensures), c .before .if1 .taken)
 
-refused-requires-2 : tie.Need-refused-requires-2
-refused-requires-2 c κs = search needs
+denied-requires-2 : tie.Need-denied-requires-2
+denied-requires-2 c κs = search needs
 
 returns-2 : tie.Need-returns-2
-returns-2 c = rw (c .refused2 .ensures, ← (c .before .before .before .is-write .ensures), ← (c .before .before .no-register .ensures), c .before .if1 .left)
+returns-2 c = rw (c .denied2 .ensures, ← (c .before .before .before .is-write .ensures), ← (c .before .before .no-register .ensures), c .before .if1 .left)
 
 pub bar-of-spec : {M : Type 1} → statement M
 bar-of-spec =
@@ -28,7 +28,7 @@ bar-of-spec =
     (tie.spec
     is-write-requires
     no-register-requires
-    refused-requires
+    denied-requires
     returns
-    refused-requires-2
+    denied-requires-2
     returns-2)

@@ -8,15 +8,15 @@ use Rattle.registers.proofs.look.Tie as tie
 lacks-cycle-requires : tie.Need-lacks-cycle-requires
 lacks-cycle-requires c κs = search needs
 
-refused-requires : tie.Need-refused-requires
-refused-requires c κs = search needs
+denied-requires : tie.Need-denied-requires
+denied-requires c κs = search needs
 
 rest-requires : tie.Need-rest-requires
 rest-requires c κs = search needs
 
 returns : tie.Need-returns
 unfolding lookOf
-returns c = rw (c .rest .ensures, c .before .refused .ensures, ← (c .before .before .before .lacks-cycle .ensures), c .before .before .if1 .taken)
+returns c = rw (c .rest .ensures, c .before .denied .ensures, ← (c .before .before .before .lacks-cycle .ensures), c .before .before .if1 .taken)
 
 same-requires : tie.Need-same-requires
 same-requires c κs = search needs
@@ -46,7 +46,7 @@ look-spec =
     tie.close
     (tie.spec
     lacks-cycle-requires
-    refused-requires
+    denied-requires
     rest-requires
     returns
     same-requires

@@ -6,7 +6,7 @@ use Rattle.board.proofs.Board as Board
 use Rattle.board.proofs.Known as boards
 use Rattle.frame.proofs.Request as Request
 use Rattle.registers.specs.Registers.{obeyedOf}
-use Rattle.registers.specs.Way.{barred, barOf, asksProgramming, asksStaging, stagedBy, programmedBy, toldOf}
+use Rattle.registers.specs.Way.{barred, barOf, asksProgramming, asksStaging, stagedBy, programmedBy, readBy}
 use Rattle.registers.proofs.Ways.{way-barred, way-programs, way-stages, way-reads}
 use contract.Running.{givenOf, tables, tablesOf}
 use denote.Triple.Table.{entered, cited}
@@ -29,8 +29,8 @@ use Rattle.registers.proofs.asks_staging.Symbol.{name as #asks-staging}
 use Rattle.registers.proofs.asks_staging.Met as asks-staging′
 use Rattle.registers.proofs.stage_board.Symbol.{name as #stage-board}
 use Rattle.registers.proofs.stage_board.Met as stage-board′
-use Rattle.registers.proofs.tell.Symbol.{name as #tell}
-use Rattle.registers.proofs.tell.Met as tell′
+use Rattle.registers.proofs.reply_read.Symbol.{name as #reply-read}
+use Rattle.registers.proofs.reply_read.Met as reply-read′
 use Rattle.registers.proofs.obey_board.Key as key
 use Rattle.registers.proofs.obey_board.Statement as stated
 use Rattle.registers.proofs.obey_board.Code as code
@@ -49,4 +49,4 @@ obey-board-spec 𝓤 H 𝓜 𝓖 𝓡 =
     (λ p. calls-all (obeying (λ b t. programmedBy b) .says-of) #program-board (cited 𝓤 H _ 𝓜 𝓡 code.env #program-board _ code.calls-registers·program-board (program-board′.met 𝓤 H 𝓜 𝓖 𝓡)) (λ r ws e. follows e (way-programs b t h p)))
     (λ p. branch (asks-of (param (after-behind at)) asksStaging #asks-staging (cited 𝓤 H _ 𝓜 𝓡 code.env #asks-staging _ code.calls-registers·asks-staging (asks-staging′.met 𝓤 H 𝓜 𝓖 𝓡)))
     (λ w. calls-all (obeying stagedBy .says-of) #stage-board (cited 𝓤 H _ 𝓜 𝓡 code.env #stage-board _ code.calls-registers·stage-board (stage-board′.met 𝓤 H 𝓜 𝓖 𝓡)) (λ r ws e. follows e (way-stages b t h p w)))
-    (λ w. answers (copied Board.the-type (boards.board 𝓤 H (𝓖 .A) W) (asks (value Board.the-row ∷ value Request.the-row ∷ []) no-keys (found newest (holds (same stop))) (λ μs y. toldOf (y .0) (y .1 .0)) #tell (cited 𝓤 H _ 𝓜 𝓡 code.env #tell _ code.calls-registers·tell (tell′.met 𝓤 H 𝓜 𝓖 𝓡)) tt tt)) (way-reads b t h p w))))))
+    (λ w. answers (copied Board.the-type (boards.board 𝓤 H (𝓖 .A) W) (asks (value Board.the-row ∷ value Request.the-row ∷ []) no-keys (found newest (holds (same stop))) (λ μs y. readBy (y .0) (y .1 .0)) #reply-read (cited 𝓤 H _ 𝓜 𝓡 code.env #reply-read _ code.calls-registers·reply-read (reply-read′.met 𝓤 H 𝓜 𝓖 𝓡)) tt tt)) (way-reads b t h p w))))))

@@ -1,6 +1,6 @@
 use borrow.Author.Tests.{eq-eqb, ne-eqb}
 use native.Mathlib.Omega.{arith}
-use Rattle.runs.specs.Kept.{runNext}
+use Rattle.runs.specs.Stored.{runNext}
 use borrow.Author.Needs.{needs}
 use Rattle.runs.proofs.advance.Statement.{statement}
 use Rattle.runs.proofs.advance.Tie as tie

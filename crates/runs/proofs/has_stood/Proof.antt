@@ -1,5 +1,5 @@
 use mathlib.Core.Path.{refl}
-use Rattle.runs.specs.Kept.{stood}
+use Rattle.runs.specs.Stored.{stood}
 use Rattle.runs.proofs.has_stood.Statement.{statement}
 use Rattle.runs.proofs.has_stood.Tie as tie
 

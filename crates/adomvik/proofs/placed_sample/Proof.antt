@@ -1,8 +1,8 @@
 use borrow.Author.Needs.{needs}
 use Rattle.refusal.proofs.Laws.{number-not-zero}
-use Rattle.adomvik.specs.Told.{toldSample}
-use Rattle.adomvik.proofs.told_sample.Statement.{statement}
-use Rattle.adomvik.proofs.told_sample.Tie as tie
+use Rattle.adomvik.specs.Placed.{placedSample}
+use Rattle.adomvik.proofs.placed_sample.Statement.{statement}
+use Rattle.adomvik.proofs.placed_sample.Tie as tie
 
 enum-known-a : tie.Need-enum-known-a
 enum-known-a c = search needs
@@ -14,15 +14,15 @@ number-requires : tie.Need-number-requires
 number-requires c κs = search needs
 
 returns : tie.Need-returns
-unfolding toldSample
+unfolding placedSample
 returns c = rw (c .before .a .given .1)
 
 returns-2 : tie.Need-returns-2
-unfolding toldSample
+unfolding placedSample
 returns-2 c =
     let why = c .before .before .a2 .given .0 .0 in
     rw (c .number .ensures, c .before .before .a2 .given .1, number-not-zero why)
 
-pub told-sample-spec : {M : Type 1} → statement M
-told-sample-spec =
+pub placed-sample-spec : {M : Type 1} → statement M
+placed-sample-spec =
     tie.close (tie.spec enum-known-a enum-known-a-2 number-requires returns returns-2)

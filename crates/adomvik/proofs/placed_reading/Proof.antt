@@ -1,8 +1,8 @@
 use borrow.Author.Needs.{needs}
 use Rattle.refusal.proofs.Laws.{number-not-zero}
-use Rattle.adomvik.specs.Told.{toldReading}
-use Rattle.adomvik.proofs.told_reading.Statement.{statement}
-use Rattle.adomvik.proofs.told_reading.Tie as tie
+use Rattle.adomvik.specs.Placed.{placedReading}
+use Rattle.adomvik.proofs.placed_reading.Statement.{statement}
+use Rattle.adomvik.proofs.placed_reading.Tie as tie
 
 enum-known-v : tie.Need-enum-known-v
 enum-known-v c = search needs
@@ -23,18 +23,18 @@ number-requires : tie.Need-number-requires
 number-requires c κs = search needs
 
 returns : tie.Need-returns
-unfolding toldReading
+unfolding placedReading
 returns c =
     rw (c .byte-of3 .ensures, c .before .byte-of2 .ensures, c .before .before .byte-of .ensures, c .before .before .before .before .v .given .1)
 
 returns-2 : tie.Need-returns-2
-unfolding toldReading
+unfolding placedReading
 returns-2 c =
     let why = c .before .before .v2 .given .0 .0 in
     rw (c .number .ensures, c .before .before .v2 .given .1, number-not-zero why)
 
-pub told-reading-spec : {M : Type 1} → statement M
-told-reading-spec =
+pub placed-reading-spec : {M : Type 1} → statement M
+placed-reading-spec =
     tie.close
     (tie.spec
     enum-known-v

@@ -1,8 +1,8 @@
 -- `registers::tell` meets its contract: what is read is given.
 -- Assumes nothing.
 use borrow.Author.Needs.{needs}
-use Rattle.registers.proofs.tell.Statement.{statement}
-use Rattle.registers.proofs.tell.Tie as tie
+use Rattle.registers.proofs.reply_read.Statement.{statement}
+use Rattle.registers.proofs.reply_read.Tie as tie
 
 read-requires : tie.Need-read-requires
 read-requires c κs = search needs
@@ -13,5 +13,5 @@ given-requires c κs = search needs
 returns : tie.Need-returns
 returns c = rw (c .given .ensures, c .before .read .ensures)
 
-pub tell-spec : {M : Type 1} → statement M
-tell-spec = tie.close (tie.spec read-requires given-requires returns)
+pub reply-read-spec : {M : Type 1} → statement M
+reply-read-spec = tie.close (tie.spec read-requires given-requires returns)

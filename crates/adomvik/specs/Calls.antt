@@ -13,7 +13,7 @@ use Rattle.stack.specs.Read.{viewSaid}
 use Rattle.stack.specs.Read as stack
 use Rattle.adomvik.specs.declared.Sampled.{Sampled}
 use Rattle.adomvik.specs.declared.Reading.{Reading}
-use Rattle.adomvik.specs.Told.{placed, sampledOf, readingOf}
+use Rattle.adomvik.specs.Placed.{placed, sampledOf, readingOf}
 
 -- the opening of the row
 unfoldable pub openNumber : List Board → List ℕ → ℕ

@@ -1,4 +1,4 @@
--- What a board keeps of a run: one number.
+-- What a board stores of a run: one number.
 -- Assumes nothing.
 use Prim.Native.Nat.{ℕ, _+_, min}
 use mathlib.Core.Bool.{Bool, cond}
@@ -9,14 +9,14 @@ abbrev pub runCap : ℕ
 runCap = 10000000
 
 -- no run is 0, and a run of t is t + 1, up to the cap
-abbrev pub kept : Option ℕ → ℕ
-kept none = 0
-kept (some t) = min runCap (t + 1)
+abbrev pub stored : Option ℕ → ℕ
+stored none = 0
+stored (some t) = min runCap (t + 1)
 
--- the kept run after one more sample: a stretch that begins here has a run of 0
+-- the stored run after one more sample: a stretch that begins here has a run of 0
 unfoldable pub runNext : ℕ → Bool → ℕ → ℕ
 runNext run holds elapsed = cond holds (cond (eqb run 0) 1 (min runCap (run + elapsed))) 0
 
--- the kept run is at or past the delay
+-- the stored run is at or past the delay
 unfoldable pub stood : ℕ → ℕ → Bool
 stood delay run = ltb delay run

@@ -14,8 +14,8 @@ use Rattle.stack.specs.Open.{openingSaid}
 use Rattle.stack.specs.Read.{viewSaid}
 use Rattle.adomvik.specs.declared.Sampled.{Sampled}
 use Rattle.adomvik.specs.declared.Reading.{Reading}
-use Rattle.adomvik.specs.declared.ToldSample.{ToldSample}
-use Rattle.adomvik.specs.declared.ToldReading.{ToldReading}
+use Rattle.adomvik.specs.declared.PlacedSample.{PlacedSample}
+use Rattle.adomvik.specs.declared.PlacedReading.{PlacedReading}
 
 -- a refusal leaves the place alone
 abbrev pub placed : {A : Type 0} → Said → A → A → A
@@ -28,11 +28,11 @@ sampledOf s = record { status = value 0 s; bled = value 1 s }
 abbrev pub readingOf : Said → Reading
 readingOf s = record { line = value 0 s; chg = value 1 s; dsg = value 2 s; board = value 3 s; cell = value 4 s }
 
-unfoldable pub toldSample : Sampled → Answer → ToldSample
-toldSample out a = record { out = placed (answerSaid a) out (sampledOf (answerSaid a)); number = answerSaid a .number }
+unfoldable pub placedSample : Sampled → Answer → PlacedSample
+placedSample out a = record { out = placed (answerSaid a) out (sampledOf (answerSaid a)); number = answerSaid a .number }
 
-unfoldable pub toldReading : Reading → View → ToldReading
-toldReading out v = record { out = placed (viewSaid v) out (readingOf (viewSaid v)); number = viewSaid v .number }
+unfoldable pub placedReading : Reading → View → PlacedReading
+placedReading out v = record { out = placed (viewSaid v) out (readingOf (viewSaid v)); number = viewSaid v .number }
 
 unfoldable pub numberOfReply : Reply → ℕ
 numberOfReply a = replySaid a .number
