@@ -11,6 +11,7 @@ pub mod Swaps
 pub mod Order
 pub mod Examples
 pub mod Session
+pub mod Always
 pub mod Cycles
 pub mod Turns
 pub mod Mechanic

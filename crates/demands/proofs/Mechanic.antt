@@ -14,6 +14,8 @@ use borrow.Author.Tests.{leb-true, le-leb, eq-eqb, ne-eqb}
 use Rattle.refusal.specs.Said.{Said, Bar, accepts, refuses, first}
 use Rattle.lists.proofs.Split.{split}
 use Rattle.settings.specs.Bytes.{same}
+use Rattle.settings.specs.Levels.{crossed}
+use Rattle.settings.proofs.Laws.{same-yes}
 use Rattle.settings.specs.Faults.{Fault, SCD, OCD, OV, UV, OT, delay}
 use Rattle.runs.specs.Run.{past}
 use Rattle.latches.specs.Latches.{latch, latches, latchesOf, latchNext}
@@ -33,6 +35,7 @@ use Rattle.demands.proofs.Lists.{some-at, some-yes}
 use Rattle.demands.proofs.Table.{judged-number, stays, values, act-judged, demand1}
 use Rattle.demands.proofs.Tells.{board-at, sample-joins, tells, gives}
 use Rattle.demands.proofs.Demanded.{demand2, final-good}
+use Rattle.demands.proofs.Cycles.{uncrossed}
 use Rattle.demands.proofs.Turns.{never-latched, calm-never}
 
 -- ---- a condition that has stood its delay
@@ -83,7 +86,7 @@ given-holds n (b ∷ rows) p e =
     later true r = r
     later false r = r
 
-module _ (logs : List Log) (good : goodRow (rowGiven logs) ≡ true) where
+module _ (logs : List Log) (good : goodRow (rowGiven logs) ≡ true) (fine : (at : ℕ) → crossed (working (logAt logs at .acts)) ≡ false) where
   abbrev row : List Board
   row = rowGiven logs
 
@@ -162,11 +165,20 @@ module _ (logs : List Log) (good : goodRow (rowGiven logs) ≡ true) where
         (λ c. rw (c, w, r, board-at logs (framePlace bytes), e) (ap (set row (framePlace bytes)) (sym (board-at logs (framePlace bytes))) ∙ set-getD row (framePlace bytes) (fresh 0)))
         (λ c. rw c)
 
-    never-eleven : same (staged (m .acts)) (working (m .acts)) ≡ true → outcome row (frame bytes buffer) .said ≡ refuses 11 → ⊥
-    never-eleven e s =
+    -- a refusal of this number was not given
+    not-given : (n : ℕ) → 0 < n → holdsOf n (bars row (frame bytes buffer)) ≡ false → outcome row (frame bytes buffer) .said ≡ refuses n → ⊥
+    not-given n p holds-not s =
         let rows = bars row (frame bytes buffer) in
-        let eleven : first rows ≡ 11 = sym (judged-number rows (values row (frame bytes buffer))) ∙ ap (λ (a : Said). a .number) (sym (act-judged row (frame bytes buffer)) ∙ s) in
-        true≢false (sym (rw (w, r, board-at logs (framePlace bytes), e) at (given-holds 11 rows (omega arith) eleven)))
+        let first-is : first rows ≡ n = sym (judged-number rows (values row (frame bytes buffer))) ∙ ap (λ (a : Said). a .number) (sym (act-judged row (frame bytes buffer)) ∙ s) in
+        true≢false (sym (given-holds n rows p first-is) ∙ holds-not)
+
+    never-thirteen : same (staged (m .acts)) (working (m .acts)) ≡ true → outcome row (frame bytes buffer) .said ≡ refuses 13 → ⊥
+    never-thirteen e =
+        let level = ap crossed (same-yes (staged (m .acts)) (working (m .acts)) e) ∙ fine (framePlace bytes) in
+        not-given 13 (omega arith) (rw (w, r, board-at logs (framePlace bytes), level))
+
+    never-eleven : same (staged (m .acts)) (working (m .acts)) ≡ true → outcome row (frame bytes buffer) .said ≡ refuses 11 → ⊥
+    never-eleven e = not-given 11 (omega arith) (rw (w, r, board-at logs (framePlace bytes), e))
 
   refused-leaves : (a : Act) (n : ℕ) → 0 < n → outcome row a .said ≡ refuses n → taken logs a ≡ logs
   refused-leaves (sample k x mv) n p e =
@@ -188,7 +200,8 @@ module _ (logs : List Log) (good : goodRow (rowGiven logs) ≡ true) where
         reads-working = λ bytes buffer a w low high.
             replied bytes buffer a ∙ rw (w, ne-eqb (byte bytes 1) 0 (λ z. omega arith), ne-eqb (byte bytes 1) 11 (λ z. omega arith));
         reads-cycles = λ bytes buffer a w is. replied bytes buffer a ∙ rw (w, is);
-        equal-programming = λ bytes buffer w r e. (equal-leaves bytes buffer w r e, never-eleven bytes buffer w r e);
+        equal-programming = λ bytes buffer w r e. (equal-leaves bytes buffer w r e, never-thirteen bytes buffer w r e, never-eleven bytes buffer w r e);
+        never-crossed = fine;
         refused = λ a n p e. let same = demand1 row .unchanged a n p e in (same .0, same .1, refused-leaves a n p e);
         reading-accepted = ap (λ (o : Outcome). o .said .number) (tells logs good reading);
       }
@@ -196,4 +209,4 @@ module _ (logs : List Log) (good : goodRow (rowGiven logs) ≡ true) where
 pub mechanic : Mechanic
 mechanic counts e acts =
     let logs = final taken (begun counts) acts in
-    subst (λ (r : List Board). Answers r logs) (sym (demand2 counts e acts .1)) (answered logs (final-good counts e acts))
+    subst (λ (r : List Board). Answers r logs) (sym (demand2 counts e acts .1)) (answered logs (final-good counts e acts) (uncrossed counts acts))

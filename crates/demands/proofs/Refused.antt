@@ -9,12 +9,13 @@ use mathlib.Core.List.{List, [], _∷_, _++_, map}
 use lib.Dec.{leb, ltb, eqb}
 use lib.IntN.{ℤ, pos, negsuc}
 use lib.ListN.{length, set, length-map, List·getD-eq-default}
-use borrow.Author.Tests.{eqb-true, eqb-false, eq-eqb, ne-eqb, leb-true, leb-false}
+use borrow.Author.Tests.{eqb-true, eqb-false, eq-eqb, ne-eqb, leb-true, leb-false, ltb-false, le-ltb}
 use Rattle.lists.specs.Every.{every}
 use Rattle.lists.proofs.Split.{split, both, not-yes}
 use Rattle.refusal.specs.Said.{Said, Bar, bar, first}
 use Rattle.settings.specs.declared.Settings.{Settings}
 use Rattle.settings.specs.Bytes.{same, allowed}
+use Rattle.settings.specs.Levels.{ocdLevel, scdLevel, crossed}
 use Rattle.settings.proofs.Laws.{same-self, same-yes}
 use Rattle.cells.specs.Cells.{readable}
 use Rattle.board.specs.declared.Board.{Board}
@@ -30,11 +31,11 @@ use Rattle.stack.specs.Row.{badCount, goodRow, noBoard, pastEnd, placeOf, board
 use Rattle.stack.specs.Open.{goodPlans, openBars, openingSaid, openAnswer}
 use Rattle.stack.specs.Sample.{sampleRowBars}
 use Rattle.stack.specs.Frame.{framePlace, frameRowBars}
-use Rattle.demands.specs.Paper.{Entry, staged, working, spent}
+use Rattle.demands.specs.Paper.{Entry, History, staged, working, spent}
 use Rattle.demands.specs.Acts.{Act, sample, frame, reading, bars, outcome, next, openedRow, final}
 use Rattle.demands.specs.Table.{FirstIs, NoneHolds, ByTable}
 use Rattle.demands.specs.Demands.{Log, log, begun, logAt, joined, boardGiven, rowGiven, joins, taken, opens}
-use Rattle.demands.specs.Refused.{Rule, Outside, Some, NoStack, countsOf, logOf, NoBoard, WrongCells, WrongShunt, WrongReading, ReadOf, WriteOf, Reads, Writes, NoBoardNamed, Known, WrongRegister, MayCarry, WrongValue, Unlike, NoCycle, openingRules, sampleRules, frameRules, rules, SameRows, SameTable, FirstOf, NoneOf, ByRules, ActOf, entered, RefusedByPaper}
+use Rattle.demands.specs.Refused.{Rule, Outside, Some, NoStack, countsOf, logOf, NoBoard, WrongCells, WrongShunt, WrongReading, ReadOf, WriteOf, Reads, Writes, NoBoardNamed, Known, WrongRegister, MayCarry, WrongValue, Programs, Crossed, Worn, openingRules, sampleRules, frameRules, rules, SameRows, SameTable, FirstOf, NoneOf, ByRules, ActOf, entered, RefusedByPaper}
 use Rattle.demands.proofs.Asked.{Asks, asks-no, asks-so, asks-same, asks-lt, asks-le, asks-eq, asks-above, asks-or, asks-and, asks-not, asks-twice, asks-or3, asks-outside, asks-some, every-of}
 use Rattle.demands.proofs.Table.{is-first, is-none, kept-old, demand1, demand1-opening}
 use Rattle.demands.proofs.Tells.{board-at}
@@ -223,24 +224,27 @@ value-ask address r v =
 same-ask : (s t : Settings) → Asks (same s t) (s ≡ t)
 same-ask s t = (same-yes s t, λ p. ap (same s) (sym p) ∙ same-self s)
 
-worn-ask : (l : Log) → Asks (lacksCycle (boardGiven l)) (Unlike (l .acts) × (3 ≤ spent (l .acts)))
+worn-ask : (l : Log) → Asks (lacksCycle (boardGiven l)) (Worn (l .acts))
 worn-ask l =
     let s = staged (l .acts) in
     let t = working (l .acts) in
     asks-and (not (same s t)) (leb 3 (spent (l .acts))) (asks-not (same s t) (same-ask s t)) (asks-le 3 (spent (l .acts)))
 
-cycle-ask : (logs : List Log) (address r : ℕ)
-    → Asks (programs (writes address) r && lacksCycle (boardGiven (logOf logs (boardOf address)))) (NoCycle logs address r)
-cycle-ask logs address r =
+-- 13
+crossed-ask : (l : Log) → Asks (crossed (staged (l .acts))) (Crossed (l .acts))
+crossed-ask l =
+    let s = staged (l .acts) in
+    (λ e. ltb-false (ocdLevel s) (scdLevel s) (not-yes (ltb (ocdLevel s) (scdLevel s)) e), λ p. rw (le-ltb (ocdLevel s) (scdLevel s) p))
+
+-- both are asked of a programming alone, and of the board that it names
+program-ask : (So : History → Type 0) (test : Log → Bool) → ((l : Log) → Asks (test l) (So (l .acts))) → (logs : List Log) (address r : ℕ)
+    → Asks (programs (writes address) r && test (logOf logs (boardOf address))) (Programs So logs address r)
+program-ask So test asks logs address r =
     let l = logOf logs (boardOf address) in
-    asks-so (programs (writes address) r && lacksCycle (boardGiven l))
-    (asks-and (programs (writes address) r) (lacksCycle (boardGiven l)) (asks-and (writes address) (eqb r 11) (writes-ask address) (asks-eq r 11)) (worn-ask l))
-    (λ (((n, is), e), (unlike, three)).
-    let here = named n address (inr is) in
-    (n, is, e, subst (λ (k : ℕ). Unlike (logOf logs k .acts)) here unlike, subst (λ (k : ℕ). 3 ≤ spent (logOf logs k .acts)) here three))
-    (λ (n, is, e, unlike, three).
-    let here = sym (named n address (inr is)) in
-    (((n, is), e), (subst (λ (k : ℕ). Unlike (logOf logs k .acts)) here unlike, subst (λ (k : ℕ). 3 ≤ spent (logOf logs k .acts)) here three)))
+    asks-so (programs (writes address) r && test l)
+    (asks-and (programs (writes address) r) (test l) (asks-and (writes address) (eqb r 11) (writes-ask address) (asks-eq r 11)) (asks l))
+    (λ (((n, is), e), so). (n, is, e, subst (λ (k : ℕ). So (logOf logs k .acts)) (named n address (inr is)) so))
+    (λ (n, is, e, so). (((n, is), e), subst (λ (k : ℕ). So (logOf logs k .acts)) (sym (named n address (inr is))) so))
 
 -- ---- the table, row by row
 
@@ -284,7 +288,8 @@ module _ (logs : List Log) (few : length logs ≤ 16) where
       (also 2 (named-ask logs address)
       (also 9 (register-ask address r)
       (also 10 (value-ask address r v)
-      (also 11 (cycle-ask logs address r) tt))))))))
+      (also 13 (program-ask Crossed (λ l. crossed (staged (l .acts))) crossed-ask logs address r)
+      (also 11 (program-ask Worn (λ l. lacksCycle (boardGiven l)) worn-ask logs address r) tt)))))))))
 
   act-rows : (a : Act) → SameRows (bars row a) (rules logs a)
   act-rows (sample n x mv) = sample-rows n x mv

@@ -115,7 +115,7 @@ barsOf row (readCall out) = bars row reading
 abbrev pub numbers : Call → List ℕ
 numbers (sampleCall n x mv out) = 1 ∷ 2 ∷ 3 ∷ 4 ∷ 5 ∷ []
 numbers (recordCall at x mv out) = 1 ∷ 3 ∷ 4 ∷ 5 ∷ []
-numbers (frameCall bytes buffer) = 1 ∷ 6 ∷ 7 ∷ 8 ∷ 2 ∷ 9 ∷ 10 ∷ 11 ∷ []
+numbers (frameCall bytes buffer) = 1 ∷ 6 ∷ 7 ∷ 8 ∷ 2 ∷ 9 ∷ 10 ∷ 13 ∷ 11 ∷ []
 numbers (readCall out) = 1 ∷ []
 
 abbrev pub OneOf : ℕ → List ℕ → Type 0

@@ -8,6 +8,7 @@ use mathlib.Core.List.{List, _∷_}
 use mathlib.Core.Option.{some, none}
 use Rattle.refusal.specs.Said.{accepts, refuses}
 use Rattle.settings.specs.Bytes.{byteOf, same}
+use Rattle.settings.specs.Levels.{crossed}
 use Rattle.settings.specs.Faults.{Fault, delay}
 use Rattle.latches.specs.Latches.{latch, latchesOf}
 use Rattle.board.specs.declared.Board.{Board}
@@ -80,10 +81,12 @@ pub record Answers (row : List Board) (logs : List Log) : Type 0 where
   pub reads-cycles : (bytes buffer : List ℕ) → let l = logAt logs (framePlace bytes) in
       Accepted row (frame bytes buffer) → writes (byte bytes 0) ≡ false → byte bytes 1 ≡ 11
       → outcome row (frame bytes buffer) .said ≡ accepts (replyBytes (byte bytes 0) 11 (howMany spends (l .acts)))
-  -- programming with staged equal to working changes no record, and is never refused for want of a cycle
+  -- the working levels of a board are never crossed
+  pub never-crossed : (at : ℕ) → crossed (working (logAt logs at .acts)) ≡ false
+  -- so programming with staged equal to working changes no record, and is refused neither for crossed levels nor for want of a cycle
   pub equal-programming : (bytes buffer : List ℕ) → let l = logAt logs (framePlace bytes) in
       writes (byte bytes 0) ≡ true → byte bytes 1 ≡ 11 → same (staged (l .acts)) (working (l .acts)) ≡ true
-      → (next row (frame bytes buffer) ≡ row) × (outcome row (frame bytes buffer) .said ≡ refuses 11 → ⊥)
+      → (next row (frame bytes buffer) ≡ row) × (outcome row (frame bytes buffer) .said ≡ refuses 13 → ⊥) × (outcome row (frame bytes buffer) .said ≡ refuses 11 → ⊥)
   -- a refused act changes no record and no byte of its buffer, and joins no history: a refused sample is in no stretch and breaks none
   pub refused : (a : Act) (n : ℕ) → 0 < n → outcome row a .said ≡ refuses n → (next row a ≡ row) × (outcome row a .buffer ≡ lent a) × (taken logs a ≡ logs)
   -- a whole-stack reading is never refused

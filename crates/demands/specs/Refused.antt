@@ -1,5 +1,5 @@
--- The table of refusals a second time, from what is known of each board and the act alone: for each act its rows in order, each a number and a proposition (01, Refusal numbers; Frames and registers).
--- None of the library's conditions is used: beside the history (Paper) it rests on the check byte alone, which is bit by bit (frame, Check).
+-- The table of refusals a second time, from what is known of each board and the act alone: for each act its rows in order, each a number and a proposition (01, Refusal numbers; Frames and registers; 02, ticket 1).
+-- None of the library's conditions is used: beside the history (Paper) it rests on the two current levels (settings, Levels) and the check byte, which is bit by bit (frame, Check).
 -- Assumes nothing.
 use Prim.Native.Nat.{ℕ, zero, suc, _+_, _-_, _*_, _<_, _≤_}
 use mathlib.Core.Path.{_≡_}
@@ -11,6 +11,7 @@ use lib.ListN.{length, getD, set}
 use Rattle.refusal.specs.Said.{Said, refuses, Bar}
 use Rattle.board.specs.declared.Board.{Board}
 use Rattle.board.specs.declared.Readings.{Readings}
+use Rattle.settings.specs.Levels.{ocdLevel, scdLevel}
 use Rattle.frame.specs.Check.{checkOf}
 use Rattle.stack.specs.Open.{openBars, openingSaid, openAnswer}
 use Rattle.stack.specs.Read.{readBars}
@@ -114,13 +115,17 @@ MayCarry register v =
 abbrev pub WrongValue : ℕ → ℕ → ℕ → Type 0
 WrongValue address register v = (Reads address × (v ≢ 0)) ⊎ (Writes address × (¬ MayCarry register v))
 
--- 11: a write to register 11, which programs, where staged and working differ and no cycle is left of the three
-abbrev pub Unlike : History → Type 0
-Unlike h = staged h ≢ working h
+-- a write to register 11, which programs a board, where its history is so
+abbrev pub Programs : (History → Type 0) → List Log → ℕ → ℕ → Type 0
+Programs So logs address register = (n : ℕ) × WriteOf n address × (register ≡ 11) × So (logOf logs n .acts)
 
-abbrev pub NoCycle : List Log → ℕ → ℕ → Type 0
-NoCycle logs address register =
-    (n : ℕ) × WriteOf n address × (register ≡ 11) × Unlike (logOf logs n .acts) × (3 ≤ spent (logOf logs n .acts))
+-- 13: the staged short-circuit level is not above the staged overcurrent level (02, ticket 1)
+abbrev pub Crossed : History → Type 0
+Crossed h = scdLevel (staged h) ≤ ocdLevel (staged h)
+
+-- 11: staged and working differ, and no cycle is left of the three
+abbrev pub Worn : History → Type 0
+Worn h = (staged h ≢ working h) × (3 ≤ spent h)
 
 -- ---- the table, for each act in the paper's order
 
@@ -154,7 +159,8 @@ frameRules logs bytes buffer =
     ∷ rule 2 (NoBoardNamed logs address)
     ∷ rule 9 (WrongRegister address register)
     ∷ rule 10 (WrongValue address register v)
-    ∷ rule 11 (NoCycle logs address register)
+    ∷ rule 13 (Programs Crossed logs address register)
+    ∷ rule 11 (Programs Worn logs address register)
     ∷ []
 
 abbrev pub rules : List Log → Act → List Rule

@@ -38,7 +38,7 @@ numbersOf rows = map (λ b. b .number) rows
 
 pub record InOrder (row : List Board) : Type 0 where
   pub of-sample : (n : ℕ) (x : Readings) (mv : List ℕ) → numbersOf (bars row (sample n x mv)) ≡ 1 ∷ 2 ∷ 3 ∷ 4 ∷ 5 ∷ []
-  pub of-frame : (bytes buffer : List ℕ) → numbersOf (bars row (frame bytes buffer)) ≡ 1 ∷ 6 ∷ 7 ∷ 8 ∷ 2 ∷ 9 ∷ 10 ∷ 11 ∷ []
+  pub of-frame : (bytes buffer : List ℕ) → numbersOf (bars row (frame bytes buffer)) ≡ 1 ∷ 6 ∷ 7 ∷ 8 ∷ 2 ∷ 9 ∷ 10 ∷ 13 ∷ 11 ∷ []
   pub of-reading : numbersOf (bars row reading) ≡ 1 ∷ []
 
 -- on any row of records, also one that no opening gave

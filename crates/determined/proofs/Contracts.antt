@@ -15,6 +15,7 @@ use Rattle.settings.proofs.Settings.ocd_delay.Reads as settings-ocd-delay
 use Rattle.settings.proofs.Settings.ocd_level.Reads as settings-ocd-level
 use Rattle.settings.proofs.Settings.uv_delay.Reads as settings-uv-delay
 use Rattle.settings.proofs.Settings.scd_level.Reads as settings-scd-level
+use Rattle.settings.proofs.Settings.crossed.Reads as settings-crossed
 use Rattle.settings.proofs.Settings.scd_delay.Reads as settings-scd-delay
 use Rattle.settings.proofs.Settings.byte.Reads as settings-byte
 use Rattle.settings.proofs.Settings.with_byte.Reads as settings-with-byte
@@ -97,6 +98,9 @@ settings-uv-delay-one κs a r t s u = agree
 
 pub settings-scd-level-one : (κs : _) (a : _) (r t : _) (s u : _) → settings-scd-level.Learnt κs a r s → settings-scd-level.Learnt κs a t u → r ≡ t
 settings-scd-level-one κs a r t s u = agree
+
+pub settings-crossed-one : (κs : _) (a : _) (r t : _) (s u : _) → settings-crossed.Learnt κs a r s → settings-crossed.Learnt κs a t u → r ≡ t
+settings-crossed-one κs a r t s u = agree
 
 pub settings-scd-delay-one : (κs : _) (a : _) (r t : _) (s u : _) → settings-scd-delay.Learnt κs a r s → settings-scd-delay.Learnt κs a t u → r ≡ t
 settings-scd-delay-one κs a r t s u = agree

@@ -1,4 +1,4 @@
--- The refusals and their numbers (01, Refusal numbers).
+-- The refusals and their numbers (01, Refusal numbers; 02, ticket 1).
 -- Assumes nothing.
 use Prim.Native.Nat.{ℕ, _-_}
 use mathlib.Core.Bool.{Bool}
@@ -6,7 +6,7 @@ use mathlib.Core.List.{List, [], _∷_}
 use lib.Dec.{eqb}
 use lib.ListN.{getD}
 use Rattle.refusal.specs.declared.Refusal.{Refusal}
-use Rattle.refusal.specs.declared.Refusal.the-variants.{BadRow, NoBoard, CellList, Elapsed, OutOfRange, FrameLength, ReplyRoom, CheckByte, NoRegister, BadValue, NoCycle, Malformed}
+use Rattle.refusal.specs.declared.Refusal.the-variants.{BadRow, NoBoard, CellList, Elapsed, OutOfRange, FrameLength, ReplyRoom, CheckByte, NoRegister, BadValue, NoCycle, Malformed, LevelsCrossed}
 
 abbrev pub numberOf : Refusal → ℕ
 numberOf BadRow = 1
@@ -21,11 +21,12 @@ numberOf NoRegister = 9
 numberOf BadValue = 10
 numberOf NoCycle = 11
 numberOf Malformed = 12
+numberOf LevelsCrossed = 13
 
 -- the table read the other way: the refusal of a number
 abbrev pub table : List Refusal
 table =
-    BadRow ∷ NoBoard ∷ CellList ∷ Elapsed ∷ OutOfRange ∷ FrameLength ∷ ReplyRoom ∷ CheckByte ∷ NoRegister ∷ BadValue ∷ NoCycle ∷ Malformed ∷ []
+    BadRow ∷ NoBoard ∷ CellList ∷ Elapsed ∷ OutOfRange ∷ FrameLength ∷ ReplyRoom ∷ CheckByte ∷ NoRegister ∷ BadValue ∷ NoCycle ∷ Malformed ∷ LevelsCrossed ∷ []
 
 abbrev pub numbered : ℕ → Refusal
 numbered n = getD table (n - 1) Malformed

@@ -15,6 +15,7 @@ pub enum Refusal {
     BadValue,
     NoCycle,
     Malformed,
+    LevelsCrossed,
 }
 
 // The number that the paper gives a refusal.
@@ -34,5 +35,6 @@ pub fn number(r: Refusal) -> u8
         Refusal::BadValue => 10,
         Refusal::NoCycle => 11,
         Refusal::Malformed => 12,
+        Refusal::LevelsCrossed => 13,
     }
 }

@@ -7,8 +7,10 @@ use mathlib.Core.Bool.{Bool, true, false, cond, not, _&&_}
 use mathlib.Core.List.{List, [], _∷_}
 use lib.Dec.{leb, eqb}
 use Rattle.refusal.specs.declared.Refusal.{Refusal}
+use Rattle.refusal.specs.declared.Refusal.the-variants.{LevelsCrossed}
 use Rattle.refusal.specs.Said.{Bar, bar, accepts, refuses, first, judged, unlessRefused}
 use Rattle.settings.specs.Bytes.{same}
+use Rattle.settings.specs.Levels.{crossed}
 use Rattle.board.specs.declared.Board.{Board}
 use Rattle.frame.specs.declared.Request.{Request}
 use Rattle.frame.specs.declared.Verdict.the-variants as verdict
@@ -16,22 +18,27 @@ use Rattle.frame.specs.Frame.{writes}
 use Rattle.frame.specs.Way.{outcomeSaid, outcomeSaying}
 use Rattle.registers.specs.Map.{noRegister, fits, readValue}
 use Rattle.registers.specs.Registers.{shownOf, programs, staging, spent, lacksCycle, accessBars, boardAfter, replyValue, obeyedOf}
-use Rattle.registers.specs.Way.{gives}
+use Rattle.registers.specs.Way.{gives, denies}
 
 -- a write to register 11 of the value that programs
 module _ (b : Board) (address : ℕ) (write : writes address ≡ true) where
   abbrev programming : Request
   programming = record { address = address; register = 11; value = 0x41 }
 
-  -- with equal settings it gives the very board back and is accepted, whatever the cycles
-  pub equal-programming : same (b .staged) (b .working) ≡ true → obeyedOf b programming ≡ record { board = b; outcome = gives (b .cycles) }
+  -- crossed levels are refused, whatever the cycles, and the board stays
+  pub crossed-refused : crossed (b .staged) ≡ true → obeyedOf b programming ≡ record { board = b; outcome = denies LevelsCrossed }
   unfolding obeyedOf boardAfter
-  equal-programming equal = rw (write, equal)
+  crossed-refused cross = rw (write, cross)
+
+  -- with equal settings it gives the very board back and is accepted, whatever the cycles
+  pub equal-programming : crossed (b .staged) ≡ false → same (b .staged) (b .working) ≡ true → obeyedOf b programming ≡ record { board = b; outcome = gives (b .cycles) }
+  unfolding obeyedOf boardAfter
+  equal-programming fine equal = rw (write, fine, equal)
 
   -- with unlike settings and a free cycle it spends one
-  pub spending : same (b .staged) (b .working) ≡ false → leb 3 (b .cycles) ≡ false → obeyedOf b programming ≡ record { board = spent b; outcome = gives (b .cycles + 1) }
+  pub spending : crossed (b .staged) ≡ false → same (b .staged) (b .working) ≡ false → leb 3 (b .cycles) ≡ false → obeyedOf b programming ≡ record { board = spent b; outcome = gives (b .cycles + 1) }
   unfolding obeyedOf boardAfter spent
-  spending unlike free = rw (write, unlike, free)
+  spending fine unlike free = rw (write, fine, unlike, free)
 
 -- a spent cycle counts one, and what was staged works
 pub spent-counts : (b : Board) → spent b .cycles ≡ b .cycles + 1
@@ -58,16 +65,17 @@ pub refused-leaves : (b : Board) (asked : Request) (why : Refusal) → obeyedOf 
 unfolding obeyedOf
 refused-leaves b asked why e = refused-kept (accessBars b (writes (asked .address)) (asked .register) (asked .value)) _ b _ why e
 
--- whatever the conditions of 9, 10 and 11 come to, the outcome says the number or the value
-said : (x y z : Bool) (v : ℕ) → let s = judged (bar 9 x ∷ bar 10 y ∷ bar 11 z ∷ []) (v ∷ []) in outcomeSaid (outcomeSaying s) ≡ s
-said true y z v = refl
-said false true z v = refl
-said false false true v = refl
-said false false false v = refl
+-- whatever the conditions of 9, 10, 13 and 11 come to, the outcome says the number or the value
+said : (x y c z : Bool) (v : ℕ) → let s = judged (bar 9 x ∷ bar 10 y ∷ bar 13 c ∷ bar 11 z ∷ []) (v ∷ []) in outcomeSaid (outcomeSaying s) ≡ s
+said true y c z v = refl
+said false true c z v = refl
+said false false true z v = refl
+said false false false true v = refl
+said false false false false v = refl
 
 pub obeyed-said : (b : Board) (asked : Request)
     → let write = writes (asked .address) in outcomeSaid (obeyedOf b asked .outcome) ≡ judged (accessBars b write (asked .register) (asked .value)) (replyValue (boardAfter b write (asked .register) (asked .value)) write (asked .register) (asked .value) ∷ [])
 unfolding obeyedOf
 obeyed-said b asked =
     let write = writes (asked .address) in
-    said (noRegister write (asked .register)) (not (fits write (asked .register) (asked .value))) (programs write (asked .register) && lacksCycle b) _
+    said (noRegister write (asked .register)) (not (fits write (asked .register) (asked .value))) (programs write (asked .register) && crossed (b .staged)) (programs write (asked .register) && lacksCycle b) _

@@ -7,6 +7,7 @@ use lib.Dec.{leb, eqb, T as Holds}
 use borrow.Author.Tests.{leb-false, lt-ltb}
 use Rattle.walks.proofs.Walk.{is-true, is-false}
 use Rattle.settings.specs.Bytes.{same}
+use Rattle.settings.specs.Levels.{crossed}
 use Rattle.board.specs.declared.Board.{Board}
 use Rattle.frame.specs.declared.Request.{Request}
 use Rattle.frame.specs.Frame.{writes}
@@ -22,17 +23,18 @@ module _ (b : Board) (address register v : ℕ) where
   -- by what each condition of the table comes to
   parts-ways : obeyedOf b asks ≡ waysOf b asks
   unfolding obeyedOf boardAfter stagedBy spentBy spent lookOf programmedBy
-  parts-ways = by (writes address) (noRegister (writes address) register) (fits (writes address) register v) (eqb register 11) (same (b .staged) (b .working)) (leb 3 (b .cycles)) refl refl refl refl refl refl
+  parts-ways = by (writes address) (noRegister (writes address) register) (fits (writes address) register v) (eqb register 11) (crossed (b .staged)) (same (b .staged) (b .working)) (leb 3 (b .cycles)) refl refl refl refl refl refl refl
     where
-      by : (w x y p s f : Bool) → writes address ≡ w → noRegister (writes address) register ≡ x → fits (writes address) register v ≡ y → eqb register 11 ≡ p → same (b .staged) (b .working) ≡ s → leb 3 (b .cycles) ≡ f
+      by : (w x y p c s f : Bool) → writes address ≡ w → noRegister (writes address) register ≡ x → fits (writes address) register v ≡ y → eqb register 11 ≡ p → crossed (b .staged) ≡ c → same (b .staged) (b .working) ≡ s → leb 3 (b .cycles) ≡ f
           → obeyedOf b asks ≡ waysOf b asks
-      by w true y p s f ew ex ey ep es ef = rw ex
-      by w false false p s f ew ex ey ep es ef = rw (ex, ey)
-      by false false true p s f ew ex ey ep es ef = rw (ex, ey, ew)
-      by true false true false s f ew ex ey ep es ef = rw (ex, ey, ew, ep)
-      by true false true true true f ew ex ey ep es ef = rw (ex, ey, ew, ep, es)
-      by true false true true false true ew ex ey ep es ef = rw (ex, ey, ew, ep, es, ef)
-      by true false true true false false ew ex ey ep es ef = rw (ex, ey, ew, ep, es, ef, lt-ltb (b .cycles) 3 (leb-false 3 (b .cycles) ef))
+      by w true y p c s f ew ex ey ep ec es ef = rw ex
+      by w false false p c s f ew ex ey ep ec es ef = rw (ex, ey)
+      by false false true p c s f ew ex ey ep ec es ef = rw (ex, ey, ew)
+      by true false true false c s f ew ex ey ep ec es ef = rw (ex, ey, ew, ep)
+      by true false true true true s f ew ex ey ep ec es ef = rw (ex, ey, ew, ep, ec)
+      by true false true true false true f ew ex ey ep ec es ef = rw (ex, ey, ew, ep, ec, es)
+      by true false true true false false true ew ex ey ep ec es ef = rw (ex, ey, ew, ep, ec, es, ef)
+      by true false true true false false false ew ex ey ep ec es ef = rw (ex, ey, ew, ep, ec, es, ef, lt-ltb (b .cycles) 3 (leb-false 3 (b .cycles) ef))
 
 pub ways-are : (b : Board) (asked : Request) → obeyedOf b asked ≡ waysOf b asked
 ways-are b asked = parts-ways b (asked .address) (asked .register) (asked .value)

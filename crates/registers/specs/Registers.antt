@@ -1,5 +1,5 @@
 -- A frame to one board: the table's refusals once the board is known, what it does and what it gives
--- (01, Frames and registers; Refusal numbers 9, 10, 11).
+-- (01, Frames and registers; Refusal numbers 9, 10, 11; 02, ticket 1).
 -- Assumes nothing.
 use Prim.Native.Nat.{ℕ, _+_}
 use mathlib.Core.Bool.{Bool, cond, not, _&&_}
@@ -7,6 +7,7 @@ use mathlib.Core.List.{List, [], _∷_}
 use lib.Dec.{leb, eqb}
 use Rattle.refusal.specs.Said.{Bar, bar, judged, unlessRefused}
 use Rattle.settings.specs.Bytes.{withByte, same}
+use Rattle.settings.specs.Levels.{crossed}
 use Rattle.cells.specs.Cells.{noCells}
 use Rattle.board.specs.declared.Board.{Board}
 use Rattle.latches.specs.Latches.{latchesOf, register0}
@@ -63,11 +64,12 @@ programmed b = cond (same (b .staged) (b .working)) b (spent b)
 abbrev pub lacksCycle : Board → Bool
 lacksCycle b = not (same (b .staged) (b .working)) && leb 3 (b .cycles)
 
--- refusals 9, 10, 11 in order
+-- refusals 9, 10, 13, 11 in order; crossed levels are asked of the staged settings alone (02, ticket 1)
 abbrev pub accessBars : Board → Bool → ℕ → ℕ → List Bar
 accessBars b writes register v =
     bar 9 (noRegister writes register)
     ∷ bar 10 (not (fits writes register v))
+    ∷ bar 13 (programs writes register && crossed (b .staged))
     ∷ bar 11 (programs writes register && lacksCycle b)
     ∷ []
 

@@ -5,8 +5,9 @@ use Prim.Native.Nat.{ℕ, _+_}
 use mathlib.Core.Bool.{Bool, true, false, cond, not, _||_}
 use lib.Dec.{ltb}
 use Rattle.refusal.specs.declared.Refusal.{Refusal}
-use Rattle.refusal.specs.declared.Refusal.the-variants.{NoRegister, BadValue, NoCycle}
+use Rattle.refusal.specs.declared.Refusal.the-variants.{NoRegister, BadValue, NoCycle, LevelsCrossed}
 use Rattle.settings.specs.Bytes.{same}
+use Rattle.settings.specs.Levels.{crossed}
 use Rattle.board.specs.declared.Board.{Board}
 use Rattle.frame.specs.declared.Request.{Request}
 use Rattle.frame.specs.declared.Verdict.the-variants as verdict
@@ -55,15 +56,16 @@ spentBy b = record { board = spentTo (cyclesAfter (b .cycles)) b; outcome = give
 abbrev pub leaves : Board → Outcome → Obeyed
 leaves b o = record { board = b; outcome = o }
 
--- programming: 11, or the cycles for equal settings, or a cycle to be spent
+-- programming: 13, 11, or the cycles for equal settings, or a cycle to be spent
 abbrev pub rests : Outcome → Found
 rests o = record { spends = false; outcome = o }
 
 unfoldable pub lookOf : Board → Found
 lookOf b =
-    cond (lacksCycle b) (rests (denies NoCycle))
+    cond (crossed (b .staged)) (rests (denies LevelsCrossed))
+    (cond (lacksCycle b) (rests (denies NoCycle))
     (cond (same (b .staged) (b .working)) (rests (gives (b .cycles)))
-    (record { spends = true; outcome = gives (cyclesAfter (b .cycles)) }))
+    (record { spends = true; outcome = gives (cyclesAfter (b .cycles)) })))
 
 unfoldable pub programmedBy : Board → Obeyed
 programmedBy b = cond (lookOf b .spends) (spentBy b) (leaves b (lookOf b .outcome))

@@ -149,10 +149,13 @@ fn rest(outcome: Outcome) -> Found
     }
 }
 
-// Programming: refused for want of a cycle, or nothing for equal settings, or a cycle to be spent.
+// Programming: refused for crossed levels or for want of a cycle, or nothing for equal settings, or a cycle to be spent.
 fn look(b: Board) -> Found
     ensures { λ r. ⌜ r ≡ lookOf b ⌝ }
 {
+    if b.staged.crossed() {
+        return rest(denied(Refusal::LevelsCrossed));
+    }
     if lacks_cycle(b) {
         return rest(denied(Refusal::NoCycle));
     }
@@ -248,7 +251,7 @@ fn program_board(b: &mut Board, asked: Request) -> Outcome
     outcome_of(found)
 }
 
-// A frame that was sent to this board: refusals 9, 10, 11 in order, or what it asks. It copies of the record what its way needs,
+// A frame that was sent to this board: refusals 9, 10, 13, 11 in order, or what it asks. It copies of the record what its way needs,
 // and stores only where it changes something.
 pub fn obey_board(b: &mut Board, asked: Request) -> Outcome
     ensures { λ r. ⌜ (r ≡ obeyedOf (now (b .entry)) asked .outcome) × (now (b .exit) ≡ obeyedOf (now (b .entry)) asked .board) ⌝ }

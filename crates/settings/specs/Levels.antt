@@ -1,7 +1,7 @@
 -- What the five settings bytes mean (01, Frames and registers, registers 6 to 10): cells in mV, the shunt in µV, delays in µs.
 -- Assumes nothing.
 use Prim.Native.Nat.{ℕ, min, _+_, _-_, _*_, _/_, _%_}
-use mathlib.Core.Bool.{cond}
+use mathlib.Core.Bool.{Bool, cond, not}
 use mathlib.Core.List.{List, [], _∷_}
 use lib.Dec.{ltb}
 use lib.ListN.{getD}
@@ -69,6 +69,10 @@ uvDelay s = getD uvDelays (s .r9 / 16 % 16) 0
 -- register 10, b3-b0
 abbrev pub scdLevel : Settings → ℕ
 scdLevel s = 60000 + 5000 * (s .r10 % 16)
+
+-- crossed (02, ticket 1): the SCD level is not above the OCD level; equal levels are crossed
+abbrev pub crossed : Settings → Bool
+crossed s = not (ltb (ocdLevel s) (scdLevel s))
 
 -- register 10, b7-b4
 abbrev pub scdDelay : Settings → ℕ

@@ -2,7 +2,7 @@
 // Cell levels are in mV, shunt levels in µV, delays in µs.
 ghost use mathlib.Core.Path.{_≡_};
 ghost use mathlib.Core.Bool.{cond};
-ghost use Rattle.settings.specs.Levels.{ovLevel, ovHysteresis, ovRelease, ovDelay, uvLevel, uvHysteresis, uvRelease, ocdDelay, ocdLevel, uvDelay, scdLevel, scdDelay};
+ghost use Rattle.settings.specs.Levels.{ovLevel, ovHysteresis, ovRelease, ovDelay, uvLevel, uvHysteresis, uvRelease, ocdDelay, ocdLevel, uvDelay, scdLevel, crossed, scdDelay};
 ghost use Rattle.settings.specs.Bytes.{byteOf, withByte, same, allowed};
 
 // Each byte under its register's number.
@@ -128,6 +128,13 @@ impl Settings {
         ensures { λ r. ⌜ r ≡ scdLevel self ⌝ }
     {
         60000 + 5000 * (self.r10 as u32 % 16)
+    }
+
+    // Crossed levels: a short circuit would trip at or under the overcurrent level.
+    pub fn crossed(self) -> bool
+        ensures { λ r. ⌜ r ≡ crossed self ⌝ }
+    {
+        !(self.ocd_level() < self.scd_level())
     }
 
     pub fn scd_delay(self) -> u32
