@@ -1,5 +1,5 @@
 #!/usr/bin/env python3
-"""Reference for the bench program, written from paper 01 alone.
+"""Reference for the bench program, written from papers 01 and 02 alone.
 
 Reads bench lines from standard input as bytes and writes the answers.
 
@@ -70,6 +70,10 @@ class Settings:
         self.ocd_delay = ocd_delay_us(bits(reg8, 4, 0))
         self.scd_level = (60 + 5 * bits(reg10, 3, 0)) * 1000
         self.scd_delay = 60 * bits(reg10, 7, 4)
+
+    def crossed(self):
+        """Is the SCD level not above the OCD level (02, ticket 1)?"""
+        return not self.scd_level > self.ocd_level
 
 
 # ----------------------------------------------------------- runs and faults
@@ -251,15 +255,20 @@ class Board:
         return record.working[register - FIRST_SETTING]
 
     def write(self, register, value):
-        """Accept a write, or refuse with 11; the value of its reply."""
+        """Accept a write, or refuse with 13 or 11; the value of its reply."""
         if register == CYCLES:
             return self.program()
         self.history.append(("write", (register, value)))
         return value
 
     def program(self):
-        """Programming; gives the cycles spent (01, Frames and registers)."""
+        """Programming; gives the cycles spent (01, Frames and registers).
+
+        Refusals 13, then 11 (02, ticket 1): the staged levels decide.
+        """
         record = self.record()
+        if Settings(record.staged).crossed():
+            raise Refusal(13)
         if record.staged != record.working and record.spent >= MOST_CYCLES:
             raise Refusal(11)
         self.history.append(("program", None))
@@ -332,7 +341,7 @@ class Stack:
         return board.sample(sample)
 
     def frame(self, data, reply):
-        """A frame: refusals 6, 7, 8, 2, 9, 10, 11 (01, Refusal numbers).
+        """A frame: refusals 6, 7, 8, 2, 9, 10, 13, 11 (01, Refusal numbers; 02, ticket 1).
 
         The reply goes into the first four bytes of the lent `reply`.
         """

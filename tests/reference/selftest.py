@@ -516,6 +516,73 @@ def frame_cases():
         """)
 
 
+def crossed_cases():
+    """02, ticket 1: the SCD level has to be above the OCD level.
+
+    OCD code 9 is 10 + 45 = 55 mV, 10 is 60, 11 is 65 and 15 is 85; SCD code 0
+    is 60 mV, 4 is 80, 5 is 85 and 6 is 90. Bits 7 to 4 of both bytes are delays.
+    """
+    session("55, 60 and 65 mV under 60", """
+        O 5 -> ok
+        F 3 9 10 * -> re 3 9 10 *
+        F 3 11 65 234 -> no 13
+        F 2 9 0 * -> re 2 9 0 *
+        F 2 11 0 * -> re 2 11 0 *
+        F 3 9 11 * -> re 3 9 11 *
+        F 3 11 65 234 -> no 13
+        F 2 9 0 * -> re 2 9 0 *
+        F 2 11 0 * -> re 2 11 0 *
+        F 3 9 9 * -> re 3 9 9 *
+        F 3 11 65 234 -> re 3 11 1 *
+        F 2 9 0 * -> re 2 9 9 *
+        F 2 11 0 * -> re 2 11 1 *
+        """)
+    session("85 mV under 80, 85 and 90; the delays do not matter", """
+        O 5 -> ok
+        F 3 9 15 * -> re 3 9 15 *
+        F 3 10 244 * -> re 3 10 244 *
+        F 3 11 65 234 -> no 13
+        F 3 10 245 * -> re 3 10 245 *
+        F 3 11 65 234 -> no 13
+        F 3 10 6 * -> re 3 10 6 *
+        F 3 11 65 234 -> re 3 11 1 *
+        """)
+    # another value in register 11 is 10, and 13 comes before 11: the fourth differing set is crossed, then only worn
+    session("10, 13, 11", """
+        O 5 -> ok
+        F 3 9 255 * -> re 3 9 255 *
+        F 3 11 64 * -> no 10
+        F 2 11 65 * -> no 10
+        F 3 11 65 234 -> no 13
+        F 3 10 15 * -> re 3 10 15 *
+        F 3 11 65 234 -> re 3 11 1 *
+        F 3 10 14 * -> re 3 10 14 *
+        F 3 11 65 234 -> re 3 11 2 *
+        F 3 10 13 * -> re 3 10 13 *
+        F 3 11 65 234 -> re 3 11 3 *
+        F 3 10 5 * -> re 3 10 5 *
+        F 3 11 65 234 -> no 13
+        F 3 11 66 * -> no 10
+        F 3 10 6 * -> re 3 10 6 *
+        F 3 11 65 234 -> no 11
+        F 3 10 13 * -> re 3 10 13 *
+        F 3 11 65 234 -> re 3 11 3 *
+        """)
+    # five samples of 100 ms behind the first are 500 ms, the OV delay: no run starts over where 13 was given
+    session("13 leaves the runs, and is the named board's alone", """
+        O 5 5 -> ok
+        3: S 1 100000 0 2000 0 {one} -> st 192 bal 0
+        F 3 9 15 * -> re 3 9 15 *
+        F 3 11 65 234 -> no 13
+        2: S 1 100000 0 2000 0 {one} -> st 192 bal 0
+        S 1 100000 0 2000 0 {one} -> st 68 bal 1
+        F 5 11 65 * -> re 5 11 0 *
+        F 5 6 1 * -> re 5 6 1 *
+        F 5 11 65 * -> re 5 11 1 *
+        F 3 11 65 234 -> no 13
+        """, **FIVE)
+
+
 def unknown_registers():
     """01, Refusal numbers: 9 for every register that is not in the map."""
     for register in (*range(1, 6), *range(12, 256)):
@@ -669,7 +736,7 @@ def buffer_cases():
 def main():
     """Run all; exit 1 if anything differs."""
     for part in (paper_session, crc_values, settings_tables, marked_cases, run_cases,
-                 fault_cases, bleeding_cases, frame_cases, unknown_registers,
+                 fault_cases, bleeding_cases, frame_cases, crossed_cases, unknown_registers,
                  sample_refusals, opening_cases, raw_lines, input_cases, buffer_cases):
         part()
     sys.exit(1 if FAILED else 0)
