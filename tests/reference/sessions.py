@@ -1,4 +1,4 @@
-"""Random sessions for tests/differential, aimed at the edges of paper 01.
+"""Random sessions for tests/differential, aimed at the edges of papers 01 and 02.
 
 Each session is made from its seed alone. The maker keeps a rough picture of
 the boards (settings and cycles, no runs or latches) only so as to aim; what
@@ -35,7 +35,9 @@ class Aim:
         self.settings = Settings(self.working)
 
     def program(self):
-        """Follow a programming."""
+        """Follow a programming; crossed levels and a fourth cycle are refused."""
+        if Settings(self.staged).crossed():
+            return
         if self.staged != self.working and self.spent < 3:
             self.working = list(self.staged)
             self.settings = Settings(self.working)
@@ -257,10 +259,35 @@ class Maker:
             if aim.staged[i] != aim.working[i]:
                 self.write(number, 6 + i, aim.working[i])
 
+    def uncross(self, number):
+        """Where the staged levels are crossed, stage an SCD level above the OCD level."""
+        staged = self.boards[number - 1].staged
+        if Settings(staged).crossed():
+            self.write(number, 10, staged[4] | 15)
+
+    def crossing(self, number):
+        """Program levels a step apart, equal or crossed; at times find the way out."""
+        short = self.rng.randrange(7)
+        # ten codes more are the same level
+        over = min(15, short + self.pick(9, 10, 11))
+        writes = [(9, self.setting(9) & 0xF0 | over), (10, self.setting(10) & 0xF0 | short)]
+        self.rng.shuffle(writes)
+        for register, value in writes:
+            self.write(number, register, value)
+        if self.chance(0.3):
+            self.write(number, 11, self.pick(0, 0x40, 0x42))
+        self.program(number)
+        self.frame(2 * number, self.pick(9, 10, 11), 0)
+        if self.chance(0.5):
+            self.pick(self.uncross, self.unstage)(number)
+            self.program(number)
+
     def reprogram(self, number):
         """Stage some bytes and program, with reads on the way."""
         for _ in range(self.pick(1, 1, 2, 4)):
             self.stage(number)
+        if self.chance(0.7):
+            self.uncross(number)
         if self.chance(0.2):
             self.unstage(number)
         if self.chance(0.3):
@@ -403,6 +430,7 @@ class Maker:
         for register in registers:
             mask = {7: 0x3F, 8: 0x1F}.get(register, 0xFF)
             self.write(number, register, self.rng.randrange(256) & mask)
+        self.uncross(number)
         self.program(number)
         noisy = self.noise, self.breaks
         self.noise = self.breaks = 0
@@ -419,6 +447,7 @@ class Maker:
                 "OCD": [(8, code), (9, level % 16)],
                 "SCD": [(10, level % 16 | code << 4)]}[fault]:
             self.write(number, register, value)
+        self.uncross(number)
         self.program(number)
         aim = self.boards[number - 1]
         s, cell = aim.settings, self.rng.randrange(aim.count)
@@ -538,6 +567,8 @@ class Maker:
         """Spend all the cycles and go on programming."""
         for _ in range(self.rng.randint(3, 6)):
             self.stage(number)
+            if self.chance(0.7):
+                self.uncross(number)
             self.program(number)
         if self.chance(0.5):
             self.program(number)
@@ -582,6 +613,8 @@ class Maker:
             self.odd_line()
         elif what == 18 and self.chance(0.1):
             self.good_opening()
+        elif what == 19:
+            self.crossing(number)
 
     # -- lines that are not as they should be
 
@@ -693,6 +726,7 @@ class Maker:
             (3, lambda: self.heat(number)),
             (3, lambda: self.walk(number)),
             (6, lambda: self.reprogram(number)),
+            (4, lambda: self.crossing(number)),
             (2, lambda: self.wear(number)),
             (18, self.odd_frame),
             (1, self.sweep),
