@@ -36,7 +36,7 @@ enum {
     ADOMVIK_FRAME_BYTES = 4
 };
 
-/* What an act returns. */
+/* What an act returns; the table's 12 is a program's own and never comes from here. */
 enum {
     ADOMVIK_OK = 0,
     ADOMVIK_BAD_ROW = 1,      /* not 1 to 16 boards, or a board without 5 to 10 cells */
@@ -49,7 +49,8 @@ enum {
     ADOMVIK_CHECK_BYTE = 8,   /* the check byte is wrong */
     ADOMVIK_NO_REGISTER = 9,  /* the register is unknown, or a write to register 0 */
     ADOMVIK_BAD_VALUE = 10,   /* the value is not allowed */
-    ADOMVIK_NO_CYCLE = 11     /* programming staged settings unlike the working ones, three cycles already spent */
+    ADOMVIK_NO_CYCLE = 11,    /* programming staged settings unlike the working ones, three cycles already spent */
+    ADOMVIK_CROSSED = 13      /* programming staged settings whose SCD level is not above their OCD level */
 };
 
 /* Register 0, the status byte of a sample: the latched faults and the switches. */
@@ -131,7 +132,7 @@ uint8_t adomvik_sample(adomvik_board *row, size_t boards, uint32_t board, adomvi
 uint8_t adomvik_sample_board(adomvik_board *board, adomvik_readings readings, const uint32_t *cells, size_t count, adomvik_sampled *out);
 
 /* A frame from the host. The reply takes the first four bytes of its buffer; later bytes stay. The frame and the reply must not
- * be one buffer: what can be written overlaps nothing else. Refusals 1, 6, 7, 8, 2, 9, 10, 11. */
+ * be one buffer: what can be written overlaps nothing else. Refusals 1, 6, 7, 8, 2, 9, 10, 13, 11. */
 uint8_t adomvik_frame(adomvik_board *row, size_t boards, const uint8_t *frame, size_t length, uint8_t *reply, size_t room);
 
 /* The whole-stack reading. Refusal 1, which no opened row gets. */

@@ -9,6 +9,7 @@ export const BOARDS_MAX: 16;
 export class Refusal extends Error {
   constructor(number: number);
   readonly name: "Refusal";
+  /** 1 to 11, or 13; 12 is a program's own. */
   readonly number: number;
 }
 

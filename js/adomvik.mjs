@@ -12,24 +12,26 @@ const FRAME_BYTES = 4;
 const RECORDS_MAX = 256; // that fit the memory as it starts; the library itself takes 16 at most
 const LARGEST = 0xffffffff;
 
-const WHY = [
-  "not 1 to 16 boards, or a board without 5 to 10 cells",
-  "no board of that number",
-  "the cell list is not as long as the board's cell count",
-  "elapsed time not 1 to 100,000 µs",
-  "a cell or the thermistor above 5,000 mV, the shunt beyond 500,000 µV, or the load flag not 0 or 1",
-  "the frame is not 4 bytes",
-  "the reply buffer is under 4 bytes",
-  "the check byte is wrong",
-  "the register is unknown, or a write to register 0",
-  "the value is not allowed",
-  "programming staged settings unlike the working ones, three cycles already spent",
-];
+// By the paper's number; 12 is a program's own and never comes from the library.
+const WHY = {
+  1: "not 1 to 16 boards, or a board without 5 to 10 cells",
+  2: "no board of that number",
+  3: "the cell list is not as long as the board's cell count",
+  4: "elapsed time not 1 to 100,000 µs",
+  5: "a cell or the thermistor above 5,000 mV, the shunt beyond 500,000 µV, or the load flag not 0 or 1",
+  6: "the frame is not 4 bytes",
+  7: "the reply buffer is under 4 bytes",
+  8: "the check byte is wrong",
+  9: "the register is unknown, or a write to register 0",
+  10: "the value is not allowed",
+  11: "programming staged settings unlike the working ones, three cycles already spent",
+  13: "programming staged settings whose SCD level is not above their OCD level",
+};
 
 /** Why an act was refused, with the paper's number. */
 export class Refusal extends Error {
   constructor(number) {
-    super(`refusal ${number}: ${WHY[number - 1]}`);
+    super(`refusal ${number}: ${WHY[number]}`);
     this.name = "Refusal";
     this.number = number;
   }

@@ -51,6 +51,8 @@ pub enum Refusal {
     BadValue = 10,
     /// Programming staged settings unlike the working ones, three cycles already spent.
     NoCycle = 11,
+    /// Programming staged settings whose SCD level is not above their OCD level.
+    LevelsCrossed = 13,
 }
 
 impl Refusal {
@@ -59,8 +61,8 @@ impl Refusal {
         self as u8
     }
 
-    /// What the library returned: 0 is no refusal. By their contracts its functions return no number past the table's, so the
-    /// last arm is that of 11 alone; a table looked up by the number would put a bounds panic into every image.
+    /// What the library returned: 0 is no refusal. By their contracts its functions return no number but these, 12 never, so the
+    /// last arm is that of 13 alone; a table looked up by the number would put a bounds panic into every image.
     fn check(number: u8) -> Result<(), Refusal> {
         Err(match number {
             0 => return Ok(()),
@@ -74,7 +76,8 @@ impl Refusal {
             8 => Refusal::CheckByte,
             9 => Refusal::NoRegister,
             10 => Refusal::BadValue,
-            _ => Refusal::NoCycle,
+            11 => Refusal::NoCycle,
+            _ => Refusal::LevelsCrossed,
         })
     }
 }

@@ -138,8 +138,12 @@ def garbage(rng):
         data[2] = rng.randint(0, 4)
     if rng.random() < 0.3:      # runs near the delays and the cap
         data[16:] = LAYOUT.pack(*[0] * 4, b"", b"", *[rng.choice((0, 1, 499_999, 500_000, 500_001, 9_999_999, 10_000_000, 2**32 - 1)) for _ in range(22)])[16:]
+    if rng.random() < 0.3:      # staged levels crossed, equal or a step apart
+        short = rng.randrange(7)
+        data[14] = data[14] & 0xF0 | min(15, short + rng.choice((9, 10, 11)))
+        data[15] = data[15] & 0xF0 | short
     if rng.random() < 0.3:      # equal settings
-        data[11:16] = data[6:11]
+        data[6:11] = data[11:16]
     return bytes(data)
 
 
@@ -158,6 +162,8 @@ def frame_bytes(rng, boards):
     address = 2 * rng.randint(0, boards + 1) % 256 + rng.randint(0, 1)
     register = rng.choice((0, 6, 7, 8, 9, 10, 11, 11, 1, 12, 255))
     value = rng.choice((0, 0, 0x41, 0x41, rng.randint(0, 255))) if address % 2 else rng.choice((0, 0, 0, 0x41))
+    if rng.random() < 0.2:
+        address, register, value = address | 1, 11, 0x41
     data = [address, register, value, crc8((address, register, value))]
     if rng.random() < 0.05:
         data[rng.randint(0, 3)] ^= rng.randint(1, 255)

@@ -11,7 +11,8 @@ const quiet = { elapsed: 1000, shunt: 0, thermistor: 2000, load: 0 };
 const five = [3900, 3900, 3900, 3900, 3900];
 
 function refused(number, act) {
-  assert.throws(act, (why) => why instanceof Refusal && why.number === number && why.message.startsWith(`refusal ${number}: `));
+  assert.throws(act, (why) => why instanceof Refusal && why.number === number && why.message.startsWith(`refusal ${number}: `)
+    && !why.message.includes("undefined"));
 }
 
 const stack = adomvik.open([5, 6]);
@@ -35,6 +36,9 @@ refused(1, () => adomvik.open([]));
 refused(1, () => adomvik.open(Array(300).fill(5)));
 refused(6, () => stack.frame([]));
 refused(7, () => stack.frameInto([2, 0, 0, 214], new Uint8Array(3)));
+const crossed = adomvik.open([5]);
+crossed.frame([3, 9, 15, 45]);
+refused(13, () => crossed.frame([3, 11, 65, 234]));
 assert.throws(() => stack.record(2), RangeError);
 assert.throws(() => stack.setRecord(0, five), RangeError);
 assert.throws(() => stack.first(3), RangeError);

@@ -86,7 +86,7 @@ class Record:
         return status(after), bled(flagged, self.count)
 
     def access(self, writes, register, value):
-        """Refusals 9, 10, 11 in order; else the reply's value."""
+        """Refusals 9, 10, 13, 11 in order; else the reply's value."""
         check_register(register, writes)
         if not value_allowed(register, value, writes):
             raise Refusal(10)
@@ -95,6 +95,8 @@ class Record:
         if register != CYCLES:
             self.staged[register - FIRST_SETTING] = value
             return value
+        if Settings(self.staged).crossed():
+            raise Refusal(13)
         if self.staged != self.working:
             if self.cycles >= MOST_CYCLES:
                 raise Refusal(11)

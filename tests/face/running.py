@@ -4,6 +4,7 @@ import os
 import shutil
 import subprocess
 import sys
+from collections import Counter
 
 ROOT = os.path.dirname(os.path.dirname(os.path.dirname(os.path.abspath(__file__))))
 NAME = os.path.basename(sys.argv[0])
@@ -33,6 +34,12 @@ def needed(tools, install):
     if missing:
         run(["apt-get", "update"])
         run(["apt-get", "install", "-y", "--no-install-recommends", *sorted(set(missing.values()))])
+
+
+def results(*scripts):
+    """How often each number was returned, in words."""
+    counts = Counter(int(answer.split(" ", 1)[0]) for script in scripts for answer in script.answers)
+    return "results: " + ", ".join(f"{number}: {count}" for number, count in sorted(counts.items()))
 
 
 def compare(name, command, script):
