@@ -106,6 +106,16 @@ static unsigned bled(unsigned flags)
     return taken;
 }
 
+static inline int32_t ocd_uv(const uint8_t *settings)
+{
+    return 10000 + 5000 * (settings[3] & 15);
+}
+
+static inline int32_t scd_uv(const uint8_t *settings)
+{
+    return 60000 + 5000 * (settings[4] & 15);
+}
+
 static inline uint8_t step(struct peer_board *b, adomvik_readings x, const uint32_t *cells, size_t count, adomvik_sampled *out)
 {
     if (count != b->cells)
@@ -157,7 +167,7 @@ static inline uint8_t step(struct peer_board *b, adomvik_readings x, const uint3
     b->under = (uint16_t)under;
     b->flags = (uint16_t)flags;
 
-    const int32_t ocd_level = 10000 + 5000 * (w[3] & 15), scd_level = 60000 + 5000 * (w[4] & 15);
+    const int32_t ocd_level = ocd_uv(w), scd_level = scd_uv(w);
     const bool ocd_over = x.shunt > ocd_level, scd_over = x.shunt > scd_level;
     bool ocd_stood = false, scd_stood = false;
     if (ocd_over) {
@@ -216,18 +226,20 @@ static bool allowed_setting(unsigned reg, unsigned value)
     return true;
 }
 
-/* Programs the board; false if it has no cycle left for a real change. */
-static bool program(struct peer_board *b)
+/* Programs the board: 13 for staged levels that are crossed, 11 if it has no cycle left for a real change, or 0. */
+static uint8_t program(struct peer_board *b)
 {
+    if (ocd_uv(b->staged) >= scd_uv(b->staged))
+        return 13;
     if (memcmp(b->staged, b->working, sizeof b->staged) == 0)
-        return true;
+        return 0;
     if (b->cycles >= CYCLES_MAX)
-        return false;
+        return 11;
     memcpy(b->working, b->staged, sizeof b->staged);
     b->cycles++;
     b->over = b->under = 0;
     b->currents = 0;
-    return true;
+    return 0;
 }
 
 uint8_t peer_frame(struct peer_board *row, size_t boards, const uint8_t *frame, size_t length, uint8_t *reply, size_t room)
@@ -261,8 +273,9 @@ uint8_t peer_frame(struct peer_board *row, size_t boards, const uint8_t *frame, 
     } else {
         if (value != PROGRAM)
             return 10;
-        if (!program(b))
-            return 11;
+        const uint8_t refusal = program(b);
+        if (refusal)
+            return refusal;
         value = b->cycles;
     }
     reply[0] = (uint8_t)address;

@@ -274,6 +274,16 @@ static unsigned bled(unsigned flags)
     return taken;
 }
 
+static int32_t ocd_uv(const uint8_t *settings)
+{
+    return 10000 + 5000 * (settings[3] & 15);
+}
+
+static int32_t scd_uv(const uint8_t *settings)
+{
+    return 60000 + 5000 * (settings[4] & 15);
+}
+
 static void step(struct board *b, const struct line *l)
 {
     const uint8_t *w = b->working;
@@ -312,9 +322,9 @@ static void step(struct board *b, const struct line *l)
 
     const int32_t ocd_code = w[2] & 31;
     const int32_t ocd_wait = ocd_code < 16 ? 20000 * (ocd_code + 1) : 100000 * (ocd_code - 15);
-    const int32_t ocd_level = 10000 + 5000 * (w[3] & 15);
+    const int32_t ocd_level = ocd_uv(w);
     const int32_t scd_wait = 60 * (w[4] >> 4);
-    const int32_t scd_level = 60000 + 5000 * (w[4] & 15);
+    const int32_t scd_level = scd_uv(w);
     const bool ocd_over = l->shunt > ocd_level, scd_over = l->shunt > scd_level;
     b->ocd_run = ocd_over ? next_run(b->ocd_run, elapsed) : NO_RUN;
     b->scd_run = scd_over ? next_run(b->scd_run, elapsed) : NO_RUN;
@@ -382,17 +392,19 @@ static bool allowed_setting(unsigned reg, unsigned value)
     return true;
 }
 
-// Programs the board; false if it has no cycle left for a real change.
-static bool program(struct board *b)
+// Programs the board: 13 for staged levels that are crossed, 11 if it has no cycle left for a real change, or 0.
+static unsigned program(struct board *b)
 {
+    if (ocd_uv(b->staged) >= scd_uv(b->staged))
+        return 13;
     if (memcmp(b->staged, b->working, SETTINGS) == 0)
-        return true;
+        return 0;
     if (b->cycles == CYCLES_MAX)
-        return false;
+        return 11;
     memcpy(b->working, b->staged, SETTINGS);
     b->cycles++;
     start_runs(b);
-    return true;
+    return 0;
 }
 
 // The number of the refusal, or 0 and the value for the reply.
@@ -415,10 +427,9 @@ static unsigned frame_act(struct board *b, bool write, unsigned reg, unsigned *v
     }
     if (*value != PROGRAM)
         return 10;
-    if (!program(b))
-        return 11;
+    const unsigned refusal = program(b);
     *value = b->cycles;
-    return 0;
+    return refusal;
 }
 
 // The bench always lends a whole reply, so refusal 7 can't come up.
