@@ -14,7 +14,7 @@
 enum { RECORDS = 18, LONGEST = 40, PATTERN = 0xa5, RUN_MOST = 10000000 };
 
 /* What an entry may return, a bit for each number. */
-enum { OPENS = 1 << 0 | 1 << 1, READS = OPENS, SAMPLES = 0x3f, SAMPLES_ONE = 0x3b, FRAMES = 0xfc7 };
+enum { OPENS = 1 << 0 | 1 << 1, READS = OPENS, SAMPLES = 0x3f, SAMPLES_ONE = 0x3b, FRAMES = 0x2fc7 };
 
 #define HOLDS(condition) do { if (!(condition)) __builtin_trap(); } while (0)
 

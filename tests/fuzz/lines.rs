@@ -52,7 +52,7 @@ fn is_answer(answer: &[u8]) -> bool {
     let (words, numbers) = shape(answer);
     match words.as_str() {
         "ok" => true,
-        "no #" => (1..=12).contains(&numbers[0]),
+        "no #" => (1..=13).contains(&numbers[0]),
         "st # bal #" => numbers[0] <= 255 && numbers[0] & 32 == 0 && numbers[1] < 1024,
         "re # # # #" => numbers.iter().all(|byte| *byte <= 255),
         "ln # chg # dsg # at # #" => numbers[..3].iter().all(|flag| *flag <= 1) && numbers[3] <= 16 && numbers[4] <= 10,
