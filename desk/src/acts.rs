@@ -72,6 +72,12 @@ impl Desk {
         self.counts.get(..self.opened).unwrap_or_default()
     }
 
+    /// The staged OCD and SCD levels of a board in mV: registers 9 and 10, at places 14 and 15 of its record.
+    pub fn staged_levels(&self, board: u8) -> Option<(u32, u32)> {
+        let [.., over, short] = *self.boards.get(usize::from(board).checked_sub(1)?)?.to_bytes().first_chunk::<16>()?;
+        Some((10 + 5 * u32::from(over % 16), 60 + 5 * u32::from(short % 16)))
+    }
+
     /// The check byte that the library takes for a frame's first three bytes, tried on a copy of the stack.
     pub fn right_check(&self, address: u8, register: u8, value: u8) -> Option<u8> {
         (0..=u8::MAX).find(|check| {

@@ -77,6 +77,7 @@ fn short(refused: Refusal) -> &'static str {
         Refusal::NoRegister => "no such register",
         Refusal::BadValue => "the value is not allowed",
         Refusal::NoCycle => "no programming cycle is left",
+        Refusal::LevelsCrossed => "the staged levels are crossed",
     }
 }
 
@@ -148,6 +149,10 @@ fn of_register(refused: Refusal, frame: [u8; FRAME_BYTES], desk: &Desk) -> Optio
             Some(format!("{value} in a read of register {register} of board {board}, which carries 0"))
         }
         Refusal::NoCycle => Some(format!("board {board} has spent three, and its staged settings differ")),
+        Refusal::LevelsCrossed => {
+            let (over, short) = desk.staged_levels(board)?;
+            Some(format!("SCD at {short} mV is not above OCD at {over} mV on board {board}"))
+        }
         _ => None,
     }
 }

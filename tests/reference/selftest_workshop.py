@@ -77,7 +77,7 @@ def long_lists():
 
 
 def rooms():
-    """F@N: 1, 6, 7, 8, 2, 9, 10, 11 in this order."""
+    """F@N: 1, 6, 7, 8, 2, 9, 10, 13, 11 in this order."""
     told("rooms", """
         F@0 -> no 1
         F@4 2 0 0 214 -> no 1
@@ -104,6 +104,28 @@ def rooms():
         F@3 3 11 65 234 -> no 7
         F@8 3 11 65 234 -> re 3 11 1 *
         F@8 2 6 0 168 -> re 2 6 7 *
+        """)
+    # OCD code 10 is 60 mV and SCD code 0 too; two more cycles, then a set that is crossed and would be the fourth
+    told("crossed levels", """
+        X s5 -> ok
+        F@9 3 9 10 54 -> re 3 9 10 54
+        F@3 3 11 65 234 -> no 7
+        F@4 3 11 64 * -> no 10
+        F@4 3 11 65 234 -> no 13
+        F 3 11 65 234 -> no 13
+        F@9 2 11 0 * -> re 2 11 0 *
+        F 3 10 1 * -> re 3 10 1 *
+        F@9 3 11 65 234 -> re 3 11 1 *
+        F 3 10 2 * -> re 3 10 2 *
+        F 3 11 65 234 -> re 3 11 2 *
+        F 3 10 3 * -> re 3 10 3 *
+        F 3 11 65 234 -> re 3 11 3 *
+        F 3 10 0 * -> re 3 10 0 *
+        F@4 3 11 65 234 -> no 13
+        F 3 10 4 * -> re 3 10 4 *
+        F@4 3 11 65 234 -> no 11
+        F 3 10 3 * -> re 3 10 3 *
+        F@4 3 11 65 234 -> re 3 11 3 *
         """)
 
 
