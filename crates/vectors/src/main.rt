@@ -252,6 +252,19 @@ fn programming() {
     framed(s, 2, 0, 0, 215);
 }
 
+// OCD at 60 mV under SCD at 60: crossed, and nothing is spent; under 65 it is programmed.
+fn crossed_levels() {
+    let s = alone(5);
+    let s = sent(s, 3, 9, 10);
+    let s = sent(s, 3, 11, 0x40);
+    let s = sent(s, 3, 11, 0x41);
+    let s = sent(s, 2, 9, 0);
+    let s = sent(s, 2, 11, 0);
+    let s = sent(s, 3, 10, 1);
+    let s = sent(s, 3, 11, 0x41);
+    sent(s, 2, 9, 0);
+}
+
 fn main() {
     published();
     session();
@@ -260,4 +273,5 @@ fn main() {
     currents();
     temperature_and_refusals();
     programming();
+    crossed_levels();
 }
