@@ -1,4 +1,4 @@
--- A frame to the row, with its lent reply buffer (01, Frames and registers; Refusal numbers 1, 6, 7, 8, 2, 9, 10, 11).
+-- A frame to the row, with its lent reply buffer (01, Frames and registers; Refusal numbers 1, 6, 7, 8, 2, 9, 10, 13, 11; 02, ticket 1).
 -- Assumes nothing.
 use Prim.Native.Nat.{ℕ}
 use mathlib.Core.Bool.{not}
@@ -28,7 +28,7 @@ frameReply row bytes =
     replyBytes (byte bytes 0) (byte bytes 1)
     (replyValue (boardFramed row bytes) (writes (byte bytes 0)) (byte bytes 1) (byte bytes 2))
 
--- refusals 1, 6, 7, 8, 2, 9, 10, 11 in order
+-- refusals 1, 6, 7, 8, 2, 9, 10, 13, 11 in order
 abbrev pub frameRowBars : List Board → List ℕ → List ℕ → List Bar
 frameRowBars row bytes buffer =
     bar 1 (not (goodRow row))
