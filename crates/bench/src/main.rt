@@ -1,10 +1,10 @@
 // The bench: lines from standard input, an answer for each on standard output (01, The bench program).
 ghost use Prim.Native.Nat.{_≤_};
 ghost use lib.ListN.{length};
+use held::Stack;
 use libc::STDIN_FILENO;
 use libc::STDOUT_FILENO;
 use lines::Cutter;
-use held::Stack;
 
 // The line that is open, the stack, and whether the output still takes answers.
 struct Bench {

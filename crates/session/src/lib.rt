@@ -12,11 +12,11 @@ use acts::Sample;
 use acts::Told;
 use board::Board;
 use board::Readings;
+use held::Stack;
 use lines::Cutter;
 use lines::Kind;
 use lines::Line;
 use stack::Opening;
-use held::Stack;
 
 // A stack after a line, and what is told of it.
 pub struct Acted {

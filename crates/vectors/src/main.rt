@@ -4,8 +4,8 @@
 use board::Answer;
 use board::Readings;
 use frame::Reply;
-use stack::Opening;
 use held::Stack;
+use stack::Opening;
 use stack::View;
 
 const OUT: i32 = 1;
