@@ -109,11 +109,11 @@ fn bled_of(flags: u16, cells: usize) -> u16
     ensures { λ r. ⌜ r ≡ number (bled (marks cells flags)) ⌝ }
 {
     let mut out = 0;
-    let mut bleeds = false;
     let mut i = cells_to_search(flags, cells);
     while 0 < i {
         i -= 1;
-        bleeds = lists::mark_at(flags, i) & !bleeds;
+        // the two next higher cells are the last two bits of those above
+        let bleeds = lists::mark_at(flags, i) & (out % 4 == 0);
         out = mark_next(bleeds, out);
     }
     out

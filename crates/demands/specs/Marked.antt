@@ -42,6 +42,10 @@ shunt v = reads v (4000 ∷ 4000 ∷ 4000 ∷ 4000 ∷ 4000 ∷ [])
 abbrev pub three : Entry
 three = reads (pos 0) (4000 ∷ 4000 ∷ 4151 ∷ 4000 ∷ 4000 ∷ 4000 ∷ 4151 ∷ 4151 ∷ [])
 
+-- cells 8, 6 and 5 of eight above it (02, ticket 2)
+abbrev pub apart : Entry
+apart = reads (pos 0) (4000 ∷ 4000 ∷ 4000 ∷ 4000 ∷ 4151 ∷ 4151 ∷ 4000 ∷ 4151 ∷ [])
+
 -- a byte that was written and programmed; address 3 is a write to board 1
 abbrev pub with : ℕ → ℕ → Settings
 with register v = working (framed 3 11 0x41 ∷ framed 3 register v ∷ [])
@@ -76,6 +80,7 @@ marked =
     ∷ is 10 (register0 (latchesAt 5 (more 20 (shunt (negsuc 60000)) []))) 192
     ∷ is 11 (latch SCD (more 20 (shunt (pos 60000)) [])) 0
     ∷ is 12 (number (bled (flagsAt 8 (more 6 three [])))) 132
+    ∷ is 12 (number (bled (flagsAt 8 (more 6 apart [])))) 144
     ∷ []
 
 abbrev pub right : List Case → Bool

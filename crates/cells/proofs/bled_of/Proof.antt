@@ -1,4 +1,6 @@
-use Prim.Native.Nat.{_≤_}
+use Prim.Native.Nat.{_≤_, _%_}
+use mathlib.Core.Bool.{_&&_}
+use lib.Dec.{eqb}
 use native.Mathlib.Omega.{arith}
 use borrow.Author.Needs.{needs}
 use Rattle.cells.proofs.Bleed.{Bled, bled-start, bled-turn, bled-done, few-bled, search-within}
@@ -6,10 +8,10 @@ use Rattle.cells.proofs.bled_of.Statement.{statement}
 use Rattle.cells.proofs.bled_of.Tie as tie
 
 abbrev Inv-loop : tie.InvT-loop
-Inv-loop flags cells out₀ bleeds₀ i₀ out bleeds i = (i ≤ cells) × (cells ≤ 10) × Bled flags cells i out bleeds
+Inv-loop flags cells out₀ i₀ out i = (i ≤ cells) × (cells ≤ 10) × Bled flags cells i out
 
 abbrev μ-loop : tie.MeasureT-loop
-μ-loop flags cells out₀ bleeds₀ i₀ out bleeds i = i
+μ-loop flags cells out₀ i₀ out i = i
 
 cells-to-search-requires : tie.Need-cells-to-search-requires Inv-loop μ-loop
 cells-to-search-requires c κs = search needs
@@ -38,7 +40,7 @@ loop-again : tie.Need-loop-again Inv-loop μ-loop
 loop-again c =
     let c1 = c .before in
     let h = c1 .before .before in
-    (search needs, h .loop .inv .1, rw (c .mark-next .ensures) (bled-turn _ _ _ (h .loop .inv .2) (rw (c1 .mark-at .ensures)) (c1 .before .loop-test .taken) (h .loop .inv .0)))
+    (search needs, h .loop .inv .1, rw (c .mark-next .ensures) (bled-turn _ _ (c1 .mark-at .result && eqb (h .loop .out % 4) 0) (h .loop .inv .2) (rw (c1 .mark-at .ensures)) (c1 .before .loop-test .taken) (h .loop .inv .0)))
 
 returns : tie.Need-returns Inv-loop μ-loop
 returns c =
