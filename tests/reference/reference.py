@@ -168,12 +168,13 @@ def status(latched):
 
 
 def bled(flagged, count):
-    """The bled cells as a number; the top cell is judged first (01, Bleeding)."""
-    number, higher_is_bled = 0, False
+    """The bled cells as a number, the top cell judged first (01, Bleeding;
+    02, ticket 2): not where one of the two next higher ones is bled."""
+    taken = set()
     for i in reversed(range(count)):
-        higher_is_bled = i in flagged and not higher_is_bled
-        number += higher_is_bled << i
-    return number
+        if i in flagged and taken.isdisjoint({i + 1, i + 2}):
+            taken.add(i)
+    return sum(1 << i for i in taken)
 
 
 # ------------------------------------------------------------------- boards

@@ -414,14 +414,27 @@ def fault_cases():
 
 
 def bleeding_cases():
-    """01, Bleeding and Whole-stack reading."""
+    """01, Bleeding and Whole-stack reading; 02, ticket 2: from the top down,
+    two others between any two. Five at once give cells 5 and 2, 16 and 2; ten
+    give 10, 7, 4 and 1, 512, 64, 8 and 1."""
     session("all five, all ten", """
         O 5 10 -> ok
         5: S 1 100000 0 2000 0 {five} -> st 192 bal 0
-        S 1 100000 0 2000 0 {five} -> st 68 bal 21
+        S 1 100000 0 2000 0 {five} -> st 68 bal 18
         5: S 2 100000 0 2000 0 {five} {five} -> st 192 bal 0
-        S 2 100000 0 2000 0 {five} {five} -> st 68 bal 682
+        S 2 100000 0 2000 0 {five} {five} -> st 68 bal 585
         """, five="4200 4200 4200 4200 4200")
+    # 7 is flagged and not bled, so it shuts nothing out: 8 and 5, 128 and 16
+    session("8, 6 and 5; 8, 7, 6 and 5; 6 alone once 8 and 5 let go", """
+        O 8 8 -> ok
+        5: S 1 100000 0 2000 0 {apart} -> st 192 bal 0
+        S 1 100000 0 2000 0 {apart} -> st 68 bal 144
+        R -> ln 1 chg 0 dsg 1 at 1 5
+        S 1 1 0 2000 0 4000 4000 4000 4000 4000 4151 4000 4000 -> st 68 bal 32
+        5: S 2 100000 0 2000 0 {four} -> st 192 bal 0
+        S 2 100000 0 2000 0 {four} -> st 68 bal 144
+        """, apart="4000 4000 4000 4000 4151 4151 4000 4151",
+            four="4000 4000 4000 4000 4151 4151 4151 4151")
     session("southernmost board, lowest flagged cell, line and pack", """
         O 5 6 5 -> ok
         R -> ln 0 chg 1 dsg 1 at 0 0

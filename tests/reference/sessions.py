@@ -380,9 +380,9 @@ class Maker:
     def condition(self, aim, fault):
         """Delay and fields that hold a fault's condition."""
         fields, s = self.calm(aim), aim.settings
-        # neighbours above all, for the bleeding
+        # neighbours above all, and cells two and three apart, for the bleeding
         low = self.rng.randrange(aim.count)
-        some = {low} | {i for i in (low + 1, low + 2, low - 1)
+        some = {low} | {i for i in (low + 1, low + 2, low + 3, low - 1)
                         if 0 <= i < aim.count and self.chance(0.4)}
         if fault == "OV":
             for i in some:
