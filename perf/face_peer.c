@@ -101,7 +101,7 @@ static unsigned bled(unsigned flags)
     while (flags) {
         const unsigned top = 1u << (31 - __builtin_clz(flags));
         taken |= top;
-        flags &= ~(top | top >> 1);
+        flags &= ~(top | top >> 1 | top >> 2);
     }
     return taken;
 }

@@ -263,13 +263,13 @@ static unsigned status(const struct board *b)
     return value;
 }
 
-// A flagged cell is left out exactly if its upper neighbour was taken.
+// A flagged cell is left out exactly if one of the two above it was taken.
 static unsigned bled(unsigned flags)
 {
     unsigned taken = 0;
     if (flags)
         for (unsigned bit = 1u << (CELLS_MAX - 1); bit; bit >>= 1)
-            if ((flags & bit) && !(taken & bit << 1))
+            if ((flags & bit) && !(taken & (bit << 1 | bit << 2)))
                 taken |= bit;
     return taken;
 }

@@ -133,7 +133,9 @@ static void sampled(const adomvik_board *now, const adomvik_board *was, const ad
     HOLDS(now->count == was->count && now->cycles == was->cycles);
     HOLDS(memcmp(&now->working, &was->working, 2 * sizeof now->working) == 0);
     HOLDS(now->latches == (told->status & 31) && (told->status & 32) == 0);
-    HOLDS((now->flags & ~cells) == 0 && (told->bled & ~now->flags) == 0 && (told->bled & told->bled << 1) == 0);
+    HOLDS((now->flags & ~cells) == 0 && (told->bled & ~now->flags) == 0);
+    HOLDS((told->bled & (told->bled << 1 | told->bled << 2)) == 0);
+    HOLDS((now->flags & ~(told->bled | told->bled >> 1 | told->bled >> 2)) == 0);
     HOLDS(now->currents.ocd <= RUN_MOST && now->currents.scd <= RUN_MOST);
     for (unsigned i = 0; i < now->count; i++)
         HOLDS(now->cells[i].ov <= RUN_MOST && now->cells[i].uv <= RUN_MOST);
