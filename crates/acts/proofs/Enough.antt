@@ -2,8 +2,8 @@
 -- Assumes nothing.
 use Prim.Native.Nat.{ℕ, _<_, _≤_, min}
 use native.Mathlib.Omega.{arith}
-use mathlib.Core.Path.{_≡_, refl, sym, _∙_}
-use mathlib.Core.Bool.{true, false, true≢false, or-true}
+use mathlib.Core.Path.{_≡_, refl}
+use mathlib.Core.Bool.{true, false}
 use mathlib.Core.List.{List}
 use lib.Dec.{ltb, leb}
 use lib.ListN.{length, take, length-take}
@@ -15,7 +15,7 @@ use Rattle.board.specs.declared.Readings.{Readings}
 use Rattle.stack.specs.Row.{goodRow, placeOf, boardAt}
 use Rattle.stack.specs.Sample.{sampleAnswer, sampleRow}
 use Rattle.stack.specs.Frame.{frameAnswer, frameRow}
-use Rattle.stack.proofs.Ways.{board-good, has-board, has-none}
+use Rattle.stack.proofs.Ways.{board-few, has-board, has-none}
 
 -- what holds of the whole of a short list, and of any two long ones, holds of its first sixteen
 first-sixteen : (P : List ℕ → List ℕ → Type 0) → ((l : List ℕ) → P l l) → ((a b : List ℕ) → 15 < length a → 15 < length b → P a b) → (l : List ℕ) → P (take 16 l) l
@@ -29,9 +29,7 @@ module _ (row : List Board) (n : ℕ) (x : Readings) where
 
   -- no board has more than ten cells
   count-few : goodRow row ≡ true → placeOf n < length row → boardAt row (placeOf n) .count ≤ 10
-  count-few good there =
-      split (ltb 10 (boardAt row (placeOf n) .count))
-      (λ e. absurd (true≢false (sym (or-true (ltb (boardAt row (placeOf n) .count) 5)) ∙ rw e at (board-good row good (placeOf n) there)))) (λ e. ltb-false _ _ e)
+  count-few good there = board-few row good (placeOf n) there
 
   long-cells : (a b : List ℕ) → 15 < length a → 15 < length b → SameSample a b
   unfolding sampleAnswer sampleRow

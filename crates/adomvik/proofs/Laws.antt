@@ -16,9 +16,9 @@ use Rattle.stack.specs.Frame.{frameRowBars, frameReply}
 use Rattle.stack.proofs.Laws.{open-said, sample-said, frame-said}
 use Rattle.adomvik.specs.Calls.{openNumber, sampleNumber, frameNumber}
 
-pub open-number : (row : List Board) (counts : List ℕ) → openNumber row counts ≡ first (openBars (length row) counts)
+pub open-number : (row : List Board) (plans : List ℕ) → openNumber row plans ≡ first (openBars (length row) plans)
 unfolding openNumber
-open-number row counts = ap (λ (s : Said). s .number) (open-said row counts) ∙ judged-number (openBars (length row) counts) []
+open-number row plans = ap (λ (s : Said). s .number) (open-said row plans) ∙ judged-number (openBars (length row) plans) []
 
 pub sample-number : (row : List Board) (n : ℕ) (x : Readings) (mv : List ℕ) → sampleNumber row n x mv ≡ first (sampleRowBars row n x mv)
 unfolding sampleNumber

@@ -6,7 +6,7 @@ use Rattle.board.specs.declared.Board.{Board}
 use Rattle.board.specs.declared.Readings.{Readings}
 use Rattle.board.specs.Sample.{sampleOf, answerSaid}
 use Rattle.frame.specs.Reply.{replySaid}
-use Rattle.stack.specs.Open.{openingSaid, openAnswer}
+use Rattle.stack.specs.Open.{openingSaid, openAnswer, countPlans}
 use Rattle.stack.specs.Sample.{sampleAnswer}
 use Rattle.stack.specs.Frame.{frameAnswer}
 use Rattle.stack.specs.Read.{viewSaid}
@@ -15,9 +15,12 @@ use Rattle.adomvik.specs.declared.Sampled.{Sampled}
 use Rattle.adomvik.specs.declared.Reading.{Reading}
 use Rattle.adomvik.specs.Placed.{placed, sampledOf, readingOf}
 
--- the opening of the row
+-- the opening of the row, by plans and by bare cell counts
 unfoldable pub openNumber : List Board → List ℕ → ℕ
-openNumber row counts = openingSaid (openAnswer row counts) .number
+openNumber row plans = openingSaid (openAnswer row plans) .number
+
+abbrev pub countsNumber : List Board → List ℕ → ℕ
+countsNumber row counts = openNumber row (countPlans counts)
 
 -- a sample of one board of the row
 unfoldable pub sampleNumber : List Board → ℕ → Readings → List ℕ → ℕ

@@ -5,9 +5,9 @@ ghost use Rattle.stack.specs.Sample.{sampleRow};
 ghost use Rattle.stack.specs.Frame.{frameRow, frameBuffer};
 ghost use Rattle.board.specs.Sample.{sampleOf};
 ghost use Rattle.lists.specs.Marks.{bit};
-ghost use Rattle.stack.specs.Open.{openRow};
+ghost use Rattle.stack.specs.Open.{openRow, openCountsRow};
 ghost use Rattle.adomvik.specs.Placed.{placedSample, placedReading, numberOfReply, numberOfOpening};
-ghost use Rattle.adomvik.specs.Calls.{openNumber, sampleNumber, sampleOut, boardNumber, boardOut, frameNumber, readNumber, readOut};
+ghost use Rattle.adomvik.specs.Calls.{openNumber, countsNumber, sampleNumber, sampleOut, boardNumber, boardOut, frameNumber, readNumber, readOut};
 use board::Answer;
 use board::Board;
 use board::Readings;
@@ -131,12 +131,21 @@ fn opening_number(a: Opening) -> u8
 
 // ---- the acts
 
-// The cell count of each board, southernmost first: every record of the row as it starts.
+// The cell count of each board, southernmost first: every record of the row as a stand-alone board starts.
 #[no_mangle]
 pub extern "C" fn adomvik_open(row: &mut [Board], counts: &[u32]) -> u8
-    ensures { λ r. ⌜ (r ≡ openNumber (now (row .entry)) (now (counts .entry))) × (now (row .exit) ≡ openRow (now (row .entry)) (now (counts .entry))) ⌝ }
+    ensures { λ r. ⌜ (r ≡ countsNumber (now (row .entry)) (now (counts .entry))) × (now (row .exit) ≡ openCountsRow (now (row .entry)) (now (counts .entry))) ⌝ }
 {
-    let a = stack::open_row(row, counts);
+    let a = stack::open_counts(row, counts);
+    opening_number(a)
+}
+
+// The plan of each board, as a number that the header's constructors make: every record of the row as its board starts.
+#[no_mangle]
+pub extern "C" fn adomvik_open_plans(row: &mut [Board], plans: &[u32]) -> u8
+    ensures { λ r. ⌜ (r ≡ openNumber (now (row .entry)) (now (plans .entry))) × (now (row .exit) ≡ openRow (now (row .entry)) (now (plans .entry))) ⌝ }
+{
+    let a = stack::open_row(row, plans);
     opening_number(a)
 }
 

@@ -1,11 +1,12 @@
--- A count of 5 to 10.
+-- What a good plan has: a kind that there is, and 5 to 10 cells.
 -- Assumes nothing.
 use Prim.Native.Nat.{ℕ, _≤_}
-use mathlib.Core.Path.{_≡_, refl, sym}
+use mathlib.Core.Path.{_≡_, refl, sym, ap}
 use mathlib.Core.Bool.{Bool, true, false, true≢false, not, _||_}
 use lib.Dec.{ltb}
 use borrow.Author.Tests.{ltb-false}
-use Rattle.board.specs.Sample.{outside}
+use Rattle.lists.specs.Compare.{outside}
+use Rattle.board.specs.Plan.{Plan, badPlan}
 
 neither : (a b : Bool) → not (a || b) ≡ true → (a ≡ false) × (b ≡ false)
 neither false false e = (refl, refl)
@@ -16,3 +17,9 @@ pub within : (low high n : ℕ) → not (outside low high n) ≡ true → (low �
 within low high n e =
     let no = neither (ltb n low) (ltb high n) e in
     (ltb-false n low (no .0), ltb-false high n (no .1))
+
+pub good-plan : (p : Plan) → not (badPlan p) ≡ true → (p .kind ≤ 1) × (5 ≤ p .cells) × (p .cells ≤ 10)
+good-plan p e =
+    let no = neither (ltb 1 (p .kind)) (outside 5 10 (p .cells)) e in
+    let few = within 5 10 (p .cells) (ap not (no .1)) in
+    (ltb-false 1 (p .kind) (no .0), few .0, few .1)

@@ -2,14 +2,14 @@
 -- Assumes nothing.
 use Prim.Native.Nat.{ℕ}
 use mathlib.Core.Path.{_≡_, refl}
-use mathlib.Core.Bool.{Bool, not}
+use mathlib.Core.Bool.{Bool, not, _&&_}
 use mathlib.Core.List.{List}
 use lib.Dec.{ltb, leb}
 use borrow.Author.Tests.{le-leb, lt-leb, ltb-true, ltb-false}
 use Rattle.lists.proofs.Split.{split}
 use Rattle.refusal.proofs.Laws.{said-refused}
 use Rattle.settings.specs.Faults.{Fault, SCD, OCD, OV, UV, OT}
-use Rattle.cells.specs.Way.{highOf, spanOf}
+use Rattle.cells.specs.Cells.{highOf, spanOf}
 use Rattle.cells.proofs.Ends.{every-within, all-below-release, all-above-release}
 use Rattle.board.specs.declared.Board.{Board}
 use Rattle.board.specs.declared.Readings.{Readings}
@@ -17,6 +17,7 @@ use Rattle.board.specs.declared.Answer.{Answer}
 use Rattle.board.specs.declared.Answer.the-variants.{Sampled, Refused}
 use Rattle.latches.specs.Latches.{latch, latches, latchNext, latchesOf}
 use Rattle.board.specs.Sample.{answerSaid, answerSaying, sweptAt, latchesAfter, latchesNext, boardWith, boardNext, currentsNext, stands, letsGo, outOfRange}
+use Rattle.board.specs.Host.{holdsOn}
 use Rattle.board.specs.Way.{outOfRangeBy, latchesBy, latchesLeft}
 use Rattle.latches.proofs.Packed.{latches-kept}
 
@@ -33,11 +34,12 @@ latch-of OV on = refl
 latch-of UV on = refl
 latch-of OT on = refl
 
--- at an accepted sample an unlatched fault latches exactly if its condition has stood its delay, and a latched one unlatches exactly if it lets go
+-- at an accepted sample an unlatched fault latches exactly if its condition has stood its delay, and a latched one unlatches exactly if it lets go,
+-- and on a host board only overtemperature by itself
 pub latch-after : (f : Fault) (b : Board) (x : Readings) (mv : List ℕ)
     → latch f (latchesOf (boardNext b x mv .latches))
     ≡ latchNext (latch f (latchesOf (b .latches))) (stands (b .working) (sweptAt b x mv) (currentsNext (b .working) (b .currents) x) x f)
-    (letsGo (b .working) (sweptAt b x mv) (currentsNext (b .working) (b .currents) x) x mv f)
+    (not (holdsOn (b .kind) f) && letsGo (b .working) (sweptAt b x mv) (currentsNext (b .working) (b .currents) x) x mv f)
 unfolding boardWith latchesNext
 latch-after f b x mv = rw (latches-kept (latchesAfter b x mv), latch-of f)
 

@@ -7,7 +7,7 @@ use mathlib.Core.List.{List}
 use lib.Dec.{T as Holds, eqb}
 use Rattle.refusal.specs.Refusals.{numbered}
 use Rattle.refusal.specs.Said.{accepts, refuses, first}
-use Rattle.cells.specs.Way.{spanOf}
+use Rattle.cells.specs.Cells.{spanOf}
 use Rattle.board.specs.declared.Board.{Board}
 use Rattle.board.specs.declared.Readings.{Readings}
 use Rattle.board.specs.declared.Answer.{Answer}
@@ -34,7 +34,7 @@ module _ (b : Board) (x : Readings) (mv : List ℕ) where
   at-refused true false e so = absurd so
   at-refused false quiet e so = (rw e, refl)
 
-  at-quiet : (accepted quiet : Bool) → quietOf b x (spanOf mv) ≡ quiet → Holds (isQuiet (found accepted quiet)) → Says accepted (restedOf b .answer) (restedOf b .board)
+  at-quiet : (accepted quiet : Bool) → quietOf b x (spanOf mv) ≡ quiet → Holds (isQuiet (found accepted quiet)) → let s = restedOf b x (spanFound (found accepted quiet)) in Says accepted (s .answer) (s .board)
   at-quiet true true q so = rested b x mv q
   at-quiet true false q so = absurd so
   at-quiet false quiet q so = absurd so
@@ -53,7 +53,7 @@ module _ (b : Board) (x : Readings) (mv : List ℕ) where
   unfolding lookOf sampleOf
   look-refused = at-refused (eqb refusal 0) (quietOf b x (spanOf mv)) refl
 
-  pub look-quiet : Holds (isQuiet (lookOf b x mv)) → Told (restedOf b .answer) (restedOf b .board)
+  pub look-quiet : Holds (isQuiet (lookOf b x mv)) → let s = restedOf b x (spanFound (lookOf b x mv)) in Told (s .answer) (s .board)
   unfolding lookOf sampleOf
   look-quiet = at-quiet (eqb refusal 0) (quietOf b x (spanOf mv)) refl
 

@@ -1,4 +1,4 @@
--- A quiet sample is in range, leaves the board as it is and bleeds no cell: it is answered from the record.
+-- A quiet sample is in range, changes nothing of the board but the last sample and bleeds no cell: it is answered from the record.
 -- Assumes nothing.
 use Prim.Native.Nat.{ℕ}
 use native.Mathlib.Omega.{arith}
@@ -8,21 +8,25 @@ use mathlib.Core.List.{List}
 use lib.Dec.{ltb, eqb}
 use lib.ListN.{length}
 use borrow.Author.Tests.{le-ltb, eqb-true}
-use Rattle.lists.proofs.Split.{both, not-yes}
+use Rattle.lists.proofs.Split.{split, both, not-yes}
 use Rattle.refusal.specs.Said.{accepts}
 use Rattle.settings.specs.Levels.{ocdLevel, scdLevel}
 use Rattle.settings.specs.Faults.{SCD, OCD, delay}
 use Rattle.runs.specs.Stored.{runNext, stood}
 use Rattle.lists.specs.Marks.{number}
 use Rattle.cells.specs.declared.Swept.{Swept}
-use Rattle.cells.specs.Way.{spanOf, calmOf}
+use Rattle.cells.specs.Cells.{spanOf}
+use Rattle.cells.specs.Way.{calmOf}
 use Rattle.cells.proofs.Stays.{calm-readable, calm-sweep}
-use Rattle.latches.specs.Latches.{latches, latchesByte, register0}
+use Rattle.latches.specs.Latches.{latches, latchesByte, latchesOf, risen, register0}
+use Rattle.latches.specs.Control.{controlNext}
 use Rattle.board.specs.declared.Board.{Board}
 use Rattle.board.specs.declared.Readings.{Readings}
 use Rattle.board.specs.Shunt.{shuntAbove, shuntOutside}
-use Rattle.board.specs.Sample.{currentsNext, latchesNext, hot, sweptAt, latchesAfter, boardWith, boardNext, sampleValues, answerSaying, outOfRange}
-use Rattle.board.specs.Way.{clear, idle, currentsBelow, warm, quietOf, restedOf}
+use Rattle.board.specs.Plan.{isHost}
+use Rattle.board.specs.Host.{statusBy, lastOf}
+use Rattle.board.specs.Sample.{currentsNext, latchesNext, hot, sweptAt, latchesAfter, controlWith, boardWith, boardNext, sampleValues, answerSaying, outOfRange}
+use Rattle.board.specs.Way.{clear, idle, currentsBelow, warm, quietOf, keeping, restedOf}
 
 module _ (b : Board) (x : Readings) (mv : List ℕ) (q : quietOf b x (spanOf mv) ≡ true) where
   -- its parts
@@ -109,18 +113,35 @@ module _ (b : Board) (x : Readings) (mv : List ℕ) (q : quietOf b x (spanOf mv)
   unfolding currentsNext runNext
   same-currents = rw (no-ocd, no-scd) (λ i. record { ocd = sym no-ocd-run i; scd = sym no-scd-run i })
 
-  same-board : boardNext b x mv ≡ b
+  -- nothing latches, so register 1 stays
+  same-control : controlWith b (latchesAfter b x mv) ≡ b .control
+  unfolding controlNext
+  same-control = rw unlatched (split (isHost (b .kind)) (λ e. rw e) (λ e. rw e))
+
+  kept-board : boardNext b x mv ≡ keeping b (lastOf x mv)
   unfolding boardWith latchesByte number
-  same-board =
+  kept-board =
       let byte = ap latchesByte unlatched ∙ sym no-latch in
       let flags = ap (λ (w : Swept). w .flags) swept ∙ sym no-flag in
       let cells = ap (λ (w : Swept). w .cells) swept in
-      λ i. record { count = b .count; latches = byte i; cycles = b .cycles; flags = flags i; working = b .working; staged = b .staged; currents = same-currents i; cells = cells i }
+      λ i. record {
+        count = b .count;
+        latches = byte i;
+        cycles = b .cycles;
+        kind = b .kind;
+        flags = flags i;
+        working = b .working;
+        staged = b .staged;
+        currents = same-currents i;
+        cells = cells i;
+        last = lastOf x mv;
+        control = same-control i;
+      }
 
   pub in-range : outOfRange x mv ≡ false
   in-range = rw (calm-readable (b .working) (b .cells) mv calm, not-high, inside, a-flag)
 
   -- so it is answered from the record
-  pub rested : (restedOf b .answer ≡ answerSaying (accepts (sampleValues b x mv))) × (restedOf b .board ≡ boardNext b x mv)
-  unfolding restedOf register0 number
-  rested = (rw (unlatched, no-latch, ap (λ (w : Swept). w .bled) swept), sym same-board)
+  pub rested : (restedOf b x (spanOf mv) .answer ≡ answerSaying (accepts (sampleValues b x mv))) × (restedOf b x (spanOf mv) .board ≡ boardNext b x mv)
+  unfolding restedOf
+  rested = (rw (same-control, unlatched, no-latch, ap (λ (w : Swept). w .bled) swept), sym kept-board)

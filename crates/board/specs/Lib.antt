@@ -1,3 +1,5 @@
+pub mod Plan
 pub mod Shunt
+pub mod Host
 pub mod Sample
 pub mod Way

@@ -1,11 +1,11 @@
--- A sample of one board (01, The stack and its readings; Refusal numbers 1, 3, 4, 5; When a fault latches and lets go).
+-- A sample of one board (01, The stack and its readings; Refusal numbers 1, 3, 4, 5; When a fault latches and lets go; 02, ticket 3).
 -- Assumes nothing.
 use Prim.Native.Nat.{ℕ}
 use mathlib.Core.Bool.{Bool, cond, not, _&&_, _||_}
 use mathlib.Core.List.{List, [], _∷_}
 use lib.Dec.{eqb}
 use lib.ListN.{length}
-use Rattle.lists.specs.Compare.{_above_, _below_}
+use Rattle.lists.specs.Compare.{_above_, _below_, outside}
 use Rattle.refusal.specs.Refusals.{numberOf, numbered}
 use Rattle.refusal.specs.Said.{Said, refuses, accepts, value, Bar, bar, judged, unlessRefused}
 use Rattle.lists.specs.Every.{every}
@@ -17,26 +17,33 @@ use Rattle.cells.specs.declared.Swept.{Swept}
 use Rattle.cells.specs.Cells.{sweepOf, noCells, readable}
 use Rattle.board.specs.declared.Board.{Board}
 use Rattle.board.specs.declared.Currents.{Currents}
+use Rattle.board.specs.declared.Last.{Last}
 use Rattle.latches.specs.declared.Latches.{Latches}
 use Rattle.board.specs.declared.Readings.{Readings}
 use Rattle.board.specs.declared.Answer.{Answer}
 use Rattle.board.specs.declared.Answer.the-variants.{Sampled, Refused}
 use Rattle.board.specs.declared.Stepped.{Stepped}
+use Rattle.board.specs.Plan.{Plan, isHost, badPlan, planOf}
 use Rattle.board.specs.Shunt.{shuntAbove, shuntOutside}
-use Rattle.latches.specs.Latches.{latch, latches, latchNext, latchesOf, latchesByte, register0}
+use Rattle.board.specs.Host.{statusBy, holdsOn, lastOf, noLast}
+use Rattle.latches.specs.Latches.{latch, latches, latchNext, risen, latchesOf, latchesByte}
+use Rattle.latches.specs.Control.{controlNext}
 
--- a board starts from the factory settings, with no latch, no flagged cell, no cycle spent, staged equal to working
+-- a board starts from the factory settings, with no latch, no flagged cell, no cycle spent, staged equal to working; register 1 starts with 0
 unfoldable pub fresh : ℕ → Board
-fresh n =
+fresh plan =
     record {
-      count = n;
+      count = planOf plan .cells;
       latches = 0;
       cycles = 0;
+      kind = planOf plan .kind;
       flags = 0;
       working = factory;
       staged = factory;
       currents = record { ocd = 0; scd = 0 };
       cells = noCells;
+      last = noLast;
+      control = 0;
     }
 
 -- OCD and SCD: the shunt above the level
@@ -72,8 +79,9 @@ module _ (s : Settings) (swept : Swept) (runs : Currents) (x : Readings) where
   letsGo mv UV = every (λ v. v above uvRelease s) mv
   letsGo mv OT = not (hot x)
 
-  unfoldable pub latchesNext : List ℕ → Latches → Latches
-  latchesNext mv old = latches (λ f. latchNext (latch f old) (stands f) (letsGo mv f))
+  -- by the kind of the board
+  unfoldable pub latchesNext : ℕ → List ℕ → Latches → Latches
+  latchesNext kind mv old = latches (λ f. latchNext (latch f old) (stands f) (not (holdsOn kind f) && letsGo mv f))
 
 -- the pass over the cells at a sample, the runs of the currents and the latches after it
 abbrev pub sweptAt : Board → Readings → List ℕ → Swept
@@ -81,28 +89,35 @@ sweptAt b x mv = sweepOf (b .working) (x .elapsed) (b .cells) (b .flags) mv
 
 abbrev pub latchesAfter : Board → Readings → List ℕ → Latches
 latchesAfter b x mv =
-    latchesNext (b .working) (sweptAt b x mv) (currentsNext (b .working) (b .currents) x) x mv (latchesOf (b .latches))
+    latchesNext (b .working) (sweptAt b x mv) (currentsNext (b .working) (b .currents) x) x (b .kind) mv (latchesOf (b .latches))
 
--- the board after an accepted sample, with the latches that it leaves: settings and cycles stay
-unfoldable pub boardWith : Board → Readings → List ℕ → Latches → Board
-boardWith b x mv left =
+-- register 1 after it, with the latches that it leaves
+abbrev pub controlWith : Board → Latches → ℕ
+controlWith b left = cond (isHost (b .kind)) (controlNext (b .control) (risen (latchesOf (b .latches)) left)) (b .control)
+
+-- the board after an accepted sample, with the latches that it leaves and what is kept of it: settings and cycles stay
+unfoldable pub boardWith : Board → Readings → List ℕ → Latches → Last → Board
+boardWith b x mv left last =
     record {
       count = b .count;
       latches = latchesByte left;
       cycles = b .cycles;
+      kind = b .kind;
       flags = sweptAt b x mv .flags;
       working = b .working;
       staged = b .staged;
       currents = currentsNext (b .working) (b .currents) x;
       cells = sweptAt b x mv .cells;
+      last = last;
+      control = controlWith b left;
     }
 
 abbrev pub boardNext : Board → Readings → List ℕ → Board
-boardNext b x mv = boardWith b x mv (latchesAfter b x mv)
+boardNext b x mv = boardWith b x mv (latchesAfter b x mv) (lastOf x mv)
 
 -- an accepted sample answers with register 0's value and the bled cells
 abbrev pub sampleValues : Board → Readings → List ℕ → List ℕ
-sampleValues b x mv = register0 (latchesAfter b x mv) ∷ sweptAt b x mv .bled ∷ []
+sampleValues b x mv = statusBy (b .kind) (controlWith b (latchesAfter b x mv)) (latchesAfter b x mv) ∷ sweptAt b x mv .bled ∷ []
 
 -- the paper's number and values of each case
 abbrev pub answerSaid : Answer → Said
@@ -113,19 +128,12 @@ answerSaid (Refused why) = refuses (numberOf why)
 abbrev pub answerSaying : Said → Answer
 answerSaying s = cond (eqb (s .number) 0) (Sampled (value 0 s) (value 1 s)) (Refused (numbered (s .number)))
 
-abbrev pub outside : ℕ → ℕ → ℕ → Bool
-outside low high n = n below low || n above high
-
 abbrev pub outOfRange : Readings → List ℕ → Bool
 outOfRange x mv = not (readable mv) || x .thermistor above 5000 || shuntOutside (x .shunt) || x .load above 1
 
--- a board without 5 to 10 cells
+-- a record that no good plan gives
 abbrev pub badBoard : Board → Bool
-badBoard b = outside 5 10 (b .count)
-
--- a plan says what a board is to be, its cell count: one without 5 to 10 cells
-abbrev pub badPlan : ℕ → Bool
-badPlan plan = outside 5 10 plan
+badBoard b = badPlan (record { kind = b .kind; cells = b .count })
 
 -- refusals 3, 4, 5 in order
 abbrev pub readingBars : Board → Readings → List ℕ → List Bar

@@ -12,11 +12,13 @@ use Rattle.settings.specs.Levels.{ovRelease, uvRelease, ocdLevel, scdLevel}
 use Rattle.settings.specs.Faults.{Fault, SCD, OCD, OV, UV, OT}
 use Rattle.cells.specs.declared.Span.{Span}
 use Rattle.cells.specs.declared.Swept.{Swept}
-use Rattle.cells.specs.Way.{spanOf, calmOf}
+use Rattle.cells.specs.Cells.{spanOf}
+use Rattle.cells.specs.Way.{calmOf}
 use Rattle.latches.specs.declared.Latches.{Latches}
-use Rattle.latches.specs.Latches.{latch, latches, latchNext, latchesOf, register0}
+use Rattle.latches.specs.Latches.{latch, latches, latchNext, latchesOf}
 use Rattle.board.specs.declared.Board.{Board}
 use Rattle.board.specs.declared.Currents.{Currents}
+use Rattle.board.specs.declared.Last.{Last}
 use Rattle.board.specs.declared.Readings.{Readings}
 use Rattle.board.specs.declared.Answer.{Answer}
 use Rattle.board.specs.declared.Answer.the-variants as answer
@@ -24,11 +26,12 @@ use Rattle.board.specs.declared.Stepped.{Stepped}
 use Rattle.board.specs.declared.Found.{Found}
 use Rattle.board.specs.declared.Found.the-variants.{Refused, Quiet, Changes}
 use Rattle.board.specs.Shunt.{shuntAbove, shuntOutside}
-use Rattle.board.specs.Sample.{fresh, currentsNext, hot, stands, letsGo, sweptAt, boardWith, sampleBars}
+use Rattle.board.specs.Host.{statusBy, holdsOn}
+use Rattle.board.specs.Sample.{fresh, currentsNext, hot, stands, letsGo, sweptAt, controlWith, boardWith, sampleBars}
 
--- a board by its plan: a count that fits no byte is none
+-- a board by its plan: one whose kind fits no byte is none
 abbrev pub plannedOf : ℕ → Board
-plannedOf plan = fresh (cond (ltb plan 256) plan 0)
+plannedOf plan = fresh (cond (ltb plan 65536) plan 0)
 
 -- refusal 5 by the highest cell (the law range-by)
 abbrev pub outOfRangeBy : Readings → Span → Bool
@@ -84,9 +87,28 @@ spanFound (Refused why) = record { low = 0; high = 0 }
 spanFound (Quiet span) = span
 spanFound (Changes span) = span
 
--- ---- what comes of it: a quiet sample answers with register 0 of the record and no cell bled, and stores nothing yet; any other is stepped
-unfoldable pub restedOf : Board → Stepped
-restedOf b = record { board = b; answer = answer.Sampled (register0 (latchesOf (b .latches))) 0 }
+-- ---- what comes of it: a quiet sample answers with register 0 of the record and no cell bled, and only itself is kept; any other is stepped
+abbrev pub lastBy : Readings → Span → Last
+lastBy x span = record { low = span .low; high = span .high; shunt = x .shunt }
+
+abbrev pub keeping : Board → Last → Board
+keeping b last =
+    record {
+      count = b .count;
+      latches = b .latches;
+      cycles = b .cycles;
+      kind = b .kind;
+      flags = b .flags;
+      working = b .working;
+      staged = b .staged;
+      currents = b .currents;
+      cells = b .cells;
+      last = last;
+      control = b .control;
+    }
+
+unfoldable pub restedOf : Board → Readings → Span → Stepped
+restedOf b x span = record { board = keeping b (lastBy x span); answer = answer.Sampled (statusBy (b .kind) (b .control) (latchesOf (b .latches))) 0 }
 
 module _ (s : Settings) (swept : Swept) (span : Span) (runs : Currents) (x : Readings) where
   -- when a fault lets go, by the lowest and the highest cell (the law latches-by); the others ask no cell
@@ -97,16 +119,16 @@ module _ (s : Settings) (swept : Swept) (span : Span) (runs : Currents) (x : Rea
   letsGoBy UV = ltb (uvRelease s) (span .low)
   letsGoBy OT = letsGo s swept runs x [] OT
 
-  unfoldable pub latchesBy : Latches → Latches
-  latchesBy old = latches (λ f. latchNext (latch f old) (stands s swept runs x f) (letsGoBy f))
+  unfoldable pub latchesBy : ℕ → Latches → Latches
+  latchesBy kind old = latches (λ f. latchNext (latch f old) (stands s swept runs x f) (not (holdsOn kind f) && letsGoBy f))
 
 abbrev pub latchesLeft : Board → Readings → Span → List ℕ → Latches
 latchesLeft b x span mv =
-    latchesBy (b .working) (sweptAt b x mv) span (currentsNext (b .working) (b .currents) x) x (latchesOf (b .latches))
+    latchesBy (b .working) (sweptAt b x mv) span (currentsNext (b .working) (b .currents) x) x (b .kind) (latchesOf (b .latches))
 
 unfoldable pub acceptedBy : Board → Readings → Span → List ℕ → Stepped
 acceptedBy b x span mv =
     record {
-      board = boardWith b x mv (latchesLeft b x span mv);
-      answer = answer.Sampled (register0 (latchesLeft b x span mv)) (sweptAt b x mv .bled);
+      board = boardWith b x mv (latchesLeft b x span mv) (lastBy x span);
+      answer = answer.Sampled (statusBy (b .kind) (controlWith b (latchesLeft b x span mv)) (latchesLeft b x span mv)) (sweptAt b x mv .bled);
     }

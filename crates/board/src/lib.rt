@@ -1,8 +1,11 @@
-// One board: its record, and a sample of it, by value and then where the record lies (01, The stack and its readings; When a fault latches and lets go).
+// One board: its record, and a sample of it, by value and then where the record lies (01, The stack and its readings; When a fault latches and lets go; 02, ticket 3).
 ghost use mathlib.Core.Path.{_≡_};
+ghost use Rattle.latches.specs.Latches.{latchesOf, latchesByte};
 ghost use Rattle.board.specs.Shunt.{shuntAbove, shuntOutside};
-ghost use Rattle.board.specs.Sample.{fresh, currentsNext, badBoard, badPlan, sampleOf};
-ghost use Rattle.board.specs.Way.{plannedOf, outOfRangeBy, quietOf, lookOf, isRefused, isQuiet, answerOf, spanFound, restedOf, latchesBy, acceptedBy};
+ghost use Rattle.board.specs.Plan.{planOf, badPlan, standAlone, host, isHost};
+ghost use Rattle.board.specs.Host.{mayDsg, mayChg, statusBy, clearedOf};
+ghost use Rattle.board.specs.Sample.{fresh, currentsNext, badBoard, controlWith, sampleOf};
+ghost use Rattle.board.specs.Way.{plannedOf, outOfRangeBy, quietOf, lookOf, isRefused, isQuiet, answerOf, spanFound, lastBy, restedOf, latchesBy, acceptedBy};
 use cells::Cell;
 use cells::Span;
 use cells::Swept;
@@ -17,17 +20,28 @@ pub struct Currents {
     pub scd: u32,
 }
 
-// A board's record. The latches are the low five bits of register 0, and the flagged cells a number.
+// What is kept of the last accepted sample: its lowest and its highest cell, and its shunt.
+#[repr(C)]
+pub struct Last {
+    pub low: u32,
+    pub high: u32,
+    pub shunt: i32,
+}
+
+// A board's record. The latches are the low five bits of register 0, the flagged cells a number, and control is register 1.
 #[repr(C)]
 pub struct Board {
     pub count: u8,
     pub latches: u8,
     pub cycles: u8,
+    pub kind: u8,
     pub flags: u16,
     pub working: Settings,
     pub staged: Settings,
     pub currents: Currents,
     pub cells: [Cell; 10],
+    pub last: Last,
+    pub control: u8,
 }
 
 // What a sample reads beside the cells.
@@ -56,49 +70,151 @@ pub struct Stepped {
     pub answer: Answer,
 }
 
-// A board as it starts.
-pub fn fresh_board(count: u8) -> Board
-    ensures { λ r. ⌜ r ≡ fresh count ⌝ }
+// ---- a plan, as one number: the cells, and 256 for a host board
+
+// A plan of so many cells fits its byte, or it is 0, which nothing can open.
+pub fn stand_alone(cells: u32) -> u32
+    ensures { λ r. ⌜ r ≡ standAlone cells ⌝ }
+{
+    if cells < 256 { cells } else { 0 }
+}
+
+pub fn host(cells: u32) -> u32
+    ensures { λ r. ⌜ r ≡ host cells ⌝ }
+{
+    if cells < 256 { 256 + cells } else { 0 }
+}
+
+// A board as it starts by a plan whose kind fits a byte.
+pub fn fresh_board(plan: u16) -> Board
+    ensures { λ r. ⌜ r ≡ fresh plan ⌝ }
 {
     let cells = cells::fresh_cells();
     let currents = Currents { ocd: 0, scd: 0 };
     let working = Settings::FACTORY;
     let staged = Settings::FACTORY;
+    let last = Last {
+        low: 0,
+        high: 4294967295,
+        shunt: 2147483647,
+    };
     Board {
-        count: count,
+        count: (plan % 256) as u8,
         latches: 0,
         cycles: 0,
+        kind: (plan / 256) as u8,
         flags: 0,
         working: working,
         staged: staged,
         currents: currents,
         cells: cells,
+        last: last,
+        control: 0,
     }
+}
+
+// No board has such a kind or so many cells.
+fn bad_make(kind: u32, cells: u32) -> bool
+    ensures { λ r. ⌜ r ≡ badPlan (record { kind = kind; cells = cells }) ⌝ }
+{
+    (1 < kind) | ((cells < 5) | (10 < cells))
 }
 
 // Which record is bad: one that no opening gives.
 pub fn bad_board(b: Board) -> bool
     ensures { λ r. ⌜ r ≡ badBoard b ⌝ }
 {
-    (b.count < 5) | (10 < b.count)
+    bad_make(b.kind as u32, b.count as u32)
 }
 
-// Which plan is bad. A plan says what a board is to be: its cell count.
+// Which plan is bad. A plan says what a board is to be.
 pub fn bad_plan(plan: u32) -> bool
-    ensures { λ r. ⌜ r ≡ badPlan plan ⌝ }
+    ensures { λ r. ⌜ r ≡ badPlan (planOf plan) ⌝ }
 {
-    (plan < 5) | (10 < plan)
+    bad_make(plan / 256, plan % 256)
 }
 
-// A board as it starts by its plan; the count of a good one fits a byte.
+// A board as it starts by its plan; the kind of a good one fits a byte.
 pub fn planned_board(plan: u32) -> Board
     ensures { λ r. ⌜ r ≡ plannedOf plan ⌝ }
 {
-    if plan < 256 {
-        return fresh_board(plan as u8);
+    if plan < 65536 {
+        return fresh_board(plan as u16);
     }
     fresh_board(0)
 }
+
+// ---- what a host board has beside a stand-alone one
+
+// The kind of a host board; a stand-alone one is 0.
+const HOST: u8 = 1;
+
+pub fn is_host(kind: u8) -> bool
+    ensures { λ r. ⌜ r ≡ isHost kind ⌝ }
+{
+    kind == HOST
+}
+
+// DSG and CHG may be on.
+pub fn may_dsg(kind: u8, control: u8) -> bool
+    ensures { λ r. ⌜ r ≡ mayDsg kind control ⌝ }
+{
+    !is_host(kind) | (control / 2 % 2 == 1)
+}
+
+pub fn may_chg(kind: u8, control: u8) -> bool
+    ensures { λ r. ⌜ r ≡ mayChg kind control ⌝ }
+{
+    !is_host(kind) | (control / 4 % 2 == 1)
+}
+
+// Register 0 of a board with these latches.
+pub fn status_by(kind: u8, control: u8, latches: u8) -> u8
+    ensures { λ r. ⌜ r ≡ statusBy kind control (latchesOf latches) ⌝ }
+{
+    latches::status_of(may_dsg(kind, control), may_chg(kind, control), latches)
+}
+
+// The latches without those whose condition is over on the last accepted sample.
+pub fn cleared(s: Settings, last: Last, latches: u8) -> u8
+    ensures { λ r. ⌜ r ≡ latchesByte (clearedOf s last (latchesOf latches)) ⌝ }
+{
+    let old = latches::latches_of(latches);
+    let scd_over = !shunt_above(last.shunt, s.scd_level());
+    let ocd_over = !shunt_above(last.shunt, s.ocd_level());
+    let ov_over = last.high < s.ov_level();
+    let uv_over = s.uv_level() < last.low;
+    latches::byte_of(Latches {
+        scd: !scd_over & old.scd,
+        ocd: !ocd_over & old.ocd,
+        ov: !ov_over & old.ov,
+        uv: !uv_over & old.uv,
+        ot: old.ot,
+    })
+}
+
+// Register 1 after a sample that leaves these latches.
+fn control_with(b: Board, left: Latches) -> u8
+    ensures { λ r. ⌜ r ≡ controlWith b left ⌝ }
+{
+    if is_host(b.kind) {
+        let up = latches::risen(latches::latches_of(b.latches), left);
+        return latches::control_next(b.control, up);
+    }
+    b.control
+}
+
+fn last_by(x: Readings, span: Span) -> Last
+    ensures { λ r. ⌜ r ≡ lastBy x span ⌝ }
+{
+    Last {
+        low: span.low,
+        high: span.high,
+        shunt: x.shunt,
+    }
+}
+
+// ---- a sample
 
 // The shunt reads above a level; no charge current does.
 fn shunt_above(shunt: i32, level: u32) -> bool
@@ -131,9 +247,10 @@ fn latches_next(
     span: Span,
     runs: Currents,
     x: Readings,
+    kind: u8,
     old: Latches,
 ) -> Latches
-    ensures { λ r. ⌜ r ≡ latchesBy s swept span runs x old ⌝ }
+    ensures { λ r. ⌜ r ≡ latchesBy s swept span runs x kind old ⌝ }
 {
     let scd_stood = runs::has_stood(s.scd_delay(), runs.scd);
     let ocd_stood = runs::has_stood(s.ocd_delay(), runs.ocd);
@@ -143,23 +260,28 @@ fn latches_next(
     let uv_lets_go = s.uv_release() < span.low;
     let attached = x.load == 1;
     let hot = x.thermistor < 975;
+    // a host board's faults wait for the host, but for overtemperature
+    let alone = !is_host(kind);
     Latches {
-        scd: latches::latch_next(old.scd, scd_stood, !attached & !over_scd),
-        ocd: latches::latch_next(old.ocd, ocd_stood, !attached & !over_ocd),
-        ov: latches::latch_next(old.ov, swept.ov_stood != 0, ov_lets_go),
-        uv: latches::latch_next(old.uv, swept.uv_stood != 0, uv_lets_go),
+        scd: latches::latch_next(old.scd, scd_stood, alone & (!attached & !over_scd)),
+        ocd: latches::latch_next(old.ocd, ocd_stood, alone & (!attached & !over_ocd)),
+        ov: latches::latch_next(old.ov, swept.ov_stood != 0, alone & ov_lets_go),
+        uv: latches::latch_next(old.uv, swept.uv_stood != 0, alone & uv_lets_go),
         ot: latches::latch_next(old.ot, hot, !hot),
     }
 }
 
-// A quiet sample. It stores nothing yet, and answers from the record.
+// A quiet sample. It is kept as the last one, and answered from the record.
 fn rest(b: Board, x: Readings, span: Span, mv: &[u32]) -> Stepped
-    ensures { λ r. ⌜ r ≡ restedOf b ⌝ }
+    ensures { λ r. ⌜ r ≡ restedOf b x span ⌝ }
 {
+    let last = last_by(x, span);
+    let mut next = b;
+    next.last = last;
     Stepped {
-        board: b,
+        board: next,
         answer: Answer::Sampled {
-            status: latches::status_of(b.latches),
+            status: status_by(b.kind, b.control, b.latches),
             bled: 0,
         },
     }
@@ -178,19 +300,24 @@ fn accept(b: Board, x: Readings, span: Span, mv: &[u32]) -> Stepped
         span,
         currents,
         x,
+        b.kind,
         latches::latches_of(b.latches),
     );
     let byte = latches::byte_of(latches);
+    let control = control_with(b, latches);
     let cells = swept.cells;
+    let last = last_by(x, span);
     let mut next = b;
     next.latches = byte;
     next.flags = swept.flags;
     next.currents = currents;
     next.cells = cells;
+    next.last = last;
+    next.control = control;
     Stepped {
         board: next,
         answer: Answer::Sampled {
-            status: latches::status_of(byte),
+            status: status_by(b.kind, control, byte),
             bled: swept.bled,
         },
     }
@@ -203,7 +330,7 @@ fn out_of_range(x: Readings, span: Span) -> bool
     (5000 < span.high) | (5000 < x.thermistor) | outside | (1 < x.load)
 }
 
-// A sample that finds nothing, on a board that has nothing on record: it changes nothing. The record is looked at first.
+// A sample that finds nothing, on a board that has nothing on record: it changes nothing but the last sample. The record is looked at first.
 fn quiet(b: Board, x: Readings, span: Span) -> bool
     ensures { λ r. ⌜ r ≡ quietOf b x span ⌝ }
 {
@@ -291,7 +418,7 @@ fn span_found(found: Found) -> Span
 
 // The ways of an accepted sample: the record is taken apart, stepped by value and stored back.
 fn rest_board(b: &mut Board, x: Readings, span: Span, mv: &[u32]) -> Answer
-    ensures { λ r. ⌜ (r ≡ restedOf (now (b .entry)) .answer) × (now (b .exit) ≡ restedOf (now (b .entry)) .board) ⌝ }
+    ensures { λ r. ⌜ (r ≡ restedOf (now (b .entry)) x span .answer) × (now (b .exit) ≡ restedOf (now (b .entry)) x span .board) ⌝ }
 {
     let s = rest(*b, x, span, mv);
     *b = s.board;

@@ -13,9 +13,9 @@ use borrow.Author.Tests.{lt-ltb, le-ltb, ltb-true, ltb-false}
 use Rattle.lists.specs.Every.{every}
 use Rattle.lists.proofs.Split.{split}
 use Rattle.settings.specs.declared.Settings.{Settings}
-use Rattle.settings.specs.Levels.{ovRelease, uvRelease}
+use Rattle.settings.specs.Levels.{ovLevel, ovRelease, uvLevel, uvRelease}
 use Rattle.settings.proofs.Laws.{ov-hysteresis-within}
-use Rattle.cells.specs.Way.{lowOf, highOf, spanOf}
+use Rattle.cells.specs.Cells.{lowOf, highOf, spanOf}
 
 -- ---- of two
 both-below : (n a b : ℕ) → (ltb a n && ltb b n) ≡ ltb (max a b) n
@@ -49,8 +49,14 @@ every-above level p (v ∷ mv) = rw (every-above level p mv) (both-above level v
 pub every-within : (most : ℕ) (mv : List ℕ) → every (λ v. leb v most) mv ≡ leb (highOf mv) most
 every-within most mv = ap (λ (test : ℕ → Bool). every test mv) (λ i v. sym (leb·suc-suc v most) i) ∙ every-below (suc most) (omega arith) mv ∙ leb·suc-suc (highOf mv) most
 
--- ---- the levels where OV and UV let go
+-- ---- the levels of OV and UV, and where they let go
 module _ (s : Settings) (mv : List ℕ) where
+  pub all-below-level : every (λ v. ltb v (ovLevel s)) mv ≡ ltb (highOf mv) (ovLevel s)
+  all-below-level = every-below (ovLevel s) (omega arith) mv
+
+  pub all-above-level : every (λ v. ltb (uvLevel s) v) mv ≡ ltb (uvLevel s) (lowOf mv)
+  all-above-level = every-above (uvLevel s) (omega arith) mv
+
   pub all-below-release : every (λ v. ltb v (ovRelease s)) mv ≡ ltb (highOf mv) (ovRelease s)
   all-below-release = let within = ov-hysteresis-within s in every-below (ovRelease s) (omega (arith, within)) mv
 

@@ -19,8 +19,8 @@ use Rattle.lists.proofs.Marks.{marked-above}
 use Rattle.cells.specs.declared.Cell.{Cell}
 use Rattle.lists.specs.Each.{each}
 use Rattle.cells.specs.Bleed.{bled}
-use Rattle.cells.specs.Cells.{cellBy, cellAt, readingAt, cellCount, limitsOf, nextAt, ovStoodAt, uvStoodAt, flaggedAt, sweepBy, sweepOf, readable}
-use Rattle.cells.specs.Way.{noRun, noRuns, calmOf, lowOf, highOf, spanOf}
+use Rattle.cells.specs.Cells.{cellBy, cellAt, readingAt, cellCount, limitsOf, nextAt, ovStoodAt, uvStoodAt, flaggedAt, sweepBy, sweepOf, readable, lowOf, highOf, spanOf}
+use Rattle.cells.specs.Way.{noRun, noRuns, calmOf}
 use Rattle.lists.proofs.Each.{each-same}
 use Rattle.cells.proofs.Ends.{every-within, all-below-release, all-above-release}
 

@@ -1,8 +1,8 @@
 -- The cells of one board at a sample (01, When a fault latches and lets go; Bleeding).
 -- Assumes nothing.
-use Prim.Native.Nat.{ℕ, min}
+use Prim.Native.Nat.{ℕ, min, max}
 use mathlib.Core.Bool.{Bool, not, _&&_, _||_}
-use mathlib.Core.List.{List, _++_}
+use mathlib.Core.List.{List, [], _∷_, _++_}
 use lib.ListN.{length, getD, drop, replicate}
 use Rattle.lists.specs.Compare.{_above_, _below_, _atOrBelow_}
 use Rattle.lists.specs.Every.{every}
@@ -11,6 +11,7 @@ use Rattle.settings.specs.Levels.{ovLevel, ovRelease, ovDelay, uvLevel, uvDelay
 use Rattle.runs.specs.Stored.{runNext, stood}
 use Rattle.lists.specs.Marks.{number, marked}
 use Rattle.cells.specs.declared.Cell.{Cell}
+use Rattle.cells.specs.declared.Span.{Span}
 use Rattle.cells.specs.declared.Swept.{Swept}
 use Rattle.lists.specs.Each.{each}
 use Rattle.cells.specs.Bleed.{bled}
@@ -88,3 +89,15 @@ noCells = replicate 10 (record { ov = 0; uv = 0 })
 -- no cell reads above 5,000 mV
 abbrev pub readable : List ℕ → Bool
 readable mv = every (λ v. v atOrBelow 5000) mv
+
+-- the lowest and the highest of some readings; of none the lowest is above every level, and the highest below
+unfoldable pub lowOf : List ℕ → ℕ
+lowOf [] = 4294967295
+lowOf (v ∷ mv) = min v (lowOf mv)
+
+unfoldable pub highOf : List ℕ → ℕ
+highOf [] = 0
+highOf (v ∷ mv) = max v (highOf mv)
+
+abbrev pub spanOf : List ℕ → Span
+spanOf mv = record { low = lowOf mv; high = highOf mv }

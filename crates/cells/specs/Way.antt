@@ -1,9 +1,9 @@
--- On the way over the cells of one board: sets of cells as numbers, the lowest and the highest reading, and cells with which nothing is
--- the matter. That the sweep and the look at a sample come to what Cells says is shown in the proofs; nobody need believe these.
+-- On the way over the cells of one board: sets of cells as numbers, and cells with which nothing is the matter.
+-- That the sweep and the look at a sample come to what Cells says is shown in the proofs; nobody need believe these.
 -- Assumes nothing.
-use Prim.Native.Nat.{ℕ, _+_, _*_, min, max}
+use Prim.Native.Nat.{ℕ, _+_, _*_}
 use mathlib.Core.Bool.{Bool, cond, not, _&&_, _||_}
-use mathlib.Core.List.{List, [], _∷_}
+use mathlib.Core.List.{List}
 use lib.Dec.{ltb, eqb}
 use lib.ListN.{length}
 use Rattle.lists.specs.Every.{every}
@@ -20,19 +20,6 @@ markNext marked above = cond marked (2 * above + 1) (2 * above)
 -- the cell at a place is flagged, from the numbers of the cells whose OV run has stood, of those that read low and of those flagged before
 abbrev pub flagAt : ℕ → ℕ → ℕ → ℕ → Bool
 flagAt stands low flags k = marked stands k || (marked flags k && not (marked low k))
-
--- ---- the lowest and the highest of some readings
--- of no readings the lowest is above every level, and the highest below
-unfoldable pub lowOf : List ℕ → ℕ
-lowOf [] = 4294967295
-lowOf (v ∷ mv) = min v (lowOf mv)
-
-unfoldable pub highOf : List ℕ → ℕ
-highOf [] = 0
-highOf (v ∷ mv) = max v (highOf mv)
-
-abbrev pub spanOf : List ℕ → Span
-spanOf mv = record { low = lowOf mv; high = highOf mv }
 
 -- nothing is the matter with the ten cells that a board keeps, nor was before: no run, and the lowest and the highest where UV and OV let go
 abbrev pub noRun : Cell → Bool

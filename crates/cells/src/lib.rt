@@ -5,10 +5,10 @@ ghost use Prim.Native.Nat.{min, max, _^_, _<_, _≤_};
 ghost use mathlib.Core.Bool.{cond};
 ghost use lib.Dec.{eqb};
 ghost use Rattle.lists.specs.Marks.{number, marks};
-ghost use Rattle.cells.specs.Cells.{sweepOf, noCells};
+ghost use Rattle.cells.specs.Cells.{sweepOf, noCells, spanOf};
 ghost use Rattle.lists.specs.Each.{each};
 ghost use Rattle.cells.specs.Bleed.{bled};
-ghost use Rattle.cells.specs.Way.{flagAt, noRuns, calmOf, markNext, spanOf};
+ghost use Rattle.cells.specs.Way.{flagAt, noRuns, calmOf, markNext};
 use settings::Settings;
 
 // What a board keeps of one cell: the runs of its OV and UV conditions.

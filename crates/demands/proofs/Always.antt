@@ -49,10 +49,10 @@ module _ (P : History → Type 0) (starts : P []) (samples-keep : (x : Readings)
   so-final logs [] h = h
   so-final logs (a ∷ acts) h = so-final (taken logs a) acts (so-taken logs a h)
 
-  so-begun : (counts : List ℕ) → EachSo (begun counts)
+  so-begun : (plans : List ℕ) → EachSo (begun plans)
   so-begun [] i = starts
-  so-begun (n ∷ counts) zero = starts
-  so-begun (n ∷ counts) (suc i) = so-begun counts i
+  so-begun (n ∷ plans) zero = starts
+  so-begun (n ∷ plans) (suc i) = so-begun plans i
 
-  pub always : (counts : List ℕ) (acts : List Act) (i : ℕ) → P (logAt (final taken (begun counts) acts) i .acts)
-  always counts acts = so-final (begun counts) acts (so-begun counts)
+  pub always : (plans : List ℕ) (acts : List Act) (i : ℕ) → P (logAt (final taken (begun plans) acts) i .acts)
+  always plans acts = so-final (begun plans) acts (so-begun plans)

@@ -72,8 +72,8 @@ pub asks-outside : (low high n : ℕ) → Asks (ltb n low || ltb high n) (Outsid
 asks-outside low high n = asks-or (ltb n low) (ltb high n) (asks-lt n low) (asks-lt high n)
 
 -- some entry of a list, where every entry is tested
-module _ (P : ℕ → Type 0) (fine : ℕ → Bool) (asks : (v : ℕ) → Asks (not (fine v)) (P v)) where
-  some-not : (l : List ℕ) → every fine l ≡ false → Some P l
+module _ {A : Type 0} (none : A) (P : A → Type 0) (fine : A → Bool) (asks : (v : A) → Asks (not (fine v)) (P v)) where
+  some-not : (l : List A) → every fine l ≡ false → Some none P l
   unfolding every
   some-not [] e = absurd (true≢false e)
   some-not (v ∷ l) e =
@@ -81,14 +81,14 @@ module _ (P : ℕ → Type 0) (fine : ℕ → Bool) (asks : (v : ℕ) → Asks (
       (λ f. let later = some-not l (rw f at e) in (suc (later .0), omega (arith, later .1), later .2))
       (λ f. (0, omega arith, asks v .0 (ap not f)))
 
-  pub asks-some : (l : List ℕ) → Asks (not (every fine l)) (Some P l)
+  pub asks-some : (l : List A) → Asks (not (every fine l)) (Some none P l)
   asks-some l = (
     λ e. some-not l (not-yes (every fine l) e),
-    λ (i, p, bad). split (every fine l) (λ e. absurd (true≢false (sym (asks (getD l i 0) .1 bad) ∙ ap not (every-at fine l i 0 e p)))) (λ e. ap not e),
+    λ (i, p, bad). split (every fine l) (λ e. absurd (true≢false (sym (asks (getD l i none) .1 bad) ∙ ap not (every-at fine l i none e p)))) (λ e. ap not e),
   )
 
 -- a test of what stands for each entry
-pub every-of : {A : Type 0} (fine : ℕ → Bool) (f : A → ℕ) (l : List A) → every (λ x. fine (f x)) l ≡ every fine (map f l)
+pub every-of : {A B : Type 0} (fine : B → Bool) (f : A → B) (l : List A) → every (λ x. fine (f x)) l ≡ every fine (map f l)
 unfolding every
 every-of fine f [] = refl
 every-of fine f (x ∷ l) = rw (every-of fine f l)

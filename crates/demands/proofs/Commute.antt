@@ -11,6 +11,7 @@ use borrow.Author.Tests.{eqb-true, eqb-false, eq-eqb, ne-eqb}
 use Rattle.lists.proofs.Split.{split, both, not-yes}
 use Rattle.refusal.specs.Said.{Said, Bar, bar, accepts, refuses, first, judged, unlessRefused}
 use Rattle.board.specs.declared.Board.{Board}
+use Rattle.board.specs.Plan.{Plan}
 use Rattle.board.specs.declared.Readings.{Readings}
 use Rattle.board.specs.Sample.{readingBars}
 use Rattle.frame.specs.Frame.{byte, writes}
@@ -21,11 +22,11 @@ use Rattle.demands.specs.Paper.{Entry, sampled, framed}
 use Rattle.demands.specs.Acts.{Act, sample, frame, reading, Outcome, bars}
 use Rattle.demands.specs.Table.{lent}
 use Rattle.demands.specs.Tied.{Who, board, whole, nobody, early, who, ties, tied}
-use Rattle.demands.specs.Demands.{Log, log, logAt, joined, boardGiven, rowGiven, frameEntry, joins, taken, sampleSays, frameSays, told}
-use Rattle.demands.specs.Refused.{countsOf}
+use Rattle.demands.specs.Demands.{Log, noLog, logAt, joined, boardGiven, rowGiven, frameEntry, joins, taken, sampleSays, frameSays, told}
+use Rattle.demands.specs.Refused.{plansOf}
 use Rattle.demands.proofs.Clear.{clear, numbered}
 use Rattle.demands.proofs.Tells.{board-at}
-use Rattle.demands.proofs.Demanded.{same-counts, goodOf, good-counts}
+use Rattle.demands.proofs.Demanded.{same-plans, goodOf, good-plans}
 
 -- ---- an act, taken apart: its board's place, its entry, and its refusals once the board is known
 
@@ -88,7 +89,7 @@ flip nobody nobody = refl
 -- an act leaves the outcome of one that it is not tied to
 undisturbed : (m : ℕ) (v w : Who) (logs : List Log) (a b : Act) → ties v w ≡ false → answerFor m w (nextFor v logs a) b ≡ answerFor m w logs b
 undisturbed m (board i) (board j) logs a b f =
-    ap (λ (l : Log). answerIn l b) (getD-set-other logs i j (stepIn (logAt logs i) a) (log 0 []) (λ e. eqb-false i j f (sym e)))
+    ap (λ (l : Log). answerIn l b) (getD-set-other logs i j (stepIn (logAt logs i) a) noLog (λ e. eqb-false i j f (sym e)))
 undisturbed m (board i) whole logs a b f = absurd (true≢false f)
 undisturbed m (board i) nobody logs a b f = refl
 undisturbed m whole w logs a b f = refl
@@ -98,8 +99,8 @@ undisturbed m nobody w logs a b f = refl
 either-order : (v w : Who) (logs : List Log) (a b : Act) → ties v w ≡ false → nextFor w (nextFor v logs a) b ≡ nextFor v (nextFor w logs b) a
 either-order (board i) (board j) logs a b f =
     let other = eqb-false i j f in
-    let p = getD-set-other logs i j (stepIn (logAt logs i) a) (log 0 []) (λ e. other (sym e)) in
-    let q = getD-set-other logs j i (stepIn (logAt logs j) b) (log 0 []) other in
+    let p = getD-set-other logs i j (stepIn (logAt logs i) a) noLog (λ e. other (sym e)) in
+    let q = getD-set-other logs j i (stepIn (logAt logs j) b) noLog other in
     ap (λ (l : Log). set (set logs i (stepIn (logAt logs i) a)) j (stepIn l b)) p
     ∙ set-comm logs i j (stepIn (logAt logs i) a) (stepIn (logAt logs j) b) other
     ∙ ap (λ (l : Log). set (set logs j (stepIn (logAt logs j) b)) i (stepIn l a)) (sym q)
@@ -136,7 +137,7 @@ verdict k vs = cond (eqb k 0) (accepts vs) (refuses k)
 
 set-kept : (t : Bool) (logs : List Log) (at : ℕ) (l : Log) → cond t (set logs at l) logs ≡ set logs at (cond t l (logAt logs at))
 set-kept true logs at l = refl
-set-kept false logs at l = sym (set-getD logs at (log 0 []))
+set-kept false logs at l = sym (set-getD logs at noLog)
 
 -- refusals `bs` that come to the early ones `es` and the late ones `ls`
 module _ (bs es ls : List Bar) (parts : first bs ≡ first (es ++ ls)) (n : numbered es ≡ true) where
@@ -152,24 +153,24 @@ module _ (bs es ls : List Bar) (parts : first bs ≡ first (es ++ ls)) (n : numb
   judged-early : (vs : List ℕ) → eqb (first es) 0 ≡ false → judged bs vs ≡ refuses (first es)
   judged-early vs e = ap (λ (k : ℕ). verdict k vs) (parts ∙ first-early es ls e) ∙ ap (λ (t : Bool). cond t (accepts vs) (refuses (first es))) e
 
--- ---- on logs of the counts of an opening, an act goes by whom it concerns
+-- ---- on logs of the plans of an opening, an act goes by whom it concerns
 
-module _ (counts : List ℕ) (good : goodOf counts ≡ true) where
+module _ (plans : List Plan) (good : goodOf plans ≡ true) where
   abbrev pub Good : List Log → Type 0
-  Good logs = countsOf logs ≡ counts
+  Good logs = plansOf logs ≡ plans
 
   pub keeps : (logs : List Log) (a : Act) → Good logs → Good (taken logs a)
-  keeps logs a g = same-counts logs a ∙ g
+  keeps logs a g = same-plans logs a ∙ g
 
   abbrev m : ℕ
-  m = length counts
+  m = length plans
 
   module _ (logs : List Log) (g : Good logs) where
     row-good : goodRow (rowGiven logs) ≡ true
-    row-good = good-counts logs ∙ ap goodOf g ∙ good
+    row-good = good-plans logs ∙ ap goodOf g ∙ good
 
     row-long : length (rowGiven logs) ≡ m
-    row-long = length-map logs boardGiven ∙ sym (length-map logs (λ (l : Log). l .cells)) ∙ ap length g
+    row-long = length-map logs boardGiven ∙ sym (length-map logs (λ (l : Log). l .plan)) ∙ ap length g
 
     -- refusal 1 is not given, and the rest falls into its two parts
     parts : (a : Act) → first (bar 1 (not (goodRow (rowGiven logs))) ∷ (early (length (rowGiven logs)) a ++ late (boardAt (rowGiven logs) (place a)) a))

@@ -31,10 +31,11 @@ module _ (l : Log) (bytes : List ℕ) (obeys : Obeys l bytes) where
 
   free : ((is-programming && crossed (staged (l .acts))) ≡ false) × ((is-programming && lacksCycle (boardGiven l)) ≡ false)
   free =
+      let k = l .plan .kind in
       let w = writes (byte bytes 0) in
       let r = byte bytes 1 in
-      let b9 = bar 9 (noRegister w r) in
-      let b10 = bar 10 (not (fits w r (byte bytes 2))) in
+      let b9 = bar 9 (noRegister k w r) in
+      let b10 = bar 10 (not (fits k w r (byte bytes 2))) in
       let b13 = bar 13 (is-programming && crossed (staged (l .acts))) in
       let b11 = bar 11 (is-programming && lacksCycle (boardGiven l)) in
       let c9 = clear b9 (b10 ∷ b13 ∷ b11 ∷ []) refl obeys in
@@ -63,23 +64,23 @@ crossed-by false staged working fine p = p
 crossed-frame : (l : Log) (bytes : List ℕ) → Obeys l bytes → crossed (working (l .acts)) ≡ false → crossed (working (frameEntry bytes ∷ l .acts)) ≡ false
 crossed-frame l bytes obeys p = crossed-by (is-programming l bytes obeys) (staged (l .acts)) (working (l .acts)) (free l bytes obeys .0) p
 
-pub uncrossed : (counts : List ℕ) (acts : List Act) (i : ℕ) → crossed (working (logAt (final taken (begun counts) acts) i .acts)) ≡ false
+pub uncrossed : (plans : List ℕ) (acts : List Act) (i : ℕ) → crossed (working (logAt (final taken (begun plans) acts) i .acts)) ≡ false
 uncrossed = always (λ h. crossed (working h) ≡ false) refl (λ x mv h p. p) crossed-frame
 
 -- of any board of any stack that came from an opening, whatever the acts: its record holds the count of its differing programmings, and
 -- that is at most three; and its working levels are not crossed
-module _ (counts : List ℕ) (e : opens counts ≡ true) (acts : List Act) (i : ℕ) where
+module _ (plans : List ℕ) (e : opens plans ≡ true) (acts : List Act) (i : ℕ) where
   abbrev acts-of : History
-  acts-of = logAt (final taken (begun counts) acts) i .acts
+  acts-of = logAt (final taken (begun plans) acts) i .acts
 
-  record-is : boardAt (final next (openedRow counts) acts) i ≡ boardGiven (logAt (final taken (begun counts) acts) i)
-  record-is = ap (λ (row : List Board). boardAt row i) (demand2 counts e acts .1) ∙ board-at (final taken (begun counts) acts) i
+  record-is : boardAt (final next (openedRow plans) acts) i ≡ boardGiven (logAt (final taken (begun plans) acts) i)
+  record-is = ap (λ (row : List Board). boardAt row i) (demand2 plans e acts .1) ∙ board-at (final taken (begun plans) acts) i
 
-  pub cycles-count : boardAt (final next (openedRow counts) acts) i .cycles ≡ howMany spends acts-of
+  pub cycles-count : boardAt (final next (openedRow plans) acts) i .cycles ≡ howMany spends acts-of
   cycles-count = ap (λ (b : Board). b .cycles) record-is
 
-  pub at-most-three : boardAt (final next (openedRow counts) acts) i .cycles ≤ 3
-  at-most-three = subst (λ (k : ℕ). k ≤ 3) (sym cycles-count) (always (λ h. spent h ≤ 3) (omega arith) (λ x mv h p. p) three-frame counts acts i)
+  pub at-most-three : boardAt (final next (openedRow plans) acts) i .cycles ≤ 3
+  at-most-three = subst (λ (k : ℕ). k ≤ 3) (sym cycles-count) (always (λ h. spent h ≤ 3) (omega arith) (λ x mv h p. p) three-frame plans acts i)
 
-  pub never-crossed : crossed (boardAt (final next (openedRow counts) acts) i .working) ≡ false
-  never-crossed = ap (λ (b : Board). crossed (b .working)) record-is ∙ uncrossed counts acts i
+  pub never-crossed : crossed (boardAt (final next (openedRow plans) acts) i .working) ≡ false
+  never-crossed = ap (λ (b : Board). crossed (b .working)) record-is ∙ uncrossed plans acts i

@@ -18,6 +18,7 @@ use Rattle.refusal.proofs.Laws.{number-back, judged-number}
 use Rattle.board.specs.declared.Board.{Board}
 use Rattle.board.specs.declared.Readings.{Readings}
 use Rattle.board.specs.declared.Answer.{Answer}
+use Rattle.board.specs.Plan.{Plan, planOf}
 use Rattle.board.specs.Sample.{fresh, badBoard, readingBars, sampleBars, sampleValues, boardNext, answerSaid, answerSaying, sampleOf}
 use Rattle.reading.specs.Reading.{summaryOf, readOf, wholeSaid}
 use Rattle.stack.specs.Row.{badCount, goodRow, noBoard, placeOf, boardAt}
@@ -32,38 +33,38 @@ use Rattle.demands.specs.Acts.{Act, reading, Outcome, outcome, next, ope
 use Rattle.demands.specs.Shuffle.{picked}
 use Rattle.demands.specs.Table.{numbersOf}
 use Rattle.demands.specs.Demands.{Log, begun, boardGiven, rowGiven, taken, told, opens, nothing}
-use Rattle.demands.specs.Refused.{countsOf}
+use Rattle.demands.specs.Refused.{plansOf}
 use Rattle.demands.specs.Face.{Call, sampleCall, recordCall, frameCall, readCall, inSample, inReply, inReading, lent, Returned, returned, returns, leaves, actOf, inC, OfRow, AllOfRow, SameActs, barsOf, numbers, OneOf, NumberBy, FaceDemand1, takenIn, toldIn, FaceDemand2, noCall, noReturn, FaceDemand3}
 use Rattle.demands.proofs.Clear.{clear, numbered}
 use Rattle.demands.proofs.Table.{first-is, is-first, none-is, is-none, kept-old, reading-judged}
 use Rattle.demands.proofs.Tells.{tells, gives}
-use Rattle.demands.proofs.Demanded.{goodOf, same-counts, good-counts, begun-counts, opens-fine, opened-given, demand2}
+use Rattle.demands.proofs.Demanded.{goodOf, same-plans, good-plans, begun-plans, opens-fine, opened-given, demand2}
 use Rattle.demands.proofs.Places.{picked-map}
 use Rattle.demands.proofs.Order.{demand3}
 
 -- ---- an opening
 
-opened-so : (row : List Board) (counts : List ℕ) → openNumber row counts ≡ 0 → (length row ≡ length counts) × (opens counts ≡ true)
-opened-so row counts e =
-    let same = eqb (length counts) (length row) in
-    let none : eqb (first (openBars (length row) counts)) 0 ≡ true = eq-eqb (first (openBars (length row) counts)) 0 (sym (open-number row counts) ∙ e) in
-    let fails = clear (bar 1 (not same || badCount (length counts) || not (goodPlans counts))) [] refl none .0 in
-    let long : length row ≡ length counts = sym (eqb-true (length counts) (length row) (matches same (badCount (length counts)) (not (goodPlans counts)) fails)) in
-    (long, subst (λ (m : ℕ). eqb (first (openBars m counts)) 0 ≡ true) long none)
+opened-so : (row : List Board) (plans : List ℕ) → openNumber row plans ≡ 0 → (length row ≡ length plans) × (opens plans ≡ true)
+opened-so row plans e =
+    let same = eqb (length plans) (length row) in
+    let none : eqb (first (openBars (length row) plans)) 0 ≡ true = eq-eqb (first (openBars (length row) plans)) 0 (sym (open-number row plans) ∙ e) in
+    let fails = clear (bar 1 (not same || badCount (length plans) || not (goodPlans plans))) [] refl none .0 in
+    let long : length row ≡ length plans = sym (eqb-true (length plans) (length row) (matches same (badCount (length plans)) (not (goodPlans plans)) fails)) in
+    (long, subst (λ (m : ℕ). eqb (first (openBars m plans)) 0 ≡ true) long none)
   where
     matches : (a b c : Bool) → (not a || b || c) ≡ false → a ≡ true
     matches true b c e = refl
     matches false b c e = absurd (true≢false e)
 
-opens-then : (row : List Board) (counts : List ℕ) → (length row ≡ length counts) × (opens counts ≡ true) → openNumber row counts ≡ 0
-opens-then row counts (long, e) =
-    open-number row counts ∙ eqb-true (first (openBars (length row) counts)) 0 (subst (λ (m : ℕ). eqb (first (openBars m counts)) 0 ≡ true) (sym long) e)
+opens-then : (row : List Board) (plans : List ℕ) → (length row ≡ length plans) × (opens plans ≡ true) → openNumber row plans ≡ 0
+opens-then row plans (long, e) =
+    open-number row plans ∙ eqb-true (first (openBars (length row) plans)) 0 (subst (λ (m : ℕ). eqb (first (openBars m plans)) 0 ≡ true) (sym long) e)
 
-opened-is : (row : List Board) (counts : List ℕ) → openNumber row counts ≡ 0 → openRow row counts ≡ rowGiven (begun counts)
-opened-is row counts e = let so = opened-so row counts e in opened-given row counts (so .0) (so .1)
+opened-is : (row : List Board) (plans : List ℕ) → openNumber row plans ≡ 0 → openRow row plans ≡ rowGiven (begun plans)
+opened-is row plans e = let so = opened-so row plans e in opened-given row plans (so .0) (so .1)
 
-opened-row : (counts : List ℕ) → opens counts ≡ true → openedRow counts ≡ rowGiven (begun counts)
-opened-row counts e = opened-given (replicate (length counts) (fresh 0)) counts (length-replicate (length counts) (fresh 0)) e
+opened-row : (plans : List ℕ) → opens plans ≡ true → openedRow plans ≡ rowGiven (begun plans)
+opened-row plans e = opened-given (replicate (length plans) (fresh 0)) plans (length-replicate (length plans) (fresh 0)) e
 
 -- ---- a sample of the record at a place is that of its board: the row is good, so the record is, and there is such a board
 
@@ -108,8 +109,9 @@ call-is row good (readCall out) so = (refl, refl)
 pub same-acts : SameActs
 same-acts =
     record {
-      opening = λ row counts. (opened-so row counts, opens-then row counts);
-      opened = λ row counts e. opened-is row counts e ∙ sym (opened-row counts (opened-so row counts e .1));
+      opening = λ row plans. (opened-so row plans, opens-then row plans);
+      opened = λ row plans e. opened-is row plans e ∙ sym (opened-row plans (opened-so row plans e .1));
+      from-counts = λ row counts. (refl, refl);
       record-sampled = record-is;
       call = call-is;
     }
@@ -185,9 +187,9 @@ call-stays row (frameCall bytes buffer) p e =
     (kept-old rows _ p e _ _, ap inReply (kept-old rows _ p e _ _))
 call-stays row (readCall out) p e = (refl, ap inReading (place-stays (viewSaid (readingOf row)) out _ p))
 
-open-stays : (row : List Board) (counts : List ℕ) → 0 < openNumber row counts → openRow row counts ≡ row
+open-stays : (row : List Board) (plans : List ℕ) → 0 < openNumber row plans → openRow row plans ≡ row
 unfolding openRow
-open-stays row counts p = kept-old (openBars (length row) counts) (openNumber row counts) p (sym (open-number row counts)) _ _
+open-stays row plans p = kept-old (openBars (length row) plans) (openNumber row plans) p (sym (open-number row plans)) _ _
 
 pub face-demand1 : (row : List Board) → FaceDemand1 row
 face-demand1 row =
@@ -195,39 +197,39 @@ face-demand1 row =
       by-table = λ c. by-first (barsOf row c) (returns row c .number) (all-numbered row c) (number-first row c);
       own-numbers = own row;
       unchanged = λ c p. call-stays row c p (sym (number-first row c));
-      opening-by-table = λ counts. by-first (openBars (length row) counts) (openNumber row counts) refl (open-number row counts);
-      opening-own-numbers = λ counts. subst (λ (n : ℕ). OneOf n (0 ∷ 1 ∷ [])) (sym (open-number row counts)) (first-among (openBars (length row) counts));
+      opening-by-table = λ plans. by-first (openBars (length row) plans) (openNumber row plans) refl (open-number row plans);
+      opening-own-numbers = λ plans. subst (λ (n : ℕ). OneOf n (0 ∷ 1 ∷ [])) (sym (open-number row plans)) (first-among (openBars (length row) plans));
       opening-unchanged = open-stays row;
     }
 
--- ---- demand 2: from any logs of good counts
+-- ---- demand 2: from any logs of good plans
 
-boards-of : (logs : List Log) → length (rowGiven logs) ≡ length (countsOf logs)
-boards-of logs = length-map logs boardGiven ∙ sym (length-map logs (λ (l : Log). l .cells))
+boards-of : (logs : List Log) → length (rowGiven logs) ≡ length (plansOf logs)
+boards-of logs = length-map logs boardGiven ∙ sym (length-map logs (λ (l : Log). l .plan))
 
-call-here : (logs : List Log) → goodOf (countsOf logs) ≡ true → (c : Call) → OfRow (length (countsOf logs)) c
+call-here : (logs : List Log) → goodOf (plansOf logs) ≡ true → (c : Call) → OfRow (length (plansOf logs)) c
     → (returns (rowGiven logs) c ≡ toldIn logs c) × (leaves (rowGiven logs) c ≡ rowGiven (takenIn logs c))
 call-here logs good c so =
-    let fine = good-counts logs ∙ good in
+    let fine = good-plans logs ∙ good in
     let is = call-is (rowGiven logs) fine c (subst (λ (m : ℕ). OfRow m c) (sym (boards-of logs)) so) in
     (is .0 ∙ ap (inC c) (tells logs fine (actOf c)), is .1 ∙ gives logs (actOf c))
 
-calls-on : (logs : List Log) → goodOf (countsOf logs) ≡ true → (calls : List Call) → AllOfRow (length (countsOf logs)) calls
+calls-on : (logs : List Log) → goodOf (plansOf logs) ≡ true → (calls : List Call) → AllOfRow (length (plansOf logs)) calls
     → (answers leaves returns (rowGiven logs) calls ≡ answers takenIn toldIn logs calls) × (final leaves (rowGiven logs) calls ≡ rowGiven (final takenIn logs calls))
 calls-on logs good [] so = (refl, refl)
 calls-on logs good (c ∷ calls) so =
     let is = call-here logs good c (so .0) in
-    let counts-stay = same-counts logs (actOf c) in
-    let later = calls-on (takenIn logs c) (ap goodOf counts-stay ∙ good) calls (subst (λ (counts : List ℕ). AllOfRow (length counts) calls) (sym counts-stay) (so .1)) in (
+    let plans-stay = same-plans logs (actOf c) in
+    let later = calls-on (takenIn logs c) (ap goodOf plans-stay ∙ good) calls (subst (λ (plans : List Plan). AllOfRow (length plans) calls) (sym plans-stay) (so .1)) in (
       ap₂ (λ (o : Returned) (l : List Returned). o ∷ l) (is .0) (ap (λ (row : List Board). answers leaves returns row calls) (is .1) ∙ later .0),
       ap (λ (row : List Board). final leaves row calls) (is .1) ∙ later .1,
     )
 
 pub face-demand2 : FaceDemand2
-face-demand2 row counts e calls so =
-    let start = opened-is row counts e in
-    let begun-so = begun-counts counts in
-    let on = calls-on (begun counts) (ap goodOf begun-so ∙ opens-fine counts (opened-so row counts e .1)) calls (subst (λ (l : List ℕ). AllOfRow (length l) calls) (sym begun-so) so) in (
+face-demand2 row plans e calls so =
+    let start = opened-is row plans e in
+    let begun-so = begun-plans plans in
+    let on = calls-on (begun plans) (ap goodOf begun-so ∙ opens-fine plans (opened-so row plans e .1)) calls (subst (λ (m : ℕ). AllOfRow m calls) (sym (ap length begun-so ∙ length-map plans planOf)) so) in (
       ap (λ (r : List Board). answers leaves returns r calls) start ∙ on .0,
       ap (λ (r : List Board). final leaves r calls) start ∙ on .1,
     )
@@ -274,20 +276,20 @@ picked-of-row boards calls so [] = tt
 picked-of-row boards calls so (p ∷ order) = (of-row-at boards calls so p, picked-of-row boards calls so order)
 
 pub face-demand3 : FaceDemand3
-face-demand3 row counts e calls so order w =
-    let opens-so = opened-so row counts e .1 in
+face-demand3 row plans e calls so order w =
+    let opens-so = opened-so row plans e .1 in
     let acts = map actOf calls in
     let other = picked noCall order calls in
     let other-acts : map actOf other ≡ picked reading order acts = picked-map actOf noCall order calls in
-    let shuffled = demand3 counts opens-so acts order w in
-    let by-paper = demand2 counts opens-so (picked reading order acts) in
-    let here = face-demand2 row counts e calls so in
-    let there = face-demand2 row counts e other (picked-of-row (length counts) calls so order) in
-    let logs = begun counts in
+    let shuffled = demand3 plans opens-so acts order w in
+    let by-paper = demand2 plans opens-so (picked reading order acts) in
+    let here = face-demand2 row plans e calls so in
+    let there = face-demand2 row plans e other (picked-of-row (length plans) calls so order) in
+    let logs = begun plans in
     let gets : answers taken told logs (map actOf other) ≡ picked nothing order (answers taken told logs acts) =
     ap (answers taken told logs) other-acts ∙ sym (by-paper .0) ∙ shuffled .0 in
     let ends : rowGiven (final taken logs (map actOf other)) ≡ rowGiven (final taken logs acts) =
-    ap (λ (l : List Act). rowGiven (final taken logs l)) other-acts ∙ sym (by-paper .1) ∙ shuffled .1 ∙ demand2 counts opens-so acts .1 in (
+    ap (λ (l : List Act). rowGiven (final taken logs l)) other-acts ∙ sym (by-paper .1) ∙ shuffled .1 ∙ demand2 plans opens-so acts .1 in (
       there .0 ∙ told-in logs other ∙ ap (inCs other) gets ∙ in-picked calls (answers taken told logs acts) (as-many logs calls) order ∙ ap (picked noReturn order) (sym (told-in logs calls)),
       there .1 ∙ ap rowGiven (final-in logs other) ∙ ends ∙ ap rowGiven (sym (final-in logs calls)) ∙ sym (here .1),
     )

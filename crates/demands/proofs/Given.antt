@@ -3,13 +3,16 @@
 use Prim.Native.Nat.{ℕ, _+_, _<_, _≤_}
 use native.Mathlib.Omega.{arith}
 use mathlib.Core.Path.{_≡_, refl, ap, ap₂, sym, _∙_}
-use mathlib.Core.Bool.{Bool, true, false, true≢false, cond, _&&_, or-false}
+use mathlib.Core.Bool.{Bool, true, false, true≢false, cond, not, _&&_, _||_, or-false}
 use mathlib.Core.List.{List, [], _∷_, _++_, dropLast}
+use mathlib.Core.Option.{Option, some as just, none}
 use lib.Dec.{leb, ltb, eqb, leb·zero}
 use lib.ListN.{length, drop}
-use borrow.Author.Tests.{eqb-true, ne-eqb}
-use Rattle.lists.proofs.Split.{split}
-use Rattle.settings.specs.Levels.{ovRelease, uvRelease}
+use borrow.Author.Tests.{eqb-true, ne-eqb, lt-ltb, le-ltb}
+use Rattle.lists.proofs.Split.{split, both}
+use Rattle.lists.proofs.Marks.{number-at}
+use Rattle.lists.proofs.Below.{right-below, right-at}
+use Rattle.settings.specs.Levels.{ovLevel, ovRelease, uvLevel, uvRelease, ocdLevel, scdLevel}
 use Rattle.settings.specs.declared.Settings.{Settings}
 use Rattle.settings.specs.Bytes.{withByte, same}
 use Rattle.settings.specs.Faults.{Fault, SCD, OCD, OV, UV, OT, delay}
@@ -22,19 +25,26 @@ use Rattle.cells.specs.declared.Swept.{Swept}
 use Rattle.lists.specs.Each.{each, some as someOf}
 use Rattle.lists.proofs.Each.{all-places}
 use Rattle.cells.proofs.Sets.{some-number, set-at}
+use Rattle.cells.proofs.Ends.{all-below-level, all-above-level}
 use Rattle.cells.specs.Bleed.{bled}
 use Rattle.cells.specs.Cells.{cellBy, cellAt, readingAt, cellCount, noCells, limitsOf, nextAt, flaggedAt, flagBy, sweepBy}
-use Rattle.latches.specs.Latches.{latches, latchNext, latchesByte}
+use Rattle.latches.specs.declared.Latches.{Latches}
+use Rattle.latches.specs.Latches.{latches, latchNext, risen, latchesByte, latchesOf, anyLatch, register0}
+use Rattle.latches.specs.Control.{clearBit, dsgBit, chgBit, controlNext}
 use Rattle.latches.proofs.Packed.{latches-kept}
 use Rattle.board.specs.declared.Board.{Board}
 use Rattle.board.specs.declared.Currents.{Currents}
 use Rattle.board.specs.declared.Readings.{Readings}
+use Rattle.board.specs.Plan.{Plan, isHost, planOf}
+use Rattle.board.specs.Shunt.{shuntAbove}
+use Rattle.board.specs.Host as host
+use Rattle.board.specs.Host.{statusBy, holdsOn, lastOf, clearedOf}
 use Rattle.board.specs.Sample as board
-use Rattle.board.specs.Sample.{fresh, hot, currentsNext, latchesNext, sweptAt, latchesAfter, boardWith, boardNext}
+use Rattle.board.specs.Sample.{fresh, hot, currentsNext, latchesNext, sweptAt, latchesAfter, controlWith, boardWith, boardNext}
 use Rattle.frame.specs.Frame.{writes}
 use Rattle.registers.specs.Registers as registers
 use Rattle.registers.specs.Registers.{staging, boardAfter}
-use Rattle.demands.specs.Paper.{Entry, sampled, framed, History, staged, working, spends, spent, Sample, sampleOf, since, holds, runOf, stoodDelay, stands, letsGo, latched, latchesAt, flagged, flagsAt, cellGiven, given}
+use Rattle.demands.specs.Paper.{Entry, sampled, framed, History, staged, working, spends, spent, Sample, sampleOf, since, holds, runOf, stoodDelay, stands, letsGo, steers, clearSet, lastSample, overBy, latched, latchesAt, rises, dsgSet, chgSet, control, mayDsg, mayChg, flagged, flagsAt, lastGiven, cellGiven, given}
 use Rattle.demands.proofs.Runs.{working-stays, runs}
 use Rattle.demands.proofs.Lists.{each-same, each-behind, each-before, each-one, number-none}
 
@@ -43,9 +53,54 @@ use Rattle.demands.proofs.Lists.{each-same, each-behind, each-before, e
 abbrev noCell : Cell
 noCell = record { ov = 0; uv = 0 }
 
-pub given-start : (n : ℕ) → n ≤ 10 → given n [] ≡ fresh n
+pub given-start : (n : ℕ) → planOf n .cells ≤ 10 → given (planOf n) [] ≡ fresh n
 unfolding fresh latchesByte number
-given-start n few = rw (number-none 0 n, each-one 0 n 10 noCell few)
+given-start n few = rw (number-none 0 (planOf n .cells), each-one 0 (planOf n .cells) 10 noCell few)
+
+-- ---- register 1
+
+-- its bits are what the history gives
+module _ (p : Plan) (h : History) where
+  abbrev bits : List Bool
+  bits = clearSet p h ∷ dsgSet p h ∷ chgSet p h ∷ []
+
+  pub clear-kept : clearBit (control p h) ≡ clearSet p h
+  clear-kept = number-at bits 0 (omega arith)
+
+  pub dsg-kept : dsgBit (control p h) ≡ dsgSet p h
+  dsg-kept = number-at bits 1 (omega arith)
+
+  pub chg-kept : chgBit (control p h) ≡ chgSet p h
+  chg-kept = number-at bits 2 (omega arith)
+
+-- so the switches may be on as it says
+pub may-dsg-is : (p : Plan) (h : History) → host.mayDsg (p .kind) (control p h) ≡ mayDsg p h
+may-dsg-is p h = ap (λ (t : Bool). not (isHost (p .kind)) || t) (dsg-kept p h)
+
+pub may-chg-is : (p : Plan) (h : History) → host.mayChg (p .kind) (control p h) ≡ mayChg p h
+may-chg-is p h = ap (λ (t : Bool). not (isHost (p .kind)) || t) (chg-kept p h)
+
+pub status-is : (p : Plan) (h : History) (t : Latches) → statusBy (p .kind) (control p h) t ≡ register0 (mayDsg p h) (mayChg p h) t
+status-is p h t = ap₂ (λ (d c : Bool). register0 d c t) (may-dsg-is p h) (may-chg-is p h)
+
+-- a board that is not a host has no bit set
+no-bits : (p : Plan) → isHost (p .kind) ≡ false → (h : History) → (dsgSet p h ≡ false) × (chgSet p h ≡ false)
+no-bits p alone [] = (refl, refl)
+no-bits p alone (sampled x mv ∷ h) = let before = no-bits p alone h in (rw (before .0), rw (before .1))
+no-bits p alone (framed address register v ∷ h) = let before = no-bits p alone h in (rw (alone, before .0), rw (alone, before .1))
+
+-- where nothing latches no bit is cleared
+none-four : (a b c d e : Bool) → (a || b || c || d || e) ≡ false → ((c || b || a || e) ≡ false) × ((d || b || a || e) ≡ false)
+none-four false false false false false e = (refl, refl)
+none-four true b c d e h = absurd (true≢false h)
+none-four false true c d e h = absurd (true≢false h)
+none-four false false true d e h = absurd (true≢false h)
+none-four false false false true e h = absurd (true≢false h)
+none-four false false false false true h = absurd (true≢false h)
+
+and-yes : (b : Bool) → b ≡ (b && not false)
+and-yes true = refl
+and-yes false = refl
 
 -- ---- a sample
 
@@ -54,7 +109,10 @@ no-delay : (b : Bool) (x : Sample) (older : List Sample) → b ≡ past 0 (lasti
 no-delay false x older = refl
 no-delay true x older = sym (leb·zero (total (λ y. y .readings .elapsed) (dropLast (x ∷ older))))
 
-module _ (n : ℕ) (few : n ≤ 10) (h : History) (x : Readings) (mv : List ℕ) (long : length mv ≡ n) where
+module _ (p : Plan) (few : p .cells ≤ 10) (h : History) (x : Readings) (mv : List ℕ) (long : length mv ≡ p .cells) where
+  abbrev n : ℕ
+  n = p .cells
+
   abbrev after : History
   after = sampled x mv ∷ h
 
@@ -70,16 +128,16 @@ module _ (n : ℕ) (few : n ≤ 10) (h : History) (x : Readings) (mv : List ℕ)
 
   -- the cell at a place
   abbrev nexts : ℕ → Cell
-  nexts = nextAt (limitsOf (working h)) (x .elapsed) (given n h .cells) (given n h .flags) mv
+  nexts = nextAt (limitsOf (working h)) (x .elapsed) (given p h .cells) (given p h .flags) mv
 
-  cell-is : (k : ℕ) → k < n → cellAt (given n h .cells) k ≡ cellGiven h k
+  cell-is : (k : ℕ) → k < n → cellAt (given p h .cells) k ≡ cellGiven h k
   cell-is k p = each-before n (cellGiven h) (drop n noCells) k noCell p
 
   next-is : (k : ℕ) → k < n → nexts k ≡ cellGiven after k
   unfolding cellBy
   next-is k p = rw (cell-is k p) (λ i. record { ov = run-after OV k i; uv = run-after UV k i })
 
-  cells-are : sweptAt (given n h) x mv .cells ≡ given n after .cells
+  cells-are : sweptAt (given p h) x mv .cells ≡ given p after .cells
   unfolding sweepBy
   cells-are = rw (count-is, each-behind 0 n (cellGiven h) (drop n noCells), each-same n nexts (cellGiven after) next-is)
 
@@ -91,11 +149,11 @@ module _ (n : ℕ) (few : n ≤ 10) (h : History) (x : Readings) (mv : List ℕ)
   uv-is k p = ap (λ (c : Cell). stood (delay UV (working h)) (c .uv)) (next-is k p) ∙ stood-delay UV (working h) (runOf UV k after)
 
   -- the flag at a place
-  flag-was : (k : ℕ) → k < n → marked (given n h .flags) k ≡ flagged k h
+  flag-was : (k : ℕ) → k < n → marked (given p h .flags) k ≡ flagged k h
   flag-was k p = set-at (λ k. flagged k h) n k p
 
   abbrev flags : ℕ → Bool
-  flags = flaggedAt (limitsOf (working h)) (x .elapsed) (given n h .cells) (given n h .flags) mv
+  flags = flaggedAt (limitsOf (working h)) (x .elapsed) (given p h .cells) (given p h .flags) mv
 
   flag-is : (k : ℕ) → k < n → flags k ≡ flagged k after
   flag-is k p = ap₂ (λ stands was. flagBy (ovRelease (working h)) stands was (readingAt mv k)) (ov-is k p) (flag-was k p)
@@ -105,10 +163,10 @@ module _ (n : ℕ) (few : n ≤ 10) (h : History) (x : Readings) (mv : List ℕ)
 
   -- the latches: what stands, what lets go, and what was
   abbrev swept : Swept
-  swept = sweptAt (given n h) x mv
+  swept = sweptAt (given p h) x mv
 
   abbrev currents : Currents
-  currents = currentsNext (working h) (given n h .currents) x
+  currents = currentsNext (working h) (given p h .currents) x
 
   stands-is : (f : Fault) → board.stands (working h) swept currents x f ≡ stands n f after
   unfolding sweepBy currentsNext each
@@ -125,35 +183,64 @@ module _ (n : ℕ) (few : n ≤ 10) (h : History) (x : Readings) (mv : List ℕ)
   lets-is UV = sym (all-places (λ v. ltb (uvRelease (working h)) v) mv 0 n (sym long))
   lets-is OT = refl
 
-  latch-is : (f : Fault) → latchNext (latched n f h) (board.stands (working h) swept currents x f) (board.letsGo (working h) swept currents x mv f) ≡ latched n f after
-  latch-is f = ap₂ (latchNext (latched n f h)) (stands-is f) (lets-is f)
+  latch-is : (f : Fault) → latchNext (latched p f h) (board.stands (working h) swept currents x f) (not (holdsOn (p .kind) f) && board.letsGo (working h) swept currents x mv f) ≡ latched p f after
+  latch-is f = ap₂ (λ (stands goes : Bool). latchNext (latched p f h) stands (not (holdsOn (p .kind) f) && goes)) (stands-is f) (lets-is f)
 
-  latches-next : latchesNext (working h) swept currents x mv (latchesAt n h) ≡ latchesAt n after
+  latches-next : latchesNext (working h) swept currents x (p .kind) mv (latchesAt p h) ≡ latchesAt p after
   unfolding latchesNext
   latches-next = λ i. record { scd = latch-is SCD i; ocd = latch-is OCD i; ov = latch-is OV i; uv = latch-is UV i; ot = latch-is OT i }
 
-  pub latches-are : latchesAfter (given n h) x mv ≡ latchesAt n after
-  latches-are = ap (latchesNext (working h) swept currents x mv) (latches-kept (latchesAt n h)) ∙ latches-next
+  pub latches-are : latchesAfter (given p h) x mv ≡ latchesAt p after
+  latches-are = ap (latchesNext (working h) swept currents x (p .kind) mv) (latches-kept (latchesAt p h)) ∙ latches-next
 
-  pub bled-are : sweptAt (given n h) x mv .bled ≡ number (bled (flagsAt n after))
+  pub bled-are : sweptAt (given p h) x mv .bled ≡ number (bled (flagsAt n after))
   unfolding sweepBy
   bled-are = rw (count-is, flags-are)
 
-  marks-are : sweptAt (given n h) x mv .flags ≡ given n after .flags
+  marks-are : sweptAt (given p h) x mv .flags ≡ given p after .flags
   unfolding sweepBy
   marks-are = rw (count-is, flags-are)
 
-  pub given-sampled : boardNext (given n h) x mv ≡ given n after
+  -- register 1: of a host board the bits that what latches forbids are cleared, and any other has none
+  abbrev up : Latches
+  up = latches (λ f. rises p f (sampled x mv) h)
+
+  risen-are : risen (latchesOf (given p h .latches)) (latchesAfter (given p h) x mv) ≡ up
+  risen-are = ap₂ risen (latches-kept (latchesAt p h)) latches-are
+
+  control-host : controlNext (control p h) up ≡ control p after
+  unfolding controlNext
+  control-host =
+      split (anyLatch up)
+      (λ e. rw (e, clear-kept p h, dsg-kept p h, chg-kept p h))
+      (λ e.
+      let none = none-four (up .scd) (up .ocd) (up .ov) (up .uv) (up .ot) e in
+      rw (e, none .0, none .1) (ap₂ (λ (d c : Bool). number (clearSet p h ∷ d ∷ c ∷ [])) (and-yes (dsgSet p h)) (and-yes (chgSet p h))))
+
+  pub control-is : controlWith (given p h) (latchesAfter (given p h) x mv) ≡ control p after
+  control-is =
+      let by : Bool → ℕ = λ t. cond t (controlNext (control p h) (risen (latchesOf (given p h .latches)) (latchesAfter (given p h) x mv))) (control p h) in
+      split (isHost (p .kind))
+      (λ e. ap by e ∙ ap (controlNext (control p h)) risen-are ∙ control-host)
+      (λ e.
+      let was = no-bits p e h in
+      let is = no-bits p e after in
+      ap by e ∙ ap₂ (λ (d c : Bool). number (clearSet p h ∷ d ∷ c ∷ [])) (was .0 ∙ sym (is .0)) (was .1 ∙ sym (is .1)))
+
+  pub given-sampled : boardNext (given p h) x mv ≡ given p after
   unfolding boardWith currentsNext
   given-sampled = λ i. record {
     count = n;
     latches = latchesByte (latches-are i);
     cycles = spent h;
+    kind = p .kind;
     flags = marks-are i;
     working = working h;
     staged = staged h;
     currents = record { ocd = run-after OCD 0 i; scd = run-after SCD 0 i };
     cells = cells-are i;
+    last = lastOf x mv;
+    control = control-is i;
   }
 
 -- ---- a frame
@@ -165,70 +252,159 @@ no-byte s register v n = rw (other 6 refl, other 7 refl, other 8 refl, other 9 r
     other : (k : ℕ) → (leb 6 k && leb k 10) ≡ true → eqb register k ≡ false
     other k in-map = ne-eqb register k (λ is. true≢false (sym in-map ∙ ap (λ (r : ℕ). leb 6 r && leb r 10) (sym is) ∙ n))
 
-module _ (n : ℕ) (h : History) (address register v : ℕ) where
+-- a condition is over by the lowest and the highest cell exactly if it is by all cells
+over-is : (s : Settings) (o : Option Sample) (f : Fault) → host.isOver s (lastGiven o) f ≡ overBy f s o
+unfolding shuntAbove
+over-is s none SCD = rw (lt-ltb (scdLevel s) 2147483647 (omega arith))
+over-is s none OCD = rw (lt-ltb (ocdLevel s) 2147483647 (omega arith))
+over-is s none OV = le-ltb 4294967295 (ovLevel s) (omega arith)
+over-is s none UV = le-ltb (uvLevel s) 0 (omega arith)
+over-is s none OT = refl
+over-is s (just x) SCD = refl
+over-is s (just x) OCD = refl
+over-is s (just x) OV = sym (all-below-level s (x .cells))
+over-is s (just x) UV = sym (all-above-level s (x .cells))
+over-is s (just x) OT = refl
+
+-- a value below 8 is its three bits
+abbrev three-right : ℕ → Bool
+three-right v = eqb (number (clearBit v ∷ dsgBit v ∷ chgBit v ∷ [])) v
+
+all-three : right-below three-right 8 ≡ true
+unfolding right-below number
+all-three = refl
+
+three-bits : (v : ℕ) → v < 8 → v ≡ number (clearBit v ∷ dsgBit v ∷ chgBit v ∷ [])
+three-bits v few = sym (eqb-true (number (clearBit v ∷ dsgBit v ∷ chgBit v ∷ [])) v (right-at three-right 8 all-three v few))
+
+and-no : (b : Bool) → (b && false) ≡ false
+and-no true = refl
+and-no false = refl
+
+module _ (p : Plan) (h : History) (address register v : ℕ) where
   abbrev e : Entry
   e = framed address register v
 
   abbrev then : History
   then = e ∷ h
 
-  -- the record after it: latches and flags stay
-  abbrev boardOf : ℕ → Settings → Settings → Currents → List Cell → Board
-  boardOf c w s currents cells =
+  -- the record after it: flags and the last sample stay
+  abbrev boardLeft : ℕ → ℕ → ℕ → Settings → Settings → Currents → List Cell → Board
+  boardLeft byte q c w s currents cells =
       record {
-        count = n;
-        latches = latchesByte (latchesAt n h);
+        count = p .cells;
+        latches = byte;
         cycles = c;
-        flags = number (flagsAt n h);
+        kind = p .kind;
+        flags = number (flagsAt (p .cells) h);
         working = w;
         staged = s;
         currents = currents;
         cells = cells;
+        last = lastGiven (lastSample h);
+        control = q;
       }
 
   abbrev currentsWith : (Fault → ℕ → ℕ) → Currents
   currentsWith r = record { ocd = r OCD 0; scd = r SCD 0 }
 
   abbrev cellsWith : (Fault → ℕ → ℕ) → List Cell
-  cellsWith r = each 0 n (λ k. record { ov = r OV k; uv = r UV k }) ++ drop n noCells
+  cellsWith r = each 0 (p .cells) (λ k. record { ov = r OV k; uv = r UV k }) ++ drop (p .cells) noCells
 
-  with-these : (c : ℕ) (w s : Settings) (r : Fault → ℕ → ℕ) → c ≡ spent then → w ≡ working then → s ≡ staged then
-      → ((f : Fault) (k : ℕ) → r f k ≡ stored (runOf f k then)) → boardOf c w s (currentsWith r) (cellsWith r) ≡ given n then
-  with-these c w s r c-is w-is s-is r-is = λ i. boardOf (c-is i) (w-is i) (s-is i) (currentsWith (λ f k. r-is f k i)) (cellsWith (λ f k. r-is f k i))
+  with-these : (byte q c : ℕ) (w s : Settings) (r : Fault → ℕ → ℕ) → byte ≡ latchesByte (latchesAt p then) → q ≡ control p then → c ≡ spent then → w ≡ working then → s ≡ staged then
+      → ((f : Fault) (k : ℕ) → r f k ≡ stored (runOf f k then)) → boardLeft byte q c w s (currentsWith r) (cellsWith r) ≡ given p then
+  with-these byte q c w s r byte-is q-is c-is w-is s-is r-is =
+      λ i. boardLeft (byte-is i) (q-is i) (c-is i) (w-is i) (s-is i) (currentsWith (λ f k. r-is f k i)) (cellsWith (λ f k. r-is f k i))
 
-  -- where it spends no cycle, no more than the staged settings changes
-  unspent : (s : Settings) → s ≡ staged then → spends e h ≡ false → boardOf (spent h) (working h) s (given n h .currents) (given n h .cells) ≡ given n then
-  unspent s s-is c =
-      with-these (spent h) (working h) s (λ f k. stored (runOf f k h)) (rw c) (sym (working-stays e h c)) s-is
+  -- where it spends no cycle, no more than the latches, register 1 and the staged settings change
+  unspent : (byte q : ℕ) (s : Settings) → byte ≡ latchesByte (latchesAt p then) → q ≡ control p then → s ≡ staged then → spends e h ≡ false
+      → boardLeft byte q (spent h) (working h) s (given p h .currents) (given p h .cells) ≡ given p then
+  unspent byte q s byte-is q-is s-is c =
+      with-these byte q (spent h) (working h) s (λ f k. stored (runOf f k h)) byte-is q-is (rw c) (sym (working-stays e h c)) s-is
       (λ f k. sym (ap stored (runs f k h .else-stays address register v c)))
 
-  -- where it spends one, staged becomes working and every run starts over
-  spent-by : n ≤ 10 → spends e h ≡ true → staged h ≡ working then → staged h ≡ staged then → registers.spent (given n h) ≡ given n then
-  unfolding registers.spent
-  spent-by few c w-is s-is =
-      ap (boardOf (spent h + 1) (staged h) (staged h) (currentsWith (λ f k. 0))) (sym (each-one 0 n 10 noCell few))
-      ∙ with-these (spent h + 1) (staged h) (staged h) (λ f k. 0) (rw c) w-is s-is (λ f k. sym (ap stored (runs f k h .starts-over e c)))
+  -- ---- a write to register 1
 
-  -- a read stages and spends nothing; a write to register 11 programs; any other write stages, where there is a byte
-  pub given-framed : n ≤ 10 → boardAfter (given n h) (writes address) register v ≡ given n then
+  -- the latches that it leaves, by whether it takes b0 from 1 to 0
+  abbrev leaves : Bool → Latches
+  leaves down = latches (λ f. not (down && overBy f (working h) (lastSample h)) && latched p f h)
+
+  abbrev down : Bool
+  down = clearSet p h && not (clearBit v)
+
+  cleared-are : clearedOf (working h) (lastGiven (lastSample h)) (latchesAt p h) ≡ leaves true
+  unfolding clearedOf
+  cleared-are = λ i. latches (λ f. not (over-is (working h) (lastSample h) f i) && latched p f h)
+
+  steered-are : steers p e ≡ true → registers.latchesSteered (given p h) v ≡ latchesByte (latchesAt p then)
+  steered-are is-steering =
+      let last = lastGiven (lastSample h) in
+      let by : Bool → ℕ = λ t. cond t (latchesByte (clearedOf (working h) last (latchesOf (latchesByte (latchesAt p h))))) (latchesByte (latchesAt p h)) in
+      ap (λ (t : Bool). by (t && not (clearBit v))) (clear-kept p h)
+      ∙ split down
+      (λ d. ap by d ∙ ap (λ (t : Latches). latchesByte (clearedOf (working h) last t)) (latches-kept (latchesAt p h)) ∙ ap latchesByte cleared-are ∙ ap (λ (t : Bool). latchesByte (leaves t)) (sym d))
+      (λ d. ap by d ∙ ap (λ (t : Bool). latchesByte (leaves t)) (sym d))
+      ∙ ap (λ (t : Bool). latchesByte (leaves (t && down))) (sym is-steering)
+
+  control-steered : steers p e ≡ true → v < 8 → v ≡ control p then
+  control-steered is-steering few =
+      three-bits v few ∙ ap (λ (t : Bool). number (cond t (clearBit v) (clearSet p h) ∷ cond t (dsgBit v) (dsgSet p h) ∷ cond t (chgBit v) (chgSet p h) ∷ [])) (sym is-steering)
+
+  -- ---- any other frame leaves both
+
+  latches-stay : steers p e ≡ false → latchesByte (latchesAt p h) ≡ latchesByte (latchesAt p then)
+  latches-stay is-other = ap (λ (t : Bool). latchesByte (leaves (t && down))) (sym is-other)
+
+  control-stays : steers p e ≡ false → control p h ≡ control p then
+  control-stays is-other = ap (λ (t : Bool). number (cond t (clearBit v) (clearSet p h) ∷ cond t (dsgBit v) (dsgSet p h) ∷ cond t (chgBit v) (chgSet p h) ∷ [])) (sym is-other)
+
+  -- where it spends a cycle, staged becomes working and every run starts over
+  spent-by : p .cells ≤ 10 → steers p e ≡ false → spends e h ≡ true → staged h ≡ working then → staged h ≡ staged then → registers.spent (given p h) ≡ given p then
+  unfolding registers.spent
+  spent-by few is-other c w-is s-is =
+      let byte = latchesByte (latchesAt p h) in
+      let q = control p h in
+      ap (boardLeft byte q (spent h + 1) (staged h) (staged h) (currentsWith (λ f k. 0))) (sym (each-one 0 (p .cells) 10 noCell few))
+      ∙ with-these byte q (spent h + 1) (staged h) (staged h) (λ f k. 0) (latches-stay is-other) (control-stays is-other) (rw c) w-is s-is (λ f k. sym (ap stored (runs f k h .starts-over e c)))
+
+  others : (s : Settings) → steers p e ≡ false → s ≡ staged then → spends e h ≡ false
+      → boardLeft (latchesByte (latchesAt p h)) (control p h) (spent h) (working h) s (given p h .currents) (given p h .cells) ≡ given p then
+  others s is-other s-is c = unspent (latchesByte (latchesAt p h)) (control p h) s (latches-stay is-other) (control-stays is-other) s-is c
+
+  -- a read changes nothing; a write to register 11 programs; one to register 1 of a host board steers it; any other stages, where there is a byte
+  pub given-framed : p .cells ≤ 10 → (steers p e ≡ true → v < 8) → boardAfter (given p h) (writes address) register v ≡ given p then
   unfolding boardAfter
-  given-framed few =
+  given-framed few fits =
       split (writes address)
-      (λ w. split (eqb register 11) (λ p. ap₂ by w p ∙ programs w p) (λ o. ap₂ by w o ∙ unspent (withByte (staged h) register v) (writes-it w) (rw (w, o))))
-      (λ w. ap (λ (t : Bool). by t (eqb register 11)) w ∙ unspent (staged h) (rw w) (rw w))
+      (λ w. split (eqb register 11)
+      (λ q. ap₂ (λ (t u : Bool). by t u one) w q ∙ programs w q)
+      (λ o. split one
+      (λ s. ap₂ (λ (t u : Bool). by t u one) w o ∙ ap (by true false) s ∙ steering w o s)
+      (λ s. ap₂ (λ (t u : Bool). by t u one) w o ∙ ap (by true false) s ∙ others (withByte (staged h) register v) (rw w s) (writes-it w) (rw (w, o)))))
+      (λ w. ap (λ (t : Bool). by t (eqb register 11) one) w ∙ others (staged h) (rw w (and-no (isHost (p .kind)))) (rw w) (rw w))
     where
-      by : Bool → Bool → Board
-      by w p = cond w (cond p (registers.programmed (given n h)) (staging (given n h) register v)) (given n h)
+      one : Bool
+      one = isHost (p .kind) && eqb register 1
+
+      by : Bool → Bool → Bool → Board
+      by w q s = cond w (cond q (registers.programmed (given p h)) (cond s (registers.steered (given p h) v) (staging (given p h) register v))) (given p h)
 
       writes-it : writes address ≡ true → withByte (staged h) register v ≡ staged then
       writes-it w = split (leb 6 register && leb register 10) (λ s. rw (w, s)) (λ s. sym (no-byte (staged h) register v s) ∙ rw (w, s))
 
-      programs : writes address ≡ true → eqb register 11 ≡ true → registers.programmed (given n h) ≡ given n then
-      programs w p =
-          let eleven : register ≡ 11 = eqb-true register 11 p in
+      programs : writes address ≡ true → eqb register 11 ≡ true → registers.programmed (given p h) ≡ given p then
+      programs w q =
+          let eleven : register ≡ 11 = eqb-true register 11 q in
+          let is-other : steers p e ≡ false = rw (w, eleven) (and-no (isHost (p .kind))) in
           let stays : staged h ≡ staged then = rw (w, eleven) in
-          let becomes : staged h ≡ working then = rw (w, p) in
-          let either : Bool → Board = λ equal. cond equal (given n h) (registers.spent (given n h)) in
+          let becomes : staged h ≡ working then = rw (w, q) in
+          let either : Bool → Board = λ equal. cond equal (given p h) (registers.spent (given p h)) in
           split (same (staged h) (working h))
-          (λ q. ap either q ∙ unspent (staged h) stays (rw (w, p, q)))
-          (λ u. ap either u ∙ spent-by few (rw (w, p, u)) becomes stays)
+          (λ s. ap either s ∙ others (staged h) is-other stays (rw (w, q, s)))
+          (λ u. ap either u ∙ spent-by few is-other (rw (w, q, u)) becomes stays)
+
+      steering : writes address ≡ true → eqb register 11 ≡ false → one ≡ true → registers.steered (given p h) v ≡ given p then
+      steering w o s =
+          let first : register ≡ 1 = eqb-true register 1 (both (isHost (p .kind)) (eqb register 1) s .1) in
+          let is-steering : steers p e ≡ true = rw w s in
+          unspent (registers.latchesSteered (given p h) v) v (staged h) (steered-are is-steering) (control-steered is-steering (fits is-steering)) (rw (w, first)) (rw (w, o))

@@ -19,3 +19,5 @@ pub mod Asked
 pub mod Refused
 pub mod Whole
 pub mod Face
+pub mod Host
+pub mod Counts

@@ -7,12 +7,12 @@ use mathlib.Core.Logic.{_↔_}
 use mathlib.Core.Bool.{Bool, true, false, true≢false, cond, not, _&&_, _||_}
 use mathlib.Core.List.{List, [], _∷_, map}
 use mathlib.Core.Option.{Option, some, none}
-use lib.Dec.{eqb}
-use lib.ListN.{getD, set, List·getD-map}
-use lib.Seq.{map-set-same, set-getD}
-use borrow.Author.Tests.{leb-true, le-leb, eq-eqb, ne-eqb}
+use lib.Dec.{ltb, eqb}
+use lib.ListN.{length, set, length-set, List·getD-eq-default}
+use lib.Seq.{set-getD, getD-set-same, getD-set-other}
+use borrow.Author.Tests.{leb-true, le-leb, eq-eqb, ne-eqb, eqb-true, eqb-false, ltb-true, ltb-false}
 use Rattle.refusal.specs.Said.{Said, Bar, accepts, refuses, first}
-use Rattle.lists.proofs.Split.{split}
+use Rattle.lists.proofs.Split.{split, both, not-yes}
 use Rattle.settings.specs.Bytes.{same}
 use Rattle.settings.specs.Levels.{crossed}
 use Rattle.settings.proofs.Laws.{same-yes}
@@ -22,14 +22,15 @@ use Rattle.latches.specs.Latches.{latch, latches, latchesOf, latchNext}
 use Rattle.latches.proofs.Packed.{latches-kept}
 use Rattle.board.specs.declared.Board.{Board}
 use Rattle.board.specs.declared.Readings.{Readings}
+use Rattle.board.specs.Host.{holdsOn}
 use Rattle.board.specs.Sample.{fresh}
 use Rattle.frame.specs.Frame.{byte, writes}
 use Rattle.registers.specs.Registers.{boardAfter}
 use Rattle.stack.specs.Row.{goodRow, placeOf}
 use Rattle.stack.specs.Frame.{framePlace, frameRow}
-use Rattle.demands.specs.Paper.{sampled, History, staged, working, sampleOf, runOf, stoodDelay, places, stands, letsGo, latched, latchesAt}
+use Rattle.demands.specs.Paper.{sampled, History, staged, working, sampleOf, runOf, stoodDelay, places, stands, letsGo, clears, latched, latchesAt}
 use Rattle.demands.specs.Acts.{Act, sample, frame, reading, Outcome, bars, outcome, next, final}
-use Rattle.demands.specs.Demands.{Log, log, begun, logAt, joined, rowGiven, frameEntry, joins, taken, frameSays}
+use Rattle.demands.specs.Demands.{Log, noLog, begun, logAt, joined, rowGiven, frameEntry, joins, taken, frameSays}
 use Rattle.demands.specs.Mechanic.{Stood, isLatched, Accepted, Answers, Mechanic}
 use Rattle.demands.proofs.Lists.{some-at, some-yes}
 use Rattle.demands.proofs.Table.{judged-number, stays, values, act-judged, demand1}
@@ -92,13 +93,13 @@ module _ (logs : List Log) (good : goodRow (rowGiven logs) ≡ true) (fine : (at
 
   -- a latch of the record is a latch of the history
   abbrev latchedOf : Fault → Log → Bool
-  latchedOf f l = latched (l .cells) f (l .acts)
+  latchedOf f l = latched (l .plan) f (l .acts)
 
   latched-in : (f : Fault) (logs : List Log) (at : ℕ) → isLatched f (rowGiven logs) at ≡ latchedOf f (logAt logs at)
   latched-in f logs at =
       let l = logAt logs at in
       ap (λ (b : Board). latch f (latchesOf (b .latches))) (board-at logs at)
-      ∙ ap (latch f) (latches-kept (latchesAt (l .cells) (l .acts)))
+      ∙ ap (latch f) (latches-kept (latchesAt (l .plan) (l .acts)))
       ∙ latch-of f (λ f. latchedOf f l)
 
   clear-of : (a : Act) → Accepted row a → eqb (first (bars row a)) 0 ≡ true
@@ -111,10 +112,10 @@ module _ (logs : List Log) (good : goodRow (rowGiven logs) ≡ true) (fine : (at
     l = logAt logs (placeOf n)
 
     abbrev stoodNow : Bool
-    stoodNow = stands (l .cells) f (sampled x mv ∷ l .acts)
+    stoodNow = stands (l .plan .cells) f (sampled x mv ∷ l .acts)
 
     abbrev goesNow : Bool
-    goesNow = letsGo (l .cells) f (working (l .acts)) (sampleOf x mv)
+    goesNow = not (holdsOn (l .plan .kind) f) && letsGo (l .plan .cells) f (working (l .acts)) (sampleOf x mv)
 
     after : isLatched f (next row (sample n x mv)) (placeOf n) ≡ latchNext (latchedOf f l) stoodNow goesNow
     after =
@@ -125,30 +126,115 @@ module _ (logs : List Log) (good : goodRow (rowGiven logs) ≡ true) (fine : (at
     was : (t : Bool) → isLatched f row (placeOf n) ≡ t → isLatched f (next row (sample n x mv)) (placeOf n) ≡ latchNext t stoodNow goesNow
     was t e = after ∙ ap (λ (b : Bool). latchNext b stoodNow goesNow) (sym (latched-in f logs (placeOf n)) ∙ e)
 
-    latches-when : isLatched f row (placeOf n) ≡ false → (isLatched f (next row (sample n x mv)) (placeOf n) ≡ true) ↔ Stood (l .cells) f (sampled x mv ∷ l .acts)
+    latches-when : isLatched f row (placeOf n) ≡ false → (isLatched f (next row (sample n x mv)) (placeOf n) ≡ true) ↔ Stood (l .plan .cells) f (sampled x mv ∷ l .acts)
     latches-when e =
-        let both = stood (l .cells) f (sampled x mv ∷ l .acts) in
+        let both = stood (l .plan .cells) f (sampled x mv ∷ l .acts) in
         (λ h. both .0 (sym (was false e) ∙ h), λ s. was false e ∙ both .1 s)
 
-    lets-go-when : isLatched f row (placeOf n) ≡ true → (isLatched f (next row (sample n x mv)) (placeOf n) ≡ false) ↔ (goesNow ≡ true)
-    lets-go-when e = let both = not-true goesNow in (λ h. both .0 (sym (was true e) ∙ h), λ g. was true e ∙ both .1 g)
+    lets-go-when : isLatched f row (placeOf n) ≡ true → (isLatched f (next row (sample n x mv)) (placeOf n) ≡ false)
+        ↔ ((holdsOn (l .plan .kind) f ≡ false) × (letsGo (l .plan .cells) f (working (l .acts)) (sampleOf x mv) ≡ true))
+    lets-go-when e =
+        let goes = not-true goesNow in
+        let holds = holdsOn (l .plan .kind) f in
+        let freed = letsGo (l .plan .cells) f (working (l .acts)) (sampleOf x mv) in (
+          λ h. let so = both (not holds) freed (goes .0 (sym (was true e) ∙ h)) in (not-yes holds (so .0), so .1),
+          λ (loose, free). was true e ∙ goes .1 (rw (loose, free)),
+        )
 
-  frames-leave-it : (f : Fault) (bytes buffer : List ℕ) (at : ℕ) → isLatched f (next row (frame bytes buffer)) at ≡ isLatched f row at
-  frames-leave-it f bytes buffer at =
-      ap (λ (r : List Board). isLatched f r at) (gives logs (frame bytes buffer))
-      ∙ latched-in f (taken logs (frame bytes buffer)) at
-      ∙ by (eqb (first (bars row (frame bytes buffer))) 0)
-      ∙ sym (latched-in f logs at)
-    where
-      all-same : map (latchedOf f) (joins logs (framePlace bytes) (frameEntry bytes)) ≡ map (latchedOf f) logs
-      all-same = map-set-same (latchedOf f) logs (framePlace bytes) (joined (logAt logs (framePlace bytes)) (frameEntry bytes)) (log 0 []) refl
+  accepted-of : (a : Act) → eqb (first (bars row a)) 0 ≡ true → Accepted row a
+  accepted-of a e = ap (λ (s : Said). s .number) (act-judged row a) ∙ judged-number (bars row a) (values row a) ∙ eqb-true (first (bars row a)) 0 e
 
-      by : (t : Bool) → latchedOf f (logAt (cond t (joins logs (framePlace bytes) (frameEntry bytes)) logs) at) ≡ latchedOf f (logAt logs at)
-      by true =
-          sym (List·getD-map (latchedOf f) (joins logs (framePlace bytes) (frameEntry bytes)) at (log 0 []))
-          ∙ ap (λ (bs : List Bool). getD bs at (latchedOf f (log 0 []))) all-same
-          ∙ List·getD-map (latchedOf f) logs at (log 0 [])
-      by false = refl
+  -- ---- a frame: the latches of the board that it names, and of any other
+
+  module _ (f : Fault) (bytes buffer : List ℕ) (at : ℕ) where
+    abbrev sends : Act
+    sends = frame bytes buffer
+
+    abbrev fp : ℕ
+    fp = framePlace bytes
+
+    abbrev mine : Log
+    mine = logAt logs at
+
+    abbrev cleared : Bool
+    cleared = clears (mine .plan) f (frameEntry bytes) (mine .acts)
+
+    frame-after : (t : Bool) → eqb (first (bars row sends)) 0 ≡ t → isLatched f (next row sends) at ≡ latchedOf f (logAt (cond t (joins logs fp (frameEntry bytes)) logs) at)
+    frame-after t e =
+        ap (λ (r : List Board). isLatched f r at) (gives logs sends)
+        ∙ latched-in f (taken logs sends) at
+        ∙ ap (λ (t : Bool). latchedOf f (logAt (cond t (joins logs fp (frameEntry bytes)) logs) at)) e
+
+    frame-refused : eqb (first (bars row sends)) 0 ≡ false → isLatched f (next row sends) at ≡ isLatched f row at
+    frame-refused e = frame-after false e ∙ sym (latched-in f logs at)
+
+    frame-elsewhere : eqb (first (bars row sends)) 0 ≡ true → eqb at fp ≡ false → isLatched f (next row sends) at ≡ isLatched f row at
+    frame-elsewhere e o =
+        frame-after true e
+        ∙ ap (latchedOf f) (getD-set-other logs fp at (joined (logAt logs fp) (frameEntry bytes)) noLog (eqb-false at fp o))
+        ∙ sym (latched-in f logs at)
+
+    -- past the end of the row there is no board, and so no latch
+    there : isLatched f row at ≡ true → at < length logs
+    there on =
+        split (ltb at (length logs)) (λ e. ltb-true at (length logs) e)
+        (λ e. absurd (true≢false (sym on ∙ latched-in f logs at ∙ ap (latchedOf f) (List·getD-eq-default logs noLog {n = at} (ltb-false at (length logs) e)))))
+
+    frame-here : eqb (first (bars row sends)) 0 ≡ true → eqb at fp ≡ true → at < length logs → isLatched f (next row sends) at ≡ (not cleared && latchedOf f mine)
+    frame-here e o p =
+        let is : at ≡ fp = eqb-true at fp o in
+        let here = ap (λ (k : ℕ). logAt (joins logs k (frameEntry bytes)) at) (sym is) ∙ getD-set-same logs at (joined (logAt logs at) (frameEntry bytes)) noLog p in
+        frame-after true e ∙ ap (latchedOf f) here
+
+    clears-when : isLatched f row at ≡ true → (isLatched f (next row sends) at ≡ false) ↔ (Accepted row sends × (fp ≡ at) × (cleared ≡ true))
+    clears-when on =
+        split (eqb (first (bars row sends)) 0)
+        (λ e. split (eqb at fp)
+        (λ o.
+        let after = frame-here e o (there on) ∙ ap (λ (t : Bool). not cleared && t) (sym (latched-in f logs at) ∙ on) in (
+          λ off. (accepted-of sends e, sym (eqb-true at fp o), gone cleared (sym after ∙ off)),
+          λ (a, is, c). after ∙ rw c,
+        ))
+        (λ o. (
+          λ off. absurd (true≢false (sym on ∙ sym (frame-elsewhere e o) ∙ off)),
+          λ (a, is, c). absurd (eqb-false at fp o (sym is)),
+        )))
+        (λ e. (
+          λ off. absurd (true≢false (sym on ∙ sym (frame-refused e) ∙ off)),
+          λ (a, is, c). absurd (true≢false (sym (clear-of sends a) ∙ e)),
+        ))
+      where
+        gone : (c : Bool) → (not c && true) ≡ false → c ≡ true
+        gone true e = refl
+        gone false e = absurd (true≢false e)
+
+    latches-none : isLatched f row at ≡ false → isLatched f (next row sends) at ≡ false
+    latches-none off =
+        split (eqb (first (bars row sends)) 0)
+        (λ e. split (eqb at fp)
+        (λ o. split (ltb at (length logs))
+        (λ p. frame-here e o (ltb-true at (length logs) p) ∙ ap (λ (t : Bool). not cleared && t) (sym (latched-in f logs at) ∙ off) ∙ and-no (not cleared))
+        (λ p. past e (ltb-false at (length logs) p)))
+        (λ o. frame-elsewhere e o ∙ off))
+        (λ e. frame-refused e ∙ off)
+      where
+        and-no : (b : Bool) → (b && false) ≡ false
+        and-no true = refl
+        and-no false = refl
+
+        past : eqb (first (bars row sends)) 0 ≡ true → length logs ≤ at → isLatched f (next row sends) at ≡ false
+        past e p =
+            let other = joined (logAt logs fp) (frameEntry bytes) in
+            frame-after true e ∙ ap (latchedOf f) (List·getD-eq-default (set logs fp other) noLog {n = at} (subst (λ (m : ℕ). m ≤ at) (sym (length-set logs fp other)) p))
+
+    leaves-alone : mine .plan .kind ≡ 0 → isLatched f (next row sends) at ≡ isLatched f row at
+    leaves-alone alone =
+        split (isLatched f row at)
+        (λ on. split (isLatched f (next row sends) at) (λ still. still ∙ sym on) (λ off. absurd (true≢false (sym (clears-when on .0 off .2) ∙ not-cleared))))
+        (λ off. latches-none off ∙ sym off)
+      where
+        not-cleared : cleared ≡ false
+        not-cleared = rw alone
 
   module _ (bytes buffer : List ℕ) (taken-in : Accepted row (frame bytes buffer)) where
     replied : outcome row (frame bytes buffer) .said ≡ accepts (frameSays (joined (logAt logs (framePlace bytes)) (frameEntry bytes)) bytes)
@@ -194,12 +280,15 @@ module _ (logs : List Log) (good : goodRow (rowGiven logs) ≡ true) (fine : (at
       record {
         latches = latches-when;
         lets-go = lets-go-when;
-        frames-leave = frames-leave-it;
-        no-pooling = λ f at u. let l = logAt logs at in latched-in f logs at ∙ never-latched (l .cells) f (l .acts) u;
-        calm = λ f at c. let l = logAt logs at in latched-in f logs at ∙ calm-never (l .cells) f (l .acts) c;
+        frames-latch-none = latches-none;
+        frames-clear = clears-when;
+        frames-leave = leaves-alone;
+        no-pooling = λ f at u. let l = logAt logs at in latched-in f logs at ∙ never-latched (l .plan) f (l .acts) u;
+        calm = λ f at c. let l = logAt logs at in latched-in f logs at ∙ calm-never (l .plan) f (l .acts) c;
         reads-working = λ bytes buffer a w low high.
-            replied bytes buffer a ∙ rw (w, ne-eqb (byte bytes 1) 0 (λ z. omega arith), ne-eqb (byte bytes 1) 11 (λ z. omega arith));
+            replied bytes buffer a ∙ rw (w, ne-eqb (byte bytes 1) 0 (λ z. omega arith), ne-eqb (byte bytes 1) 1 (λ z. omega arith), ne-eqb (byte bytes 1) 11 (λ z. omega arith));
         reads-cycles = λ bytes buffer a w is. replied bytes buffer a ∙ rw (w, is);
+        reads-control = λ bytes buffer a w is host. replied bytes buffer a ∙ rw (w, is, host);
         equal-programming = λ bytes buffer w r e. (equal-leaves bytes buffer w r e, never-thirteen bytes buffer w r e, never-eleven bytes buffer w r e);
         never-crossed = fine;
         refused = λ a n p e. let same = demand1 row .unchanged a n p e in (same .0, same .1, refused-leaves a n p e);
@@ -207,6 +296,6 @@ module _ (logs : List Log) (good : goodRow (rowGiven logs) ≡ true) (fine : (at
       }
 
 pub mechanic : Mechanic
-mechanic counts e acts =
-    let logs = final taken (begun counts) acts in
-    subst (λ (r : List Board). Answers r logs) (sym (demand2 counts e acts .1)) (answered logs (final-good counts e acts) (uncrossed counts acts))
+mechanic plans e acts =
+    let logs = final taken (begun plans) acts in
+    subst (λ (r : List Board). Answers r logs) (sym (demand2 plans e acts .1)) (answered logs (final-good plans e acts) (uncrossed plans acts))

@@ -21,12 +21,14 @@ use Rattle.cells.specs.Cells.{readable}
 use Rattle.board.specs.declared.Board.{Board}
 use Rattle.board.specs.declared.Readings.{Readings}
 use Rattle.board.specs.Shunt.{shuntOutside}
-use Rattle.board.specs.Sample.{outside, badBoard, badPlan, outOfRange, readingBars}
+use Rattle.lists.specs.Compare.{outside}
+use Rattle.board.specs.Plan.{Plan, isHost, badPlan, planOf}
+use Rattle.board.specs.Sample.{badBoard, outOfRange, readingBars}
 use Rattle.frame.specs.Frame.{byte, boardOf, writes, frameBars}
 use Rattle.frame.specs.Check.{checkOf}
 use Rattle.registers.specs.Map.{Register, registerMap, inMap, noRegister, fits}
 use Rattle.registers.specs.Registers.{programs, lacksCycle, accessBars}
-use Rattle.registers.proofs.Map.{below, above, between, takes-setting}
+use Rattle.registers.proofs.Map.{below, above, between, control-there, takes-setting, takes-control}
 use Rattle.stack.specs.Row.{badCount, goodRow, noBoard, pastEnd, placeOf, boardAt}
 use Rattle.stack.specs.Open.{goodPlans, openBars, openingSaid, openAnswer}
 use Rattle.stack.specs.Sample.{sampleRowBars}
@@ -34,33 +36,46 @@ use Rattle.stack.specs.Frame.{framePlace, frameRowBars}
 use Rattle.demands.specs.Paper.{Entry, History, staged, working, spent}
 use Rattle.demands.specs.Acts.{Act, sample, frame, reading, bars, outcome, next, openedRow, final}
 use Rattle.demands.specs.Table.{FirstIs, NoneHolds, ByTable}
-use Rattle.demands.specs.Demands.{Log, log, begun, logAt, joined, boardGiven, rowGiven, joins, taken, opens}
-use Rattle.demands.specs.Refused.{Rule, Outside, Some, NoStack, countsOf, logOf, NoBoard, WrongCells, WrongShunt, WrongReading, ReadOf, WriteOf, Reads, Writes, NoBoardNamed, Known, WrongRegister, MayCarry, WrongValue, Programs, Crossed, Worn, openingRules, sampleRules, frameRules, rules, SameRows, SameTable, FirstOf, NoneOf, ByRules, ActOf, entered, RefusedByPaper}
+use Rattle.demands.specs.Demands.{Log, noLog, begun, logAt, joined, boardGiven, rowGiven, joins, taken, opens}
+use Rattle.demands.specs.Refused.{Rule, Some, NoPlan, NoStack, plansBy, plansOf, plansIn, logOf, NoBoard, WrongCells, WrongShunt, WrongReading, ReadOf, WriteOf, Reads, Writes, NoBoardNamed, Named, Known, WrongRegister, MayCarry, WrongValue, Programs, Crossed, Worn, openingRules, sampleRules, frameRules, rules, SameRows, SameTable, FirstOf, NoneOf, ByRules, ActOf, entered, RefusedByPaper}
 use Rattle.demands.proofs.Asked.{Asks, asks-no, asks-so, asks-same, asks-lt, asks-le, asks-eq, asks-above, asks-or, asks-and, asks-not, asks-twice, asks-or3, asks-outside, asks-some, every-of}
 use Rattle.demands.proofs.Table.{is-first, is-none, kept-old, demand1, demand1-opening}
 use Rattle.demands.proofs.Tells.{board-at}
-use Rattle.demands.proofs.Demanded.{begun-counts, demand2, final-counts}
+use Rattle.demands.proofs.Demanded.{begun-plans, demand2, final-plans}
 
--- ---- 1: of an opening by its counts, of a row by those of its records
+-- ---- 1: of an opening by its plans, of a row by those of its records
 
-counts-ask : (counts : List ℕ) → Asks (badCount (length counts) || not (goodPlans counts)) (NoStack counts)
-counts-ask counts =
-    asks-or (badCount (length counts)) (not (goodPlans counts)) (asks-outside 1 16 (length counts))
-    (asks-some (Outside 5 10) (λ n. not (outside 5 10 n)) (λ n. asks-twice (outside 5 10 n) (asks-outside 5 10 n)) counts)
+abbrev good : List Plan → Bool
+good plans = every (λ p. not (badPlan p)) plans
 
-opening-ask : (records : ℕ) (counts : List ℕ) → Asks (not (eqb (length counts) records) || badCount (length counts) || not (goodPlans counts)) ((length counts ≢ records) ⊎ NoStack counts)
-opening-ask records counts =
-    let other = not (eqb (length counts) records) in
-    asks-or3 other (badCount (length counts)) (not (goodPlans counts)) (asks-or other (badCount (length counts) || not (goodPlans counts)) (asks-not (eqb (length counts) records) (asks-eq (length counts) records)) (counts-ask counts))
+plan-ask : (p : Plan) → Asks (badPlan p) (NoPlan p)
+plan-ask p = asks-or (ltb 1 (p .kind)) (outside 5 10 (p .cells)) (asks-lt 1 (p .kind)) (asks-outside 5 10 (p .cells))
 
-row-ask : (row : List Board) → Asks (not (goodRow row)) (NoStack (map (λ b. b .count) row))
+plans-ask : (plans : List Plan) → Asks (badCount (length plans) || not (good plans)) (NoStack plans)
+plans-ask plans =
+    asks-or (badCount (length plans)) (not (good plans)) (asks-outside 1 16 (length plans))
+    (asks-some (planOf 0) NoPlan (λ p. not (badPlan p)) (λ p. asks-twice (badPlan p) (plan-ask p)) plans)
+
+numbers-ask : (plans : List ℕ) → Asks (badCount (length plans) || not (goodPlans plans)) (NoStack (plansBy plans))
+numbers-ask plans =
+    asks-same (badCount (length plans) || not (goodPlans plans)) (badCount (length (plansBy plans)) || not (good (plansBy plans)))
+    (rw (length-map plans planOf, every-of (λ p. not (badPlan p)) planOf plans))
+    (plans-ask (plansBy plans))
+
+opening-ask : (records : ℕ) (plans : List ℕ) → Asks (not (eqb (length plans) records) || badCount (length plans) || not (goodPlans plans)) ((length plans ≢ records) ⊎ NoStack (plansBy plans))
+opening-ask records plans =
+    let other = not (eqb (length plans) records) in
+    asks-or3 other (badCount (length plans)) (not (goodPlans plans)) (asks-or other (badCount (length plans) || not (goodPlans plans)) (asks-not (eqb (length plans) records) (asks-eq (length plans) records)) (numbers-ask plans))
+
+row-ask : (row : List Board) → Asks (not (goodRow row)) (NoStack (plansIn row))
 unfolding goodRow
 row-ask row =
-    let counts = map (λ (b : Board). b .count) row in
-    let good : every (λ b. not (badBoard b)) row ≡ goodPlans counts = every-of (λ n. not (badPlan n)) (λ (b : Board). b .count) row in
-    asks-same (not (goodRow row)) (badCount (length counts) || not (goodPlans counts))
-    (rw (good, length-map row (λ (b : Board). b .count)) (not-both (badCount (length row)) (goodPlans counts)))
-    (counts-ask counts)
+    let by : Board → Plan = λ b. record { kind = b .kind; cells = b .count } in
+    let plans = plansIn row in
+    let good-is : every (λ b. not (badBoard b)) row ≡ good plans = every-of (λ p. not (badPlan p)) by row in
+    asks-same (not (goodRow row)) (badCount (length plans) || not (good plans))
+    (rw (good-is, length-map row by) (not-both (badCount (length row)) (good plans)))
+    (plans-ask plans)
   where
     not-both : (a b : Bool) → not (not a && b) ≡ (a || not b)
     not-both true b = refl
@@ -69,7 +84,7 @@ row-ask row =
 -- ---- the board of a number, in a row of few boards
 
 log-of : (logs : List Log) → length logs ≤ 16 → (n : ℕ) → logAt logs (placeOf n) ≡ logOf logs n
-log-of logs few zero = List·getD-eq-default logs (log 0 []) {n = pastEnd} (omega arith)
+log-of logs few zero = List·getD-eq-default logs noLog {n = pastEnd} (omega arith)
 log-of logs few (suc at) =
     let back : suc at - 1 ≡ at = omega arith in
     rw (ne-eqb (suc at) 0 (λ e. omega arith), back)
@@ -77,9 +92,9 @@ log-of logs few (suc at) =
 board-of : (logs : List Log) → length logs ≤ 16 → (n : ℕ) → boardAt (rowGiven logs) (placeOf n) ≡ boardGiven (logOf logs n)
 board-of logs few n = board-at logs (placeOf n) ∙ ap boardGiven (log-of logs few n)
 
-few-boards : (logs : List Log) → ¬ NoStack (countsOf logs) → length logs ≤ 16
+few-boards : (logs : List Log) → ¬ NoStack (plansOf logs) → length logs ≤ 16
 few-boards logs fine =
-    let long = length-map logs (λ (l : Log). l .cells) in
+    let long = length-map logs (λ (l : Log). l .plan) in
     split (leb (length logs) 16) (λ e. leb-true (length logs) 16 e)
     (λ e. absurd (fine (inl (inr (omega (arith, long, leb-false (length logs) 16 e))))))
 
@@ -89,8 +104,8 @@ board-ask logs n = rw (length-map logs boardGiven) (asks-outside 1 (length logs)
 
 -- ---- 3, 4, 5
 
-cells-ask : (l : Log) (mv : List ℕ) → Asks (not (eqb (length mv) (l .cells))) (WrongCells l mv)
-cells-ask l mv = asks-not (eqb (length mv) (l .cells)) (asks-eq (length mv) (l .cells))
+cells-ask : (l : Log) (mv : List ℕ) → Asks (not (eqb (length mv) (l .plan .cells))) (WrongCells l mv)
+cells-ask l mv = asks-not (eqb (length mv) (l .plan .cells)) (asks-eq (length mv) (l .plan .cells))
 
 shunt-ask : (shunt : ℤ) → Asks (shuntOutside shunt) (WrongShunt shunt)
 shunt-ask (pos d) = asks-lt 500000 d
@@ -114,7 +129,7 @@ reading-ask x mv =
     let b = ltb 5000 (x .thermistor) in
     let c = shuntOutside (x .shunt) in
     let d = ltb 1 (x .load) in
-    let cell : Asks a (Some (λ v. 5000 < v) mv) = asks-some (λ v. 5000 < v) (λ v. leb v 5000) (λ v. asks-above v 5000) mv in
+    let cell : Asks a (Some 0 (λ v. 5000 < v) mv) = asks-some 0 (λ v. 5000 < v) (λ v. leb v 5000) (λ v. asks-above v 5000) mv in
     asks-or3 (a || b) c d (asks-or3 a b (c || d)
     (asks-or a (b || (c || d)) cell
     (asks-or b (c || d) (asks-lt 5000 (x .thermistor))
@@ -144,76 +159,123 @@ named-ask logs address =
     (λ none. (boardOf address, names address, none))
     (λ (n, is, none). subst (NoBoard logs) (sym (named n address is)) none)
 
--- 9, by the ranges of the map: register 0 is refused to a write, 6 to 11 to nobody, any other to everybody
-register-ask : (address r : ℕ) → Asks (noRegister (writes address) r) (WrongRegister address r)
-register-ask address r =
-    let w = writes address in
-    split (eqb r 0) (λ e. status (eqb-true r 0 e))
-    (λ e. split (leb 6 r)
-    (λ low. split (leb r 11) (λ high. there (leb-true 6 r low) (leb-true r 11 high)) (λ high. unknown (above w r (leb-false r 11 high)) (λ k. no-more (leb-false r 11 high) k)))
-    (λ low. unknown (below w r (eqb-false r 0 e) (leb-false 6 r low)) (λ k. no-less (eqb-false r 0 e) (leb-false 6 r low) k)))
-  where
-    status : r ≡ 0 → Asks (noRegister (writes address) r) (WrongRegister address r)
-    status e = asks-same (noRegister (writes address) r) (writes address) (rw e) (asks-so (writes address) (writes-ask address) (λ is. inr (is, e)) back)
-      where
-        back : WrongRegister address r → Writes address
-        back (inl never) = absurd (never (inl e))
-        back (inr (is, z)) = is
+-- a board that is named is the one of the address
+of-named : (So : Log → Type 0) (logs : List Log) (address : ℕ) → So (logOf logs (boardOf address)) ↔ Named So logs address
+of-named So logs address = (
+  λ so. (boardOf address, names address, so),
+  λ (n, is, so). subst (λ (k : ℕ). So (logOf logs k)) (sym (named n address is)) so,
+)
 
-    there : 6 ≤ r → r ≤ 11 → Asks (noRegister (writes address) r) (WrongRegister address r)
-    there low high = asks-same (noRegister (writes address) r) false (between (writes address) r low high) (λ e. absurd (true≢false (sym e)), back)
-      where
-        back : WrongRegister address r → false ≡ true
-        back (inl never) = absurd (never (inr (low, high)))
-        back (inr (is, z)) = absurd (omega arith)
+host-ask : (l : Log) → Asks (isHost (l .plan .kind)) (l .plan .kind ≡ 1)
+host-ask l = asks-eq (l .plan .kind) 1
 
-    unknown : noRegister (writes address) r ≡ true → ¬ Known r → Asks (noRegister (writes address) r) (WrongRegister address r)
-    unknown bars never = (λ e. inl never, λ wrong. bars)
+-- 9, by the ranges of the map: register 0 is refused to a write, 1 to a board that is no host, 6 to 11 to nobody, any other to everybody
+module _ (logs : List Log) (address r : ℕ) where
+  abbrev l : Log
+  l = logOf logs (boardOf address)
 
-    no-more : 11 < r → ¬ Known r
-    no-more high (inl e) = omega arith
-    no-more high (inr (low, under)) = omega arith
+  abbrev k : ℕ
+  k = l .plan .kind
 
-    no-less : r ≢ 0 → r < 6 → ¬ Known r
-    no-less other low (inl e) = other e
-    no-less other low (inr (from, high)) = omega arith
+  abbrev RegisterAsk : Type 0
+  RegisterAsk = Asks (noRegister k (writes address) r) (WrongRegister logs address r)
+
+  -- none refuses the register itself
+  here-known : Known r l → r ≢ 0 → noRegister k (writes address) r ≡ false → RegisterAsk
+  here-known is other e = asks-same (noRegister k (writes address) r) false e (λ t. absurd (true≢false (sym t)), back)
+    where
+      back : WrongRegister logs address r → false ≡ true
+      back (inl so) = absurd (of-named (λ l. ¬ Known r l) logs address .1 so is)
+      back (inr (w, z)) = absurd (other z)
+
+  here-unknown : ¬ Known r l → noRegister k (writes address) r ≡ true → RegisterAsk
+  here-unknown never e = (λ t. inl (of-named (λ l. ¬ Known r l) logs address .0 never), λ wrong. e)
+
+  status : r ≡ 0 → RegisterAsk
+  status e = asks-same (noRegister k (writes address) r) (writes address) (rw e) (asks-so (writes address) (writes-ask address) (λ is. inr (is, e)) back)
+    where
+      back : WrongRegister logs address r → Writes address
+      back (inl so) = absurd (of-named (λ l. ¬ Known r l) logs address .1 so (inl e))
+      back (inr (is, z)) = is
+
+  control : r ≡ 1 → RegisterAsk
+  control e =
+      split (isHost k)
+      (λ h. here-known (inr (inl (e, eqb-true k 1 h))) (λ z. omega arith) (rw e (control-there k (writes address) ∙ ap not h)))
+      (λ h. here-unknown (other h) (rw e (control-there k (writes address) ∙ ap not h)))
+    where
+      other : isHost k ≡ false → ¬ Known r l
+      other h (inl z) = omega arith
+      other h (inr (inl (z, is))) = eqb-false k 1 h is
+      other h (inr (inr (low, high))) = omega arith
+
+  no-more : 11 < r → ¬ Known r l
+  no-more high (inl z) = omega arith
+  no-more high (inr (inl (z, is))) = omega arith
+  no-more high (inr (inr (low, under))) = omega arith
+
+  no-less : r ≢ 0 → r ≢ 1 → r < 6 → ¬ Known r l
+  no-less n0 n1 low (inl z) = n0 z
+  no-less n0 n1 low (inr (inl (z, is))) = n1 z
+  no-less n0 n1 low (inr (inr (from, high))) = omega arith
+
+  register-ask : RegisterAsk
+  register-ask =
+      let w = writes address in
+      split (eqb r 0) (λ e. status (eqb-true r 0 e))
+      (λ n0. split (eqb r 1) (λ e. control (eqb-true r 1 e))
+      (λ n1. split (leb 6 r)
+      (λ low. split (leb r 11)
+      (λ high. let from = leb-true 6 r low in let to = leb-true r 11 high in here-known (inr (inr (from, to))) (λ z. omega arith) (between k w r from to))
+      (λ high. here-unknown (no-more (leb-false r 11 high)) (above k w r (leb-false r 11 high))))
+      (λ low. let under = leb-false 6 r low in here-unknown (no-less (eqb-false r 0 n0) (eqb-false r 1 n1) under) (below k w r (eqb-false r 0 n0) (eqb-false r 1 n1) under))))
 
 -- 10, by what a register takes
-takes-is : (r v : ℕ) → inMap registerMap r false (λ (x : Register). x .takes v) ≡ (allowed r v || (eqb r 11 && eqb v 0x41))
-takes-is r v =
-    split (eqb r 11)
+abbrev takes : ℕ → ℕ → ℕ → Bool
+takes k r v = inMap k registerMap r false (λ (x : Register). x .takes v)
+
+takes-is : (k r v : ℕ) → takes k r v ≡ ((eqb r 1 && (isHost k && ltb v 8)) || (allowed r v || (eqb r 11 && eqb v 0x41)))
+takes-is k r v =
+    split (eqb r 1)
+    (λ e. rw (eqb-true r 1 e) (takes-control k v ∙ sym (or-no (isHost k && ltb v 8))))
+    (λ n. split (eqb r 11)
     (λ e. rw (eqb-true r 11 e))
-    (λ e. takes-setting r v e ∙ sym (rw e (or-no (allowed r v))))
+    (λ e. takes-setting k r v n e ∙ sym (rw (n, e) (or-no (allowed r v)))))
   where
     or-no : (b : Bool) → (b || false) ≡ b
     or-no true = refl
     or-no false = refl
 
-takes-ask : (r v : ℕ) → Asks (inMap registerMap r false (λ (x : Register). x .takes v)) (MayCarry r v)
-takes-ask r v =
+takes-ask : (l : Log) (r v : ℕ) → Asks (takes (l .plan .kind) r v) (MayCarry r v l)
+takes-ask l r v =
+    let k = l .plan .kind in
+    let z = eqb r 1 && (isHost k && ltb v 8) in
     let a = eqb r 6 in
     let b = eqb r 7 && ltb v 64 in
     let c = eqb r 8 && ltb v 32 in
     let d = eqb r 9 in
     let e = eqb r 10 in
     let f = eqb r 11 && eqb v 0x41 in
-    asks-same (inMap registerMap r false (λ (x : Register). x .takes v)) (allowed r v || f) (takes-is r v)
+    asks-same (takes k r v) (z || (allowed r v || f)) (takes-is k r v)
+    (asks-or z (allowed r v || f) (asks-so z (asks-and (eqb r 1) (isHost k && ltb v 8) (asks-eq r 1) (asks-and (isHost k) (ltb v 8) (host-ask l) (asks-lt v 8))) (λ (one, (host, few)). (one, host, few)) (λ (one, host, few). (one, (host, few))))
     (asks-or3 (a || b || c || d) e f (asks-or3 (a || b || c) d (e || f) (asks-or3 (a || b) c (d || (e || f)) (asks-or3 a b (c || (d || (e || f)))
     (asks-or a (b || (c || (d || (e || f)))) (asks-eq r 6)
     (asks-or b (c || (d || (e || f))) (asks-and (eqb r 7) (ltb v 64) (asks-eq r 7) (asks-lt v 64))
     (asks-or c (d || (e || f)) (asks-and (eqb r 8) (ltb v 32) (asks-eq r 8) (asks-lt v 32))
     (asks-or d (e || f) (asks-eq r 9)
     (asks-or e f (asks-eq r 10)
-    (asks-and (eqb r 11) (eqb v 0x41) (asks-eq r 11) (asks-eq v 0x41)))))))))))
+    (asks-and (eqb r 11) (eqb v 0x41) (asks-eq r 11) (asks-eq v 0x41))))))))))))
 
-value-ask : (address r v : ℕ) → Asks (not (fits (writes address) r v)) (WrongValue address r v)
-value-ask address r v =
+value-ask : (logs : List Log) (address r v : ℕ) → Asks (not (fits (logOf logs (boardOf address) .plan .kind) (writes address) r v)) (WrongValue logs address r v)
+value-ask logs address r v =
+    let l = logOf logs (boardOf address) in
     let w = writes address in
-    let t = inMap registerMap r false (λ (x : Register). x .takes v) in
-    asks-same (not (fits w r v)) ((not w && not (eqb v 0)) || (w && not t)) (either w t (eqb v 0))
+    let t = takes (l .plan .kind) r v in
+    let both-ways = of-named (λ l. ¬ MayCarry r v l) logs address in
+    asks-same (not (fits (l .plan .kind) w r v)) ((not w && not (eqb v 0)) || (w && not t)) (either w t (eqb v 0))
     (asks-or (not w && not (eqb v 0)) (w && not t)
     (asks-and (not w) (not (eqb v 0)) (reads-ask address) (asks-not (eqb v 0) (asks-eq v 0)))
-    (asks-and w (not t) (writes-ask address) (asks-not t (takes-ask r v))))
+    (asks-and w (not t) (writes-ask address) (asks-so (not t) (asks-not t (takes-ask l r v)) (both-ways .0) (both-ways .1))))
   where
     either : (w t z : Bool) → not (cond w t z) ≡ ((not w && not z) || (w && not t))
     either true t z = refl
@@ -252,12 +314,12 @@ program-ask So test asks logs address r =
 also : {A B : Type 0} (n : ℕ) → A → B → ((n ≡ n) × A) × B
 also n here later = ((refl, here), later)
 
-given-counts : (logs : List Log) → map (λ (b : Board). b .count) (rowGiven logs) ≡ countsOf logs
-given-counts [] = refl
-given-counts (l ∷ logs) = ap (λ (counts : List ℕ). l .cells ∷ counts) (given-counts logs)
+given-plans : (logs : List Log) → plansIn (rowGiven logs) ≡ plansOf logs
+given-plans [] = refl
+given-plans (l ∷ logs) = ap (λ (plans : List Plan). l .plan ∷ plans) (given-plans logs)
 
-logs-ask : (logs : List Log) → Asks (not (goodRow (rowGiven logs))) (NoStack (countsOf logs))
-logs-ask logs = subst (λ (counts : List ℕ). Asks (not (goodRow (rowGiven logs))) (NoStack counts)) (given-counts logs) (row-ask (rowGiven logs))
+logs-ask : (logs : List Log) → Asks (not (goodRow (rowGiven logs))) (NoStack (plansOf logs))
+logs-ask logs = subst (λ (plans : List Plan). Asks (not (goodRow (rowGiven logs))) (NoStack plans)) (given-plans logs) (row-ask (rowGiven logs))
 
 module _ (logs : List Log) (few : length logs ≤ 16) where
   abbrev row : List Board
@@ -286,8 +348,8 @@ module _ (logs : List Log) (few : length logs ≤ 16) where
       (also 7 (asks-lt (length buffer) 4)
       (also 8 (asks-not (eqb (byte bytes 3) check) (asks-eq (byte bytes 3) check))
       (also 2 (named-ask logs address)
-      (also 9 (register-ask address r)
-      (also 10 (value-ask address r v)
+      (also 9 (register-ask logs address r)
+      (also 10 (value-ask logs address r v)
       (also 13 (program-ask Crossed (λ l. crossed (staged (l .acts))) crossed-ask logs address r)
       (also 11 (program-ask Worn (λ l. lacksCycle (boardGiven l)) worn-ask logs address r) tt)))))))))
 
@@ -299,7 +361,7 @@ module _ (logs : List Log) (few : length logs ≤ 16) where
 pub same-table : SameTable
 same-table =
     record {
-      opening = λ records counts. also 1 (opening-ask records counts) tt;
+      opening = λ records plans. also 1 (opening-ask records plans) tt;
       handed-in = λ row. also 1 (row-ask row) tt;
       act = λ logs fine. act-rows logs (few-boards logs fine);
     }
@@ -370,7 +432,7 @@ entered-is logs few (suc at) there e =
     let placed : placeOf (suc at) ≡ suc at - 1 = rw (ne-eqb (suc at) 0 (λ z. omega arith)) in
     ap (λ (l : Log). set logs (placeOf (suc at)) (joined l e)) (log-of logs few (suc at)) ∙ ap (λ (k : ℕ). set logs k (joined (logAt logs at) e)) placed
 
-module _ (logs : List Log) (fine : ¬ NoStack (countsOf logs)) where
+module _ (logs : List Log) (fine : ¬ NoStack (plansOf logs)) where
   abbrev few : length logs ≤ 16
   few = few-boards logs fine
 
@@ -396,22 +458,22 @@ module _ (logs : List Log) (fine : ¬ NoStack (countsOf logs)) where
 
 -- ---- refused by the paper's table
 
-pub opens-so : (counts : List ℕ) → ¬ NoStack counts → opens counts ≡ true
-opens-so counts fine = rw (eq-eqb (length counts) (length counts) refl, asks-no (badCount (length counts) || not (goodPlans counts)) (counts-ask counts) .1 fine)
+pub opens-so : (plans : List ℕ) → ¬ NoStack (plansBy plans) → opens plans ≡ true
+opens-so plans fine = rw (eq-eqb (length plans) (length plans) refl, asks-no (badCount (length plans) || not (goodPlans plans)) (numbers-ask plans) .1 fine)
 
-act-by : (counts : List ℕ) → ¬ NoStack counts → (acts : List Act) (a : Act)
-    → ByRules (rules (final taken (begun counts) acts) a) (outcome (final next (openedRow counts) acts) a .said)
-act-by counts fine acts a =
-    let logs = final taken (begun counts) acts in
+act-by : (plans : List ℕ) → ¬ NoStack (plansBy plans) → (acts : List Act) (a : Act)
+    → ByRules (rules (final taken (begun plans) acts) a) (outcome (final next (openedRow plans) acts) a .said)
+act-by plans fine acts a =
+    let logs = final taken (begun plans) acts in
     let row = rowGiven logs in
-    let counts-are : counts ≡ countsOf logs = sym (final-counts (begun counts) acts ∙ begun-counts counts) in
-    subst (λ (r : List Board). ByRules (rules logs a) (outcome r a .said)) (sym (demand2 counts (opens-so counts fine) acts .1))
-    (by-rules (bars row a) (rules logs a) (outcome row a .said) (act-rows logs (few-boards logs (subst (λ (c : List ℕ). ¬ NoStack c) counts-are fine)) a) (demand1 row .by-table a))
+    let plans-are : plansBy plans ≡ plansOf logs = sym (final-plans (begun plans) acts ∙ begun-plans plans) in
+    subst (λ (r : List Board). ByRules (rules logs a) (outcome r a .said)) (sym (demand2 plans (opens-so plans fine) acts .1))
+    (by-rules (bars row a) (rules logs a) (outcome row a .said) (act-rows logs (few-boards logs (subst (λ (c : List Plan). ¬ NoStack c) plans-are fine)) a) (demand1 row .by-table a))
 
 pub refused-by-paper : RefusedByPaper
 refused-by-paper =
     record {
-      opening = λ row counts. by-rules (openBars (length row) counts) (openingRules (length row) counts) (openingSaid (openAnswer row counts)) (same-table .opening (length row) counts) (demand1-opening row counts .by-table);
+      opening = λ row plans. by-rules (openBars (length row) plans) (openingRules (length row) plans) (openingSaid (openAnswer row plans)) (same-table .opening (length row) plans) (demand1-opening row plans .by-table);
       handed-in = λ row a. Iff·trans (demand1 row .by-table a .refused 1 (omega arith)) (Iff·trans (bad-first row a) (row-ask row));
       act = act-by;
       enters = act-enters;

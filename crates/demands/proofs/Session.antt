@@ -14,16 +14,16 @@ use Rattle.reading.specs.Reading.{lineUp, firstFlagged, readOf}
 use Rattle.stack.specs.Row.{goodRow}
 use Rattle.demands.specs.Acts.{Outcome, outcome, next, openedRow, answers}
 use Rattle.demands.specs.Demands.{begun, taken, told}
-use Rattle.demands.specs.Session.{counts, session, printed}
+use Rattle.demands.specs.Session.{plans, session, printed}
 use Rattle.demands.proofs.Demanded.{demand2}
 
 abbrev valuesOf : List Outcome → List (List ℕ)
 valuesOf outcomes = map (λ o. o .said .values) outcomes
 
-pub session-told : valuesOf (answers taken told (begun counts) session) ≡ printed
+pub session-told : valuesOf (answers taken told (begun plans) session) ≡ printed
 unfolding each shuntAbove number bled register0 latchesByte shifted checked goodRow every readOf lineUp firstFlagged lowest marks
 session-told = refl
 
-pub session-answered : valuesOf (answers next outcome (openedRow counts) session) ≡ printed
+pub session-answered : valuesOf (answers next outcome (openedRow plans) session) ≡ printed
 unfolding every
-session-answered = ap valuesOf (demand2 counts refl session .0) ∙ session-told
+session-answered = ap valuesOf (demand2 plans refl session .0) ∙ session-told

@@ -3,46 +3,48 @@
 use Prim.Native.Nat.{ℕ, zero, suc, _<_, _≤_}
 use native.Mathlib.Omega.{arith}
 use mathlib.Core.Path.{_≡_, refl, ap, ap₂, sym, _∙_, subst}
-use mathlib.Core.Bool.{Bool, true, false, true≢false, cond, not}
+use mathlib.Core.Bool.{Bool, true, false, true≢false, cond, not, _&&_}
 use mathlib.Core.List.{List, [], _∷_, _++_, map}
 use lib.Dec.{ltb, eqb}
 use lib.ListN.{length, getD, set, drop, length-map, List·getD-map}
 use lib.Seq.{getD-set-same}
 use borrow.Author.Tests.{ltb-true, ltb-false, eqb-true, not-false}
-use Rattle.lists.proofs.Split.{split}
-use Rattle.settings.specs.Bytes.{byteOf}
+use Rattle.lists.proofs.Split.{split, both}
+use Rattle.settings.specs.Levels.{crossed}
 use Rattle.refusal.specs.Said.{Bar, bar, accepts, first, judged}
 use Rattle.latches.specs.declared.Latches.{Latches}
-use Rattle.latches.specs.Latches.{anyLatch, chgOn, dsgOn, register0}
+use Rattle.latches.specs.Latches.{anyLatch, chgOn, dsgOn, latchesOf, latchesByte}
 use Rattle.latches.proofs.Packed.{latches-kept}
 use Rattle.board.specs.declared.Board.{Board}
 use Rattle.board.specs.declared.Readings.{Readings}
-use Rattle.board.specs.Sample.{badBoard, outside, outOfRange, readingBars, boardNext, sampleValues}
+use Rattle.lists.specs.Compare.{outside}
+use Rattle.board.specs.Plan.{isHost}
+use Rattle.board.specs.Host.{statusBy}
+use Rattle.board.specs.Sample.{outOfRange, readingBars, controlWith, boardNext, sampleValues}
 use Rattle.frame.specs.Frame.{byte, boardOf, writes}
 use Rattle.frame.specs.Reply.{replyBytes}
 use Rattle.frame.specs.Check.{checkOf}
-use Rattle.registers.specs.Map.{readValue}
-use Rattle.registers.specs.Registers.{programs, accessBars, boardAfter, replyValue}
+use Rattle.registers.specs.Map.{Shown, readValue, fits, noRegister}
+use Rattle.registers.specs.Registers.{programs, lacksCycle, accessBars, boardAfter, replyValue}
 use Rattle.reading.specs.declared.Summary.{Summary}
 use Rattle.reading.specs.Reading.{summaryOf, readOf, wholeSaid}
 use Rattle.stack.specs.Row.{goodRow, noBoard, placeOf, boardAt}
 use Rattle.stack.specs.Sample.{sampleRowBars, sampleRow}
 use Rattle.stack.specs.Frame.{framePlace, frameBoard, boardFramed, frameReply, frameRowBars, frameRow, frameBuffer}
 use Rattle.stack.specs.Read.{readBars}
-use Rattle.board.proofs.Counts.{within}
-use Rattle.stack.proofs.Ways.{board-good, has-none}
+use Rattle.stack.proofs.Ways.{board-few, has-none}
 use Rattle.stack.proofs.Laws.{sample-said, frame-said}
-use Rattle.demands.specs.Paper.{sampled, working, spent, latchesAt}
+use Rattle.demands.specs.Paper.{sampled, staged, working, spent, steers, latchesAt, control, mayDsg, mayChg}
 use Rattle.demands.specs.Acts.{Act, sample, frame, reading, outcome, next}
-use Rattle.demands.specs.Demands.{Log, log, logAt, joined, boardGiven, rowGiven, frameEntry, joins, taken, sampleSays, readSays, frameSays, summaryGiven, told}
-use Rattle.demands.proofs.Given.{given-start, latches-are, bled-are, given-sampled, given-framed}
+use Rattle.demands.specs.Demands.{Log, noLog, logAt, joined, boardGiven, rowGiven, frameEntry, joins, taken, sampleSays, readSays, frameSays, summaryGiven, told}
+use Rattle.demands.proofs.Given.{given-start, may-dsg-is, may-chg-is, status-is, latches-are, bled-are, control-is, given-sampled, given-framed}
 use Rattle.demands.proofs.Table.{reading-judged}
 use Rattle.demands.proofs.Clear.{clear, judged-same, kept-same}
 
 -- ---- the record at a place, and a record stored
 
 pub board-at : (logs : List Log) (at : ℕ) → boardAt (rowGiven logs) at ≡ boardGiven (logAt logs at)
-board-at logs at = ap (getD (rowGiven logs) at) (sym (given-start 0 (omega arith))) ∙ List·getD-map boardGiven logs at (log 0 [])
+board-at logs at = ap (getD (rowGiven logs) at) (sym (given-start 0 (omega arith))) ∙ List·getD-map boardGiven logs at noLog
 
 row-set : (logs : List Log) (at : ℕ) (l : Log) → set (rowGiven logs) at (boardGiven l) ≡ rowGiven (set logs at l)
 row-set [] at l = refl
@@ -64,10 +66,8 @@ module _ (logs : List Log) (n : ℕ) (g : not (goodRow (rowGiven logs)) ≡ fals
   in-logs : placeOf n < length logs
   in-logs = subst (λ (k : ℕ). placeOf n < k) (length-map logs boardGiven) in-row
 
-  few-cells : logAt logs (placeOf n) .cells ≤ 10
-  few-cells =
-      let fine : badBoard (boardAt (rowGiven logs) (placeOf n)) ≡ false = board-good (rowGiven logs) good-row (placeOf n) in-row in
-      within 5 10 (logAt logs (placeOf n) .cells) (rw (board-at logs (placeOf n)) at (ap not fine)) .1
+  few-cells : logAt logs (placeOf n) .plan .cells ≤ 10
+  few-cells = subst (λ (b : Board). b .count ≤ 10) (board-at logs (placeOf n)) (board-few (rowGiven logs) good-row (placeOf n) in-row)
 
 -- ---- a sample
 
@@ -88,7 +88,7 @@ module _ (logs : List Log) (n : ℕ) (x : Readings) (mv : List ℕ) where
       (c1 .0, c2 .0, c2 .1)
 
   -- it has as many cells as its board, which has at most ten
-  sample-fits : eqb (first sample-row) 0 ≡ true → (of-sample .cells ≤ 10) × (length mv ≡ of-sample .cells)
+  sample-fits : eqb (first sample-row) 0 ≡ true → (of-sample .plan .cells ≤ 10) × (length mv ≡ of-sample .plan .cells)
   sample-fits accepted =
       let b = boardAt (rowGiven logs) (placeOf n) in
       let c = sample-clear accepted in
@@ -100,20 +100,22 @@ module _ (logs : List Log) (n : ℕ) (x : Readings) (mv : List ℕ) where
   pub sample-joins : eqb (first sample-row) 0 ≡ true → logAt (taken logs (sample n x mv)) (placeOf n) ≡ joined of-sample (sampled x mv)
   sample-joins accepted =
       let c = sample-clear accepted in
-      rw accepted (getD-set-same logs (placeOf n) (joined of-sample (sampled x mv)) (log 0 []) (in-logs logs n (c .0) (c .1)))
+      rw accepted (getD-set-same logs (placeOf n) (joined of-sample (sampled x mv)) noLog (in-logs logs n (c .0) (c .1)))
 
   sample-leaves : eqb (first sample-row) 0 ≡ true → boardNext (boardAt (rowGiven logs) (placeOf n)) x mv ≡ boardGiven (joined of-sample (sampled x mv))
   sample-leaves accepted =
       let fits = sample-fits accepted in
-      ap (λ (b : Board). boardNext b x mv) (board-at logs (placeOf n)) ∙ given-sampled (of-sample .cells) (fits .0) (of-sample .acts) x mv (fits .1)
+      ap (λ (b : Board). boardNext b x mv) (board-at logs (placeOf n)) ∙ given-sampled (of-sample .plan) (fits .0) (of-sample .acts) x mv (fits .1)
 
   sample-values : eqb (first sample-row) 0 ≡ true → sampleValues (boardAt (rowGiven logs) (placeOf n)) x mv ≡ sampleSays (joined of-sample (sampled x mv))
   sample-values accepted =
       let fits = sample-fits accepted in
-      let m = of-sample .cells in
+      let p = of-sample .plan in
       let h = of-sample .acts in
       ap (λ (b : Board). sampleValues b x mv) (board-at logs (placeOf n))
-      ∙ ap₂ (λ (t : Latches) (v : ℕ). register0 t ∷ v ∷ []) (latches-are m (fits .0) h x mv (fits .1)) (bled-are m (fits .0) h x mv (fits .1))
+      ∙ ap₂ (λ (s v : ℕ). s ∷ v ∷ [])
+      (ap₂ (statusBy (p .kind)) (control-is p (fits .0) h x mv (fits .1)) (latches-are p (fits .0) h x mv (fits .1)) ∙ status-is p (sampled x mv ∷ h) (latchesAt p (sampled x mv ∷ h)))
+      (bled-are p (fits .0) h x mv (fits .1))
 
   sample-told : outcome (rowGiven logs) (sample n x mv) ≡ told logs (sample n x mv)
   sample-told =
@@ -134,9 +136,27 @@ module _ (logs : List Log) (n : ℕ) (x : Readings) (mv : List ℕ) where
 reply-is : (l : Log) (write : Bool) (register v : ℕ)
     → replyValue (boardGiven l) write register v ≡ cond (programs write register) (spent (l .acts)) (cond write v (readSays l register))
 reply-is l write register v =
-    ap (λ (t : Latches). cond (programs write register) (spent (l .acts)) (cond write v
-    (readValue (record { status = register0 t; working = working (l .acts); cycles = spent (l .acts) }) register)))
-    (latches-kept (latchesAt (l .cells) (l .acts)))
+    let p = l .plan in
+    let h = l .acts in
+    let shown : ℕ → Shown = λ status. record { kind = p .kind; status = status; control = control p h; working = working h; cycles = spent h } in
+    ap (λ (status : ℕ). cond (programs write register) (spent h) (cond write v (readValue (shown status) register)))
+    (ap (statusBy (p .kind) (control p h)) (latches-kept (latchesAt p h)) ∙ status-is p h (latchesAt p h))
+
+-- a write to register 1 that its board does not refuse carries three bits
+steers-fits : (l : Log) (bytes : List ℕ) → eqb (first (accessBars (boardGiven l) (writes (byte bytes 0)) (byte bytes 1) (byte bytes 2))) 0 ≡ true
+    → steers (l .plan) (frameEntry bytes) ≡ true → byte bytes 2 < 8
+steers-fits l bytes obeys is =
+    let k = l .plan .kind in
+    let w = writes (byte bytes 0) in
+    let r = byte bytes 1 in
+    let v = byte bytes 2 in
+    let host = both (isHost k) (w && eqb r 1) is in
+    let write = both w (eqb r 1) (host .1) in
+    let one = eqb-true r 1 (write .1) in
+    let late = bar 13 (programs w r && crossed (staged (l .acts))) ∷ bar 11 (programs w r && lacksCycle (boardGiven l)) ∷ [] in
+    let c9 = clear (bar 9 (noRegister k w r)) (bar 10 (not (fits k w r v)) ∷ late) refl obeys in
+    let c10 = clear (bar 10 (not (fits k w r v))) late refl (c9 .1) in
+    ltb-true v 8 (rw (write .0, one, host .0) at (not-false (fits k w r v) (c10 .0)))
 
 module _ (logs : List Log) (bytes buffer : List ℕ) where
   abbrev of-frame : Log
@@ -147,7 +167,7 @@ module _ (logs : List Log) (bytes buffer : List ℕ) where
 
   -- an accepted frame is to a board of at most ten cells, whose record gives no refusal
   pub frame-fits : eqb (first frame-row) 0 ≡ true
-      → (of-frame .cells ≤ 10) × (eqb (first (accessBars (boardGiven of-frame) (writes (byte bytes 0)) (byte bytes 1) (byte bytes 2))) 0 ≡ true)
+      → (of-frame .plan .cells ≤ 10) × (eqb (first (accessBars (boardGiven of-frame) (writes (byte bytes 0)) (byte bytes 1) (byte bytes 2))) 0 ≡ true)
   frame-fits accepted =
       let row = rowGiven logs in
       let n = boardOf (byte bytes 0) in
@@ -167,7 +187,7 @@ module _ (logs : List Log) (bytes buffer : List ℕ) where
   frame-leaves : eqb (first frame-row) 0 ≡ true → boardFramed (rowGiven logs) bytes ≡ boardGiven (joined of-frame (frameEntry bytes))
   frame-leaves accepted =
       ap (λ (b : Board). boardAfter b (writes (byte bytes 0)) (byte bytes 1) (byte bytes 2)) (board-at logs (framePlace bytes))
-      ∙ given-framed (of-frame .cells) (of-frame .acts) (byte bytes 0) (byte bytes 1) (byte bytes 2) (frame-fits accepted .0)
+      ∙ given-framed (of-frame .plan) (of-frame .acts) (byte bytes 0) (byte bytes 1) (byte bytes 2) (frame-fits accepted .0) (steers-fits of-frame bytes (frame-fits accepted .1))
 
   frame-values : eqb (first frame-row) 0 ≡ true → frameReply (rowGiven logs) bytes ≡ frameSays (joined of-frame (frameEntry bytes)) bytes
   frame-values accepted =
@@ -199,8 +219,10 @@ module _ (logs : List Log) (bytes buffer : List ℕ) where
 summary-is : (l : Log) → summaryOf (boardGiven l) ≡ summaryGiven l
 unfolding summaryOf
 summary-is l =
-    let by : Latches → Summary = λ t. record { latched = anyLatch t; chg = chgOn t; dsg = dsgOn t; count = l .cells; flags = boardGiven l .flags } in
-    ap by (latches-kept (latchesAt (l .cells) (l .acts)))
+    let p = l .plan in
+    let h = l .acts in
+    let by : Bool → Bool → Latches → Summary = λ c d t. record { latched = anyLatch t; chg = chgOn c t; dsg = dsgOn d t; count = p .cells; flags = boardGiven l .flags } in
+    ap₂ (λ (c d : Bool). by c d (latchesOf (latchesByte (latchesAt p h)))) (may-chg-is p h) (may-dsg-is p h) ∙ ap (by (mayChg p h) (mayDsg p h)) (latches-kept (latchesAt p h))
 
 summaries-are : (logs : List Log) → map summaryOf (rowGiven logs) ≡ map summaryGiven logs
 summaries-are [] = refl

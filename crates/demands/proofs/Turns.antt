@@ -4,7 +4,7 @@ use Prim.Native.Nat.{ℕ, zero, suc, _≤_}
 use native.Mathlib.Omega.{arith}
 use mathlib.Core.Path.{_≡_, refl, sym, ap, _∙_}
 use mathlib.Core.Logic.{_⊎_, inl, inr}
-use mathlib.Core.Bool.{Bool, true, false, cond, not}
+use mathlib.Core.Bool.{Bool, true, false, cond, not, _&&_}
 use mathlib.Core.List.{List, [], _∷_}
 use mathlib.Core.Option.{none}
 use lib.Dec.{ltb}
@@ -17,8 +17,9 @@ use Rattle.runs.specs.Run.{run, stretch, lasting, past}
 use Rattle.lists.specs.Each.{each, some}
 use Rattle.cells.specs.Cells.{readingAt}
 use Rattle.board.specs.declared.Readings.{Readings}
+use Rattle.board.specs.Plan.{Plan}
 use Rattle.board.proofs.Signed.{above-none}
-use Rattle.demands.specs.Paper.{sampled, framed, History, working, spends, Sample, sampleOf, since, holds, stoodDelay, places, latched}
+use Rattle.demands.specs.Paper.{sampled, framed, History, working, spends, Sample, sampleOf, since, holds, stoodDelay, places, clears, latched}
 use Rattle.demands.specs.Marked.{more, one}
 use Rattle.demands.specs.Turns.{Under, EverySample, Calm, Charging, byTurns, alternate}
 use Rattle.demands.proofs.Lists.{each-same}
@@ -28,11 +29,16 @@ unfolding each
 none-of i zero = refl
 none-of i (suc n) = none-of (suc i) n
 
-pub never-latched : (n : ℕ) (f : Fault) (h : History) → Under n f h → latched n f h ≡ false
-never-latched n f [] u = refl
-never-latched n f (sampled x mv ∷ h) u =
-    rw (never-latched n f h (u .1)) (ap some (each-same (places f n) (λ k. stoodDelay f k (sampled x mv ∷ h)) (λ k. false) (u .0)) ∙ none-of 0 (places f n))
-never-latched n f (framed address register v ∷ h) u = never-latched n f h (u .1)
+and-no : (b : Bool) → (b && false) ≡ false
+and-no true = refl
+and-no false = refl
+
+pub never-latched : (p : Plan) (f : Fault) (h : History) → Under (p .cells) f h → latched p f h ≡ false
+never-latched p f [] u = refl
+never-latched p f (sampled x mv ∷ h) u =
+    let n = p .cells in
+    rw (never-latched p f h (u .1)) (ap some (each-same (places f n) (λ k. stoodDelay f k (sampled x mv ∷ h)) (λ k. false) (u .0)) ∙ none-of 0 (places f n))
+never-latched p f (framed address register v ∷ h) u = rw (never-latched p f h (u .1)) (and-no (not (clears p f (framed address register v) h)))
 
 -- ---- a condition that never holds has no run, so its fault is not latched
 
@@ -49,8 +55,8 @@ calm-under n f (framed address register v ∷ h) c =
     let then = framed address register v ∷ h in
     (λ k p. ap (past (delay f (working then))) (calm-run f k (working then) then c), calm-under n f h c)
 
-pub calm-never : (n : ℕ) (f : Fault) (h : History) → Calm f h → latched n f h ≡ false
-calm-never n f h c = never-latched n f h (calm-under n f h c)
+pub calm-never : (p : Plan) (f : Fault) (h : History) → Calm f h → latched p f h ≡ false
+calm-never p f h c = never-latched p f h (calm-under (p .cells) f h c)
 
 -- no charge current trips a discharge fault
 every-so : (So To : Readings → List ℕ → Type 0) → ((x : Readings) (mv : List ℕ) → So x mv → To x mv) → (h : History) → EverySample So h → EverySample To h
@@ -58,10 +64,10 @@ every-so So To so [] c = tt
 every-so So To so (sampled x mv ∷ h) c = (so x mv (c .0), every-so So To so h (c .1))
 every-so So To so (framed address register v ∷ h) c = every-so So To so h c
 
-pub charge-never-trips : (n : ℕ) (h : History) → Charging h → (latched n SCD h ≡ false) × (latched n OCD h ≡ false)
-charge-never-trips n h c = (
-  calm-never n SCD h (every-so _ _ (λ x mv charge s k. sym (above-none (scdLevel s) (x .shunt) charge)) h c),
-  calm-never n OCD h (every-so _ _ (λ x mv charge s k. sym (above-none (ocdLevel s) (x .shunt) charge)) h c),
+pub charge-never-trips : (p : Plan) (h : History) → Charging h → (latched p SCD h ≡ false) × (latched p OCD h ≡ false)
+charge-never-trips p h c = (
+  calm-never p SCD h (every-so _ _ (λ x mv charge s k. sym (above-none (scdLevel s) (x .shunt) charge)) h c),
+  calm-never p OCD h (every-so _ _ (λ x mv charge s k. sym (above-none (ocdLevel s) (x .shunt) charge)) h c),
 )
 
 -- M2, of any number of samples: a cell at 4,150 never latches OV
@@ -80,8 +86,8 @@ level-calm : (r : ℕ) → Calm OV (more r (one 4150) [])
 level-calm zero = tt
 level-calm (suc r) = (λ s k. not-above s (readingAt (4150 ∷ 4000 ∷ 4000 ∷ 4000 ∷ 4000 ∷ []) k) (at-level k), level-calm r)
 
-pub level-never-latches : (n r : ℕ) → latched n OV (more r (one 4150) []) ≡ false
-level-never-latches n r = calm-never n OV (more r (one 4150) []) (level-calm r)
+pub level-never-latches : (p : Plan) (r : ℕ) → latched p OV (more r (one 4150) []) ≡ false
+level-never-latches p r = calm-never p OV (more r (one 4150) []) (level-calm r)
 
 -- ---- two cells by turns
 
@@ -127,5 +133,5 @@ module _ (x : Readings) (v low : ℕ) (below : low ≤ 4150) where
   under n zero first = tt
   under n (suc r) first = (λ k p. under-at r first k, under n r (not first))
 
-  pub turns-never-latch : (n r : ℕ) (first : Bool) → latched n OV (alternate x v low r first) ≡ false
-  turns-never-latch n r first = never-latched n OV (alternate x v low r first) (under n r first)
+  pub turns-never-latch : (p : Plan) (r : ℕ) (first : Bool) → latched p OV (alternate x v low r first) ≡ false
+  turns-never-latch p r first = never-latched p OV (alternate x v low r first) (under (p .cells) r first)

@@ -6,7 +6,7 @@ use native.Mathlib.Numerals.{add-one}
 use native.Mathlib.Omega.{arith}
 use mathlib.Core.Path.{_≡_, refl, sym, ap, _∙_, subst}
 use mathlib.Core.Logic.{_⊎_, inl, inr, _↔_}
-use mathlib.Core.Bool.{Bool, true, false, true≢false, cond, not, _||_}
+use mathlib.Core.Bool.{Bool, true, false, true≢false, cond, not, _&&_, _||_}
 use mathlib.Core.List.{List, [], _∷_, map}
 use lib.Dec.{ltb, eqb}
 use borrow.Author.Tests.{ltb-true, ltb-false, eqb-true, eqb-false, ne-eqb}
@@ -18,15 +18,16 @@ use Rattle.lists.proofs.Marks.{marks-number}
 use Rattle.lists.proofs.Split.{split, both}
 use Rattle.settings.specs.Faults.{Fault, SCD, OCD, OV, UV, OT}
 use Rattle.board.specs.declared.Board.{Board}
+use Rattle.board.specs.Plan.{isHost}
 use Rattle.reading.specs.declared.Summary.{Summary}
 use Rattle.reading.specs.declared.Place.{Place}
 use Rattle.reading.specs.Reading.{lineUp, chgOn, dsgOn, lowestFlagged, place, firstFlagged, readOf}
-use Rattle.demands.specs.Paper.{latched, flagged, flagsAt}
+use Rattle.demands.specs.Paper.{latched, dsgSet, chgSet, flagged, flagsAt}
 use Rattle.demands.specs.Acts.{Outcome, reading, outcome, final}
-use Rattle.demands.specs.Demands.{Log, log, begun, logAt, taken, summaryGiven, readingSays}
+use Rattle.demands.specs.Demands.{Log, noLog, begun, logAt, taken, summaryGiven, readingSays}
 use Rattle.demands.specs.Refused.{logOf}
-use Rattle.demands.specs.Whole.{Latched, Flagged, LineUp, PackChg, PackDsg, Southernmost, NoneFlagged, OneIf, Reading, ReadByPaper}
-use Rattle.demands.proofs.Asked.{Asks, asks-no, asks-so, asks-or, asks-not, asks-or3}
+use Rattle.demands.specs.Whole.{Latched, Flagged, May, LineUp, PackChg, PackDsg, Southernmost, NoneFlagged, OneIf, Reading, ReadByPaper}
+use Rattle.demands.proofs.Asked.{Asks, asks-no, asks-so, asks-or, asks-and, asks-not, asks-or3}
 use Rattle.demands.proofs.Tells.{tells}
 use Rattle.demands.proofs.Demanded.{demand2, final-good}
 use Rattle.demands.proofs.Refused.{opens-so}
@@ -34,7 +35,7 @@ use Rattle.demands.proofs.Refused.{opens-so}
 -- ---- line and switches
 
 abbrev on : Log → Fault → Bool
-on l f = latched (l .cells) f (l .acts)
+on l f = latched (l .plan) f (l .acts)
 
 abbrev On : Log → Fault → Type 0
 On l f = on l f ≡ true
@@ -109,7 +110,7 @@ line-ask logs = asks-so (lineUp (map summaryGiven logs)) (line-at logs) (λ (i, 
     back (suc i) f h = (i, f, h)
 
 -- a test that every board passes, where one that is not there does
-module _ (test : Summary → Bool) (absent : test (summaryGiven (log 0 [])) ≡ true) where
+module _ (test : Summary → Bool) (absent : test (summaryGiven (noLog)) ≡ true) where
   every-place : (logs : List Log) → Asks (every test (map summaryGiven logs)) ((i : ℕ) → test (summaryGiven (logAt logs i)) ≡ true)
   unfolding every
   every-place [] = (λ e i. absent, λ h. refl)
@@ -130,14 +131,29 @@ module _ (test : Summary → Bool) (absent : test (summaryGiven (log 0 [])) ≡ 
       there h zero = absent
       there h (suc i) = h i
 
+-- on a host board the bit is set
+may-ask : (l : Log) (bit : Bool) → Asks (not (isHost (l .plan .kind)) || bit) (May l bit)
+may-ask l bit =
+    split (isHost (l .plan .kind))
+    (λ h. rw h (λ e is. e, λ so. so (eqb-true (l .plan .kind) 1 h)))
+    (λ h. rw h (λ e is. absurd (eqb-false (l .plan .kind) 1 h is), λ so. refl))
+
+-- a switch: it may be on, and none of four faults forbids it
+switch-ask : (l : Log) (bit a b c d : Bool)
+    → Asks ((not (isHost (l .plan .kind)) || bit) && not (a || b || c || d)) (May l bit × (¬ (a ≡ true)) × (¬ (b ≡ true)) × (¬ (c ≡ true)) × (¬ (d ≡ true)))
+switch-ask l bit a b c d =
+    let may = not (isHost (l .plan .kind)) || bit in
+    let none = not (a || b || c || d) in
+    asks-so (may && none) (asks-and may none (may-ask l bit) (none-ask a b c d)) (λ (m, (p, q, r, s)). (m, p, q, r, s)) (λ (m, p, q, r, s). (m, (p, q, r, s)))
+
 chg-ask : (logs : List Log) → Asks (every chgOn (map summaryGiven logs)) (PackChg logs)
 chg-ask logs =
-    let ask : (b : ℕ) → _ = λ b. let l = logOf logs b in none-ask (on l OV) (on l OCD) (on l SCD) (on l OT) in
+    let ask : (b : ℕ) → _ = λ b. let l = logOf logs b in switch-ask l (chgSet (l .plan) (l .acts)) (on l OV) (on l OCD) (on l SCD) (on l OT) in
     asks-so (every chgOn (map summaryGiven logs)) (every-board chgOn refl logs) (λ h b. ask b .0 (h b)) (λ h b. ask b .1 (h b))
 
 dsg-ask : (logs : List Log) → Asks (every dsgOn (map summaryGiven logs)) (PackDsg logs)
 dsg-ask logs =
-    let ask : (b : ℕ) → _ = λ b. let l = logOf logs b in none-ask (on l UV) (on l OCD) (on l SCD) (on l OT) in
+    let ask : (b : ℕ) → _ = λ b. let l = logOf logs b in switch-ask l (dsgSet (l .plan) (l .acts)) (on l UV) (on l OCD) (on l SCD) (on l OT) in
     asks-so (every dsgOn (map summaryGiven logs)) (every-board dsgOn refl logs) (λ h b. ask b .0 (h b)) (λ h b. ask b .1 (h b))
 
 one-if : {P : Type 0} (t : Bool) → Asks t P → OneIf P (bit t)
@@ -173,23 +189,23 @@ lowest-at f i (suc n) =
 
 -- of one board: no cell is flagged, or the lowest that is
 abbrev Cell : Log → ℕ → Type 0
-Cell l c = (1 ≤ c) × (c ≤ l .cells) × (flagged (c - 1) (l .acts) ≡ true)
+Cell l c = (1 ≤ c) × (c ≤ l .plan .cells) × (flagged (c - 1) (l .acts) ≡ true)
 
 abbrev LowestOn : Log → ℕ → Type 0
 LowestOn l c = ((c ≡ 0) × ((d : ℕ) → ¬ Cell l d)) ⊎ (Cell l c × ((d : ℕ) → d < c → ¬ Cell l d))
 
 lowest-on : (l : Log) → LowestOn l (lowestFlagged (summaryGiven l))
-lowest-on l = subst (LowestOn l) (sym flags-are) (by (lowest 1 (flagsAt (l .cells) (l .acts))) (lowest-at f 0 (l .cells)))
+lowest-on l = subst (LowestOn l) (sym flags-are) (by (lowest 1 (flagsAt (l .plan .cells) (l .acts))) (lowest-at f 0 (l .plan .cells)))
   where
     f : ℕ → Bool
     f k = flagged k (l .acts)
 
-    flags-are : lowestFlagged (summaryGiven l) ≡ lowest 1 (flagsAt (l .cells) (l .acts))
+    flags-are : lowestFlagged (summaryGiven l) ≡ lowest 1 (flagsAt (l .plan .cells) (l .acts))
     flags-are =
-        let bs = flagsAt (l .cells) (l .acts) in
-        ap (λ (n : ℕ). lowest 1 (marks n (number bs))) (sym (each-length f 0 (l .cells))) ∙ ap (lowest 1) (marks-number bs)
+        let bs = flagsAt (l .plan .cells) (l .acts) in
+        ap (λ (n : ℕ). lowest 1 (marks n (number bs))) (sym (each-length f 0 (l .plan .cells))) ∙ ap (lowest 1) (marks-number bs)
 
-    by : (c : ℕ) → LowestAt f 0 (l .cells) c → LowestOn l c
+    by : (c : ℕ) → LowestAt f 0 (l .plan .cells) c → LowestOn l c
     by c (inl (z, none)) = inl (z, λ d (p, q, e). none (d - 1) (omega arith) (omega arith) e)
     by c (inr (j, is, low, high, e, none)) =
         let back : c - 1 ≡ j = omega arith in
@@ -289,10 +305,10 @@ pub read-by-paper : ReadByPaper
 read-by-paper =
     record {
       told = reads;
-      answered = λ counts fine acts.
-          let e = opens-so counts fine in
-          let logs = final taken (begun counts) acts in
-          let said = ap (λ (row : List Board). outcome row reading .said) (demand2 counts e acts .1)
-          ∙ ap (λ (o : Outcome). o .said) (tells logs (final-good counts e acts) reading) in
+      answered = λ plans fine acts.
+          let e = opens-so plans fine in
+          let logs = final taken (begun plans) acts in
+          let said = ap (λ (row : List Board). outcome row reading .said) (demand2 plans e acts .1)
+          ∙ ap (λ (o : Outcome). o .said) (tells logs (final-good plans e acts) reading) in
           (readingSays logs, said, reads logs);
     }

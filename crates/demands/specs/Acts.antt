@@ -42,9 +42,9 @@ next row (sample n x mv) = sampleRow row n x mv
 next row (frame bytes buffer) = frameRow row bytes buffer
 next row reading = row
 
--- the row that open_row gives of as many records as there are counts
+-- the row that open_row gives of as many records as there are plans
 abbrev pub openedRow : List ℕ → List Board
-openedRow counts = openRow (replicate (length counts) (fresh 0)) counts
+openedRow plans = openRow (replicate (length plans) (fresh 0)) plans
 
 -- ---- any machine: what stands after the acts of a list, oldest first, and what came of each on the way
 

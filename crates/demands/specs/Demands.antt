@@ -10,8 +10,9 @@ use Rattle.refusal.specs.Said.{accepts, first, judged, unlessRefused}
 use Rattle.settings.specs.Bytes.{byteOf}
 use Rattle.lists.specs.Marks.{number}
 use Rattle.cells.specs.Bleed.{bled}
-use Rattle.latches.specs.Latches.{anyLatch, chgOn, dsgOn, register0}
+use Rattle.latches.specs.Latches.{anyLatch, chgOn, dsgOn}
 use Rattle.board.specs.declared.Board.{Board}
+use Rattle.board.specs.Plan.{Plan, planOf, standAlone}
 use Rattle.frame.specs.Frame.{byte, writes}
 use Rattle.frame.specs.Reply.{replyBytes}
 use Rattle.registers.specs.Map.{Shown, readValue}
@@ -20,33 +21,37 @@ use Rattle.reading.specs.Reading.{readOf, wholeSaid}
 use Rattle.stack.specs.Row.{placeOf}
 use Rattle.stack.specs.Open.{openBars}
 use Rattle.stack.specs.Frame.{framePlace}
-use Rattle.demands.specs.Paper.{Entry, sampled, framed, History, programming, working, spent, latchesAt, flagsAt, given}
+use Rattle.demands.specs.Paper.{Entry, sampled, framed, History, programming, working, spent, latchesAt, control, mayDsg, mayChg, status, flagsAt, given}
 use Rattle.demands.specs.Acts.{Act, sample, frame, reading, Outcome, bars, outcome, next, openedRow, final, answers}
 use Rattle.demands.specs.Shuffle.{picked, Shuffle}
 use Rattle.demands.specs.Tied.{tied}
 
--- ---- what is known of each board: its cell count and its accepted acts
+-- ---- what is known of each board: its plan and its accepted acts
 
 pub record Log : Type 0 where
-  pub cells : ℕ
+  pub plan : Plan
   pub acts : History
 
-abbrev pub log : ℕ → History → Log
-log n h = record { cells = n; acts = h }
+abbrev pub log : Plan → History → Log
+log p h = record { plan = p; acts = h }
 
--- an opening begins a log for each board
+-- an opening begins a log for each board, by the number that stands for its plan
 abbrev pub begun : List ℕ → List Log
-begun counts = map (λ n. log n []) counts
+begun plans = map (λ n. log (planOf n) []) plans
+
+-- of a board that is not there
+abbrev pub noLog : Log
+noLog = log (planOf 0) []
 
 abbrev pub logAt : List Log → ℕ → Log
-logAt logs at = getD logs at (log 0 [])
+logAt logs at = getD logs at noLog
 
 abbrev pub joined : Log → Entry → Log
-joined l e = log (l .cells) (e ∷ l .acts)
+joined l e = log (l .plan) (e ∷ l .acts)
 
 -- the records that the paper gives of them
 abbrev pub boardGiven : Log → Board
-boardGiven l = given (l .cells) (l .acts)
+boardGiven l = given (l .plan) (l .acts)
 
 abbrev pub rowGiven : List Log → List Board
 rowGiven logs = map boardGiven logs
@@ -68,11 +73,18 @@ taken logs reading = logs
 
 -- a sample: register 0's value and the bled cells
 abbrev pub sampleSays : Log → List ℕ
-sampleSays l = register0 (latchesAt (l .cells) (l .acts)) ∷ number (bled (flagsAt (l .cells) (l .acts))) ∷ []
+sampleSays l = status (l .plan) (l .acts) ∷ number (bled (flagsAt (l .plan .cells) (l .acts))) ∷ []
 
--- a read: what its row of the map gives of the status, the working settings and the cycles spent
+-- a read: what its row of the map gives of the status, register 1, the working settings and the cycles spent
 abbrev pub shownGiven : Log → Shown
-shownGiven l = record { status = register0 (latchesAt (l .cells) (l .acts)); working = working (l .acts); cycles = spent (l .acts) }
+shownGiven l =
+    record {
+      kind = l .plan .kind;
+      status = status (l .plan) (l .acts);
+      control = control (l .plan) (l .acts);
+      working = working (l .acts);
+      cycles = spent (l .acts);
+    }
 
 abbrev pub readSays : Log → ℕ → ℕ
 readSays l register = readValue (shownGiven l) register
@@ -88,8 +100,16 @@ frameSays l bytes =
 -- a whole-stack reading: what it takes from each board
 abbrev pub summaryGiven : Log → Summary
 summaryGiven l =
-    let latches = latchesAt (l .cells) (l .acts) in
-    record { latched = anyLatch latches; chg = chgOn latches; dsg = dsgOn latches; count = l .cells; flags = number (flagsAt (l .cells) (l .acts)) }
+    let p = l .plan in
+    let h = l .acts in
+    let latches = latchesAt p h in
+    record {
+      latched = anyLatch latches;
+      chg = chgOn (mayChg p h) latches;
+      dsg = dsgOn (mayDsg p h) latches;
+      count = p .cells;
+      flags = number (flagsAt (p .cells) h);
+    }
 
 abbrev pub readingSays : List Log → List ℕ
 readingSays logs = wholeSaid (readOf (map summaryGiven logs))
@@ -111,13 +131,13 @@ told logs reading = record { said = accepts (readingSays logs); buffer = [] }
 
 -- an opening that is not refused
 abbrev pub opens : List ℕ → Bool
-opens counts = eqb (first (openBars (length counts) counts)) 0
+opens plans = eqb (first (openBars (length plans) plans)) 0
 
 -- after any opening and any acts, every outcome is the one that the paper tells, and the row is the one that it gives
 abbrev pub Demand2 : Type 0
-Demand2 = (counts : List ℕ) → opens counts ≡ true → (acts : List Act)
-    → (answers next outcome (openedRow counts) acts ≡ answers taken told (begun counts) acts)
-    × (final next (openedRow counts) acts ≡ rowGiven (final taken (begun counts) acts))
+Demand2 = (plans : List ℕ) → opens plans ≡ true → (acts : List Act)
+    → (answers next outcome (openedRow plans) acts ≡ answers taken told (begun plans) acts)
+    × (final next (openedRow plans) acts ≡ rowGiven (final taken (begun plans) acts))
 
 -- ---- demand 3
 
@@ -127,6 +147,6 @@ nothing = record { said = accepts []; buffer = [] }
 
 -- however the acts are shuffled, each gets what the paper told of it in the first list, and the row at the end is the same
 abbrev pub Demand3 : Type 0
-Demand3 = (counts : List ℕ) → opens counts ≡ true → (acts : List Act) (order : List ℕ) → Shuffle (tied (length counts)) reading acts order
-    → (answers next outcome (openedRow counts) (picked reading order acts) ≡ picked nothing order (answers taken told (begun counts) acts))
-    × (final next (openedRow counts) (picked reading order acts) ≡ final next (openedRow counts) acts)
+Demand3 = (plans : List ℕ) → opens plans ≡ true → (acts : List Act) (order : List ℕ) → Shuffle (tied (length plans)) reading acts order
+    → (answers next outcome (openedRow plans) (picked reading order acts) ≡ picked nothing order (answers taken told (begun plans) acts))
+    × (final next (openedRow plans) (picked reading order acts) ≡ final next (openedRow plans) acts)

@@ -60,7 +60,7 @@ abbrev pub readAfter : List Act → List ℕ
 readAfter acts = told (final taken start acts) reading .said .values
 
 abbrev pub shortAfter : List Act → Bool
-shortAfter acts = latched 5 SCD (logAt (final taken start acts) 0 .acts)
+shortAfter acts = let l = logAt (final taken start acts) 0 in latched (l .plan) SCD (l .acts)
 
 pub record Matters : Type 0 where
   pub before-reading : readAfter (trip ∷ []) ≡ 1 ∷ 0 ∷ 0 ∷ 0 ∷ 0 ∷ []

@@ -11,13 +11,13 @@ use Rattle.board.specs.declared.Board.{Board}
 use Rattle.board.specs.declared.Readings.{Readings}
 use Rattle.board.specs.Sample.{sampleBars, sampleOf}
 use Rattle.stack.specs.Row.{goodRow, boardAt}
-use Rattle.stack.specs.Open.{openBars, openRow}
+use Rattle.stack.specs.Open.{openBars, openRow, countPlans, openCountsRow}
 use Rattle.stack.specs.Sample.{sampleAnswer, sampleRow}
 use Rattle.stack.specs.Frame.{frameRow, frameBuffer}
 use Rattle.adomvik.specs.declared.Sampled.{Sampled}
 use Rattle.adomvik.specs.declared.Reading.{Reading}
 use Rattle.adomvik.specs.Placed.{placed, sampledOf, readingOf}
-use Rattle.adomvik.specs.Calls.{openNumber, sampleNumber, sampleOut, boardNumber, boardOut, frameNumber, readNumber, readOut}
+use Rattle.adomvik.specs.Calls.{openNumber, countsNumber, sampleNumber, sampleOut, boardNumber, boardOut, frameNumber, readNumber, readOut}
 use Rattle.demands.specs.Acts.{Act, sample, frame, reading, Outcome, bars, outcome, next, openedRow, final, answers}
 use Rattle.demands.specs.Shuffle.{picked, Shuffle}
 use Rattle.demands.specs.Tied.{tied}
@@ -92,9 +92,11 @@ AllOfRow boards [] = Unit {0}
 AllOfRow boards (c ∷ calls) = OfRow boards c × AllOfRow boards calls
 
 pub record SameActs : Type 0 where
-  -- an opening returns 0 exactly if there is a count for each record and the counts open a stack, and then its row is the opened one, whatever stood in the records
-  pub opening : (row : List Board) (counts : List ℕ) → (openNumber row counts ≡ 0) ↔ ((length row ≡ length counts) × (opens counts ≡ true))
-  pub opened : (row : List Board) (counts : List ℕ) → openNumber row counts ≡ 0 → openRow row counts ≡ openedRow counts
+  -- an opening returns 0 exactly if there is a plan for each record and the plans open a stack, and then its row is the opened one, whatever stood in the records
+  pub opening : (row : List Board) (plans : List ℕ) → (openNumber row plans ≡ 0) ↔ ((length row ≡ length plans) × (opens plans ≡ true))
+  pub opened : (row : List Board) (plans : List ℕ) → openNumber row plans ≡ 0 → openRow row plans ≡ openedRow plans
+  -- an opening from bare counts is one by the plans of stand-alone boards
+  pub from-counts : (row : List Board) (counts : List ℕ) → (countsNumber row counts ≡ openNumber row (countPlans counts)) × (openCountsRow row counts ≡ openRow row (countPlans counts))
   -- a sample of the record at a place is the sample of that board of the row
   pub record-sampled : (row : List Board) → goodRow row ≡ true → (at : ℕ) → at < length row → (x : Readings) (mv : List ℕ)
       → (sampleOf (boardAt row at) x mv .answer ≡ sampleAnswer row (suc at) x mv) × (set row at (sampleOf (boardAt row at) x mv .board) ≡ sampleRow row (suc at) x mv)
@@ -132,9 +134,9 @@ pub record FaceDemand1 (row : List Board) : Type 0 where
   pub by-table : (c : Call) → NumberBy (barsOf row c) (returns row c .number)
   pub own-numbers : (c : Call) → OneOf (returns row c .number) (0 ∷ numbers c)
   pub unchanged : (c : Call) → 0 < returns row c .number → (leaves row c ≡ row) × (returns row c .place ≡ lent c)
-  pub opening-by-table : (counts : List ℕ) → NumberBy (openBars (length row) counts) (openNumber row counts)
-  pub opening-own-numbers : (counts : List ℕ) → OneOf (openNumber row counts) (0 ∷ 1 ∷ [])
-  pub opening-unchanged : (counts : List ℕ) → 0 < openNumber row counts → openRow row counts ≡ row
+  pub opening-by-table : (plans : List ℕ) → NumberBy (openBars (length row) plans) (openNumber row plans)
+  pub opening-own-numbers : (plans : List ℕ) → OneOf (openNumber row plans) (0 ∷ 1 ∷ [])
+  pub opening-unchanged : (plans : List ℕ) → 0 < openNumber row plans → openRow row plans ≡ row
 
 -- ---- demand 2: after an opening that returned 0 and any calls, each call returns what the paper tells of its act, and the row is the one that it gives
 
@@ -145,9 +147,9 @@ abbrev pub toldIn : List Log → Call → Returned
 toldIn logs c = inC c (told logs (actOf c))
 
 abbrev pub FaceDemand2 : Type 0
-FaceDemand2 = (row : List Board) (counts : List ℕ) → openNumber row counts ≡ 0 → (calls : List Call) → AllOfRow (length counts) calls
-    → (answers leaves returns (openRow row counts) calls ≡ answers takenIn toldIn (begun counts) calls)
-    × (final leaves (openRow row counts) calls ≡ rowGiven (final takenIn (begun counts) calls))
+FaceDemand2 = (row : List Board) (plans : List ℕ) → openNumber row plans ≡ 0 → (calls : List Call) → AllOfRow (length plans) calls
+    → (answers leaves returns (openRow row plans) calls ≡ answers takenIn toldIn (begun plans) calls)
+    × (final leaves (openRow row plans) calls ≡ rowGiven (final takenIn (begun plans) calls))
 
 -- ---- demand 3: however the calls are shuffled by what their acts are tied to, each returns what was told of it in the first list
 
@@ -159,7 +161,7 @@ abbrev pub noReturn : Returned
 noReturn = returned 0 (lent noCall)
 
 abbrev pub FaceDemand3 : Type 0
-FaceDemand3 = (row : List Board) (counts : List ℕ) → openNumber row counts ≡ 0 → (calls : List Call) → AllOfRow (length counts) calls
-    → (order : List ℕ) → Shuffle (tied (length counts)) reading (map actOf calls) order
-    → (answers leaves returns (openRow row counts) (picked noCall order calls) ≡ picked noReturn order (answers takenIn toldIn (begun counts) calls))
-    × (final leaves (openRow row counts) (picked noCall order calls) ≡ final leaves (openRow row counts) calls)
+FaceDemand3 = (row : List Board) (plans : List ℕ) → openNumber row plans ≡ 0 → (calls : List Call) → AllOfRow (length plans) calls
+    → (order : List ℕ) → Shuffle (tied (length plans)) reading (map actOf calls) order
+    → (answers leaves returns (openRow row plans) (picked noCall order calls) ≡ picked noReturn order (answers takenIn toldIn (begun plans) calls))
+    × (final leaves (openRow row plans) (picked noCall order calls) ≡ final leaves (openRow row plans) calls)

@@ -12,3 +12,5 @@ pub mod Mechanic
 pub mod Refused
 pub mod Whole
 pub mod Face
+pub mod Host
+pub mod Counts

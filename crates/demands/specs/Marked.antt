@@ -13,8 +13,9 @@ use Rattle.lists.specs.Marks.{bit, number}
 use Rattle.lists.specs.Each.{each}
 use Rattle.cells.specs.Bleed.{bled}
 use Rattle.latches.specs.Latches.{register0}
+use Rattle.board.specs.Plan.{Plan}
 use Rattle.board.specs.Shunt.{shuntAbove}
-use Rattle.demands.specs.Paper.{Entry, sampled, framed, History, working, latched, latchesAt, flagsAt}
+use Rattle.demands.specs.Paper.{Entry, sampled, framed, History, working, latched, status, flagsAt}
 
 -- ---- histories, newest act first
 
@@ -61,9 +62,12 @@ pub record Case : Type 0 where
 abbrev is : ℕ → ℕ → ℕ → Case
 is m gives says = record { m = m; gives = gives; says = says }
 
--- a fault of a board of five cells, 1 if it is latched
+-- a stand-alone board of five cells, and a fault of it: 1 if it is latched
+abbrev pub board : Plan
+board = record { kind = 0; cells = 5 }
+
 abbrev pub latch : Fault → History → ℕ
-latch f h = bit (latched 5 f h)
+latch f h = bit (latched board f h)
 
 abbrev pub marked : List Case
 marked =
@@ -77,7 +81,7 @@ marked =
     ∷ is 7 (ocdDelay (with 8 15)) 320000
     ∷ is 8 (ocdDelay (with 8 16)) 100000
     ∷ is 9 (ocdDelay (with 8 31)) 1600000
-    ∷ is 10 (register0 (latchesAt 5 (more 20 (shunt (negsuc 60000)) []))) 192
+    ∷ is 10 (status board (more 20 (shunt (negsuc 60000)) [])) 192
     ∷ is 11 (latch SCD (more 20 (shunt (pos 60000)) [])) 0
     ∷ is 12 (number (bled (flagsAt 8 (more 6 three [])))) 132
     ∷ is 12 (number (bled (flagsAt 8 (more 6 apart [])))) 144

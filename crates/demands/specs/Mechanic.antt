@@ -1,4 +1,4 @@
--- What a mechanic would ask (01, When a fault latches and lets go; Frames and registers; Errors a good mechanic would make): of the runs in a history, and of the library on any stack that came from an opening, after any acts.
+-- What a mechanic would ask (01, When a fault latches and lets go; Frames and registers; Errors a good mechanic would make; 02, ticket 3): of the runs in a history, and of the library on any stack that came from an opening, after any acts.
 -- Assumes nothing.
 use Prim.Native.Nat.{ℕ, _+_, _<_, _≤_}
 use mathlib.Core.Path.{_≡_}
@@ -13,15 +13,16 @@ use Rattle.settings.specs.Faults.{Fault, delay}
 use Rattle.latches.specs.Latches.{latch, latchesOf}
 use Rattle.board.specs.declared.Board.{Board}
 use Rattle.board.specs.declared.Readings.{Readings}
+use Rattle.board.specs.Host.{holdsOn}
 use Rattle.frame.specs.Frame.{byte, writes}
 use Rattle.frame.specs.Reply.{replyBytes}
 use Rattle.stack.specs.Row.{placeOf, boardAt}
 use Rattle.stack.specs.Frame.{framePlace}
-use Rattle.demands.specs.Paper.{Entry, sampled, framed, History, programming, staged, working, spends, howMany, spent, sampleOf, holds, runOf, places, letsGo}
+use Rattle.demands.specs.Paper.{Entry, sampled, framed, History, programming, staged, working, spends, howMany, spent, sampleOf, holds, runOf, places, letsGo, clears, control}
 use Rattle.demands.specs.Acts.{Act, sample, frame, reading, outcome, next, openedRow, final}
 use Rattle.demands.specs.Table.{lent}
 use Rattle.demands.specs.Turns.{Under, Calm}
-use Rattle.demands.specs.Demands.{Log, begun, logAt, taken, opens}
+use Rattle.demands.specs.Demands.{Log, begun, logAt, frameEntry, taken, opens}
 
 -- ---- runs
 
@@ -57,20 +58,29 @@ isLatched f row at = latch f (latchesOf (boardAt row at .latches))
 abbrev pub Accepted : List Board → Act → Type 0
 Accepted row a = outcome row a .said .number ≡ 0
 
--- of a row, and of what is known of each of its boards: its cell count and its accepted acts
+-- of a row, and of what is known of each of its boards: its plan and its accepted acts
 pub record Answers (row : List Board) (logs : List Log) : Type 0 where
   -- an unlatched fault latches at an accepted sample exactly if its condition has stood its delay, for some one cell with OV and UV
   pub latches : (f : Fault) (n : ℕ) (x : Readings) (mv : List ℕ) → let l = logAt logs (placeOf n) in
       Accepted row (sample n x mv) → isLatched f row (placeOf n) ≡ false
-      → (isLatched f (next row (sample n x mv)) (placeOf n) ≡ true) ↔ Stood (l .cells) f (sampled x mv ∷ l .acts)
-  -- a latched one lets go exactly if its recovery is met
+      → (isLatched f (next row (sample n x mv)) (placeOf n) ≡ true) ↔ Stood (l .plan .cells) f (sampled x mv ∷ l .acts)
+  -- a latched one lets go exactly if its recovery is met, and on a host board only overtemperature does by itself
   pub lets-go : (f : Fault) (n : ℕ) (x : Readings) (mv : List ℕ) → let l = logAt logs (placeOf n) in
       Accepted row (sample n x mv) → isLatched f row (placeOf n) ≡ true
-      → (isLatched f (next row (sample n x mv)) (placeOf n) ≡ false) ↔ (letsGo (l .cells) f (working (l .acts)) (sampleOf x mv) ≡ true)
-  -- no frame latches a fault or lets it go, programmings among them
-  pub frames-leave : (f : Fault) (bytes buffer : List ℕ) (at : ℕ) → isLatched f (next row (frame bytes buffer)) at ≡ isLatched f row at
+      → (isLatched f (next row (sample n x mv)) (placeOf n) ≡ false)
+      ↔ ((holdsOn (l .plan .kind) f ≡ false) × (letsGo (l .plan .cells) f (working (l .acts)) (sampleOf x mv) ≡ true))
+  -- no frame latches a fault, programmings among them
+  pub frames-latch-none : (f : Fault) (bytes buffer : List ℕ) (at : ℕ) → isLatched f row at ≡ false → isLatched f (next row (frame bytes buffer)) at ≡ false
+  -- and one lets it go exactly if it is accepted, its board has the fault, and it clears it there: a write that takes b0 of a host board's register 1
+  -- from 1 to 0, with the condition over on the last accepted sample by the levels that work
+  pub frames-clear : (f : Fault) (bytes buffer : List ℕ) (at : ℕ) → let l = logAt logs at in
+      isLatched f row at ≡ true
+      → (isLatched f (next row (frame bytes buffer)) at ≡ false)
+      ↔ (Accepted row (frame bytes buffer) × (framePlace bytes ≡ at) × (clears (l .plan) f (frameEntry bytes) (l .acts) ≡ true))
+  -- so a stand-alone board's faults are left by every frame
+  pub frames-leave : (f : Fault) (bytes buffer : List ℕ) (at : ℕ) → logAt logs at .plan .kind ≡ 0 → isLatched f (next row (frame bytes buffer)) at ≡ isLatched f row at
   -- a fault that no one cell has stood at any time is not latched, however the cells take turns
-  pub no-pooling : (f : Fault) (at : ℕ) → let l = logAt logs at in Under (l .cells) f (l .acts) → isLatched f row at ≡ false
+  pub no-pooling : (f : Fault) (at : ℕ) → let l = logAt logs at in Under (l .plan .cells) f (l .acts) → isLatched f row at ≡ false
   -- nor is one whose condition never held, whatever was programmed
   pub calm : (f : Fault) (at : ℕ) → let l = logAt logs at in Calm f (l .acts) → isLatched f row at ≡ false
   -- a read of registers 6 to 10 gives the working byte
@@ -81,6 +91,10 @@ pub record Answers (row : List Board) (logs : List Log) : Type 0 where
   pub reads-cycles : (bytes buffer : List ℕ) → let l = logAt logs (framePlace bytes) in
       Accepted row (frame bytes buffer) → writes (byte bytes 0) ≡ false → byte bytes 1 ≡ 11
       → outcome row (frame bytes buffer) .said ≡ accepts (replyBytes (byte bytes 0) 11 (howMany spends (l .acts)))
+  -- a read of register 1 gives its bits, on a host board
+  pub reads-control : (bytes buffer : List ℕ) → let l = logAt logs (framePlace bytes) in
+      Accepted row (frame bytes buffer) → writes (byte bytes 0) ≡ false → byte bytes 1 ≡ 1 → l .plan .kind ≡ 1
+      → outcome row (frame bytes buffer) .said ≡ accepts (replyBytes (byte bytes 0) 1 (control (l .plan) (l .acts)))
   -- the working levels of a board are never crossed
   pub never-crossed : (at : ℕ) → crossed (working (logAt logs at .acts)) ≡ false
   -- so programming with staged equal to working changes no record, and is refused neither for crossed levels nor for want of a cycle
@@ -94,4 +108,4 @@ pub record Answers (row : List Board) (logs : List Log) : Type 0 where
 
 -- whatever was opened, and whatever came after it
 abbrev pub Mechanic : Type 0
-Mechanic = (counts : List ℕ) → opens counts ≡ true → (acts : List Act) → Answers (final next (openedRow counts) acts) (final taken (begun counts) acts)
+Mechanic = (plans : List ℕ) → opens plans ≡ true → (acts : List Act) → Answers (final next (openedRow plans) acts) (final taken (begun plans) acts)

@@ -1,9 +1,9 @@
--- A board from its accepted acts alone, newest first, with no state (01, Frames and registers; When a fault latches and lets go; Bleeding).
+-- A board from its plan and its accepted acts alone, newest first, with no state (01, Frames and registers; When a fault latches and lets go; Bleeding; 02, ticket 3).
 -- Assumes nothing.
 use Prim.Native.Nat.{ℕ, _+_}
-use mathlib.Core.Bool.{Bool, false, cond, not, _&&_}
+use mathlib.Core.Bool.{Bool, false, cond, not, _&&_, _||_}
 use mathlib.Core.List.{List, [], _∷_, _++_}
-use mathlib.Core.Option.{Option}
+use mathlib.Core.Option.{Option, some as just, none}
 use lib.Dec.{eqb}
 use lib.ListN.{drop}
 use Rattle.lists.specs.Compare.{_above_, _below_, _atOrAbove_, _atOrBelow_}
@@ -12,15 +12,20 @@ use Rattle.settings.specs.Levels.{factory, ovLevel, ovRelease, uvLevel, uvRelea
 use Rattle.settings.specs.Bytes.{withByte, same}
 use Rattle.settings.specs.Faults.{Fault, SCD, OCD, OV, UV, OT, delay}
 use Rattle.lists.specs.Marks.{number}
+use Rattle.lists.specs.Every.{every}
 use Rattle.runs.specs.Run.{run, past}
 use Rattle.runs.specs.Stored.{stored}
 use Rattle.cells.specs.declared.Cell.{Cell}
 use Rattle.lists.specs.Each.{each, some, all}
 use Rattle.cells.specs.Cells.{flagNext, readingAt, noCells}
 use Rattle.latches.specs.declared.Latches.{Latches}
-use Rattle.latches.specs.Latches.{latches, latchNext, latchesByte}
+use Rattle.latches.specs.Latches.{latches, latchNext, latchesByte, chgOn, dsgOn, register0}
+use Rattle.latches.specs.Control.{clearBit, dsgBit, chgBit}
 use Rattle.board.specs.declared.Board.{Board}
 use Rattle.board.specs.declared.Readings.{Readings}
+use Rattle.board.specs.declared.Last.{Last}
+use Rattle.board.specs.Plan.{Plan, isHost}
+use Rattle.board.specs.Host.{holdsOn, lastOf, noLast}
 use Rattle.board.specs.Shunt.{shuntAbove}
 use Rattle.board.specs.Sample.{hot, attached}
 use Rattle.frame.specs.Frame.{writes}
@@ -120,14 +125,92 @@ letsGo n OV s x = all (each 0 n (λ k. readingAt (x .cells) k below ovRelease s)
 letsGo n UV s x = all (each 0 n (λ k. readingAt (x .cells) k above uvRelease s))
 letsGo n OT s x = not (hot (x .readings))
 
--- at each accepted sample an unlatched fault latches exactly if it stands, and a latched one unlatches exactly if it lets go; frames leave it
-abbrev pub latched : ℕ → Fault → History → Bool
-latched n f [] = false
-latched n f (sampled x mv ∷ h) = latchNext (latched n f h) (stands n f (sampled x mv ∷ h)) (letsGo n f (working h) (sampleOf x mv))
-latched n f (framed address register v ∷ h) = latched n f h
+-- ---- what a host board clears (02, ticket 3)
 
-abbrev pub latchesAt : ℕ → History → Latches
-latchesAt n h = latches (λ f. latched n f h)
+-- a write to register 1, which host boards have
+abbrev pub steers : Plan → Entry → Bool
+steers p (sampled x mv) = false
+steers p (framed address register v) = isHost (p .kind) && (writes address && eqb register 1)
+
+-- b0 of it, latch clear: only a write changes it
+abbrev pub clearSet : Plan → History → Bool
+clearSet p [] = false
+clearSet p (sampled x mv ∷ h) = clearSet p h
+clearSet p (framed address register v ∷ h) = cond (steers p (framed address register v)) (clearBit v) (clearSet p h)
+
+-- a write takes b0 from 1 to 0
+abbrev pub takesDown : Plan → Entry → History → Bool
+takesDown p (sampled x mv) h = false
+takesDown p (framed address register v) h = steers p (framed address register v) && (clearSet p h && not (clearBit v))
+
+-- the last accepted sample; no frame makes it forgotten, a spent cycle neither
+abbrev pub lastSample : History → Option Sample
+lastSample [] = none
+lastSample (sampled x mv ∷ h) = just (sampleOf x mv)
+lastSample (framed address register v ∷ h) = lastSample h
+
+-- the condition of a fault is over on a sample: all cells below the OV level, all above the UV level, the shunt at or below the level; hysteresis and load
+-- are not asked, and overtemperature is not cleared so
+abbrev pub isOver : Fault → Settings → Sample → Bool
+isOver SCD s x = not (shuntAbove (scdLevel s) (x .readings .shunt))
+isOver OCD s x = not (shuntAbove (ocdLevel s) (x .readings .shunt))
+isOver OV s x = every (λ v. v below ovLevel s) (x .cells)
+isOver UV s x = every (λ v. v above uvLevel s) (x .cells)
+isOver OT s x = false
+
+-- on the last accepted sample, by some settings; before any sample nothing is
+abbrev pub overBy : Fault → Settings → Option Sample → Bool
+overBy f s none = false
+overBy f s (just x) = isOver f s x
+
+-- each latch whose condition is over goes at such a write, by the settings that work then
+abbrev pub clears : Plan → Fault → Entry → History → Bool
+clears p f e h = takesDown p e h && overBy f (working h) (lastSample h)
+
+-- ---- the latches
+
+-- at each accepted sample an unlatched fault latches exactly if it stands, and a latched one unlatches exactly if it lets go, which on a host board
+-- only overtemperature does by itself; a frame leaves it, unless it clears it
+abbrev pub latched : Plan → Fault → History → Bool
+latched p f [] = false
+latched p f (sampled x mv ∷ h) =
+    latchNext (latched p f h) (stands (p .cells) f (sampled x mv ∷ h)) (not (holdsOn (p .kind) f) && letsGo (p .cells) f (working h) (sampleOf x mv))
+latched p f (framed address register v ∷ h) = not (clears p f (framed address register v) h) && latched p f h
+
+abbrev pub latchesAt : Plan → History → Latches
+latchesAt p h = latches (λ f. latched p f h)
+
+-- ---- the switches
+
+-- a fault latches at an act
+abbrev pub rises : Plan → Fault → Entry → History → Bool
+rises p f e h = latched p f (e ∷ h) && not (latched p f h)
+
+-- b1 and b2 of register 1, DSG and CHG: a write sets them, and a fault that latches clears the bits of the switches that it forbids
+abbrev pub dsgSet : Plan → History → Bool
+dsgSet p [] = false
+dsgSet p (sampled x mv ∷ h) = dsgOn (dsgSet p h) (latches (λ f. rises p f (sampled x mv) h))
+dsgSet p (framed address register v ∷ h) = cond (steers p (framed address register v)) (dsgBit v) (dsgSet p h)
+
+abbrev pub chgSet : Plan → History → Bool
+chgSet p [] = false
+chgSet p (sampled x mv ∷ h) = chgOn (chgSet p h) (latches (λ f. rises p f (sampled x mv) h))
+chgSet p (framed address register v ∷ h) = cond (steers p (framed address register v)) (chgBit v) (chgSet p h)
+
+-- register 1, from b0 up
+abbrev pub control : Plan → History → ℕ
+control p h = number (clearSet p h ∷ dsgSet p h ∷ chgSet p h ∷ [])
+
+-- on a host board a switch may be on only where its bit is set
+abbrev pub mayDsg : Plan → History → Bool
+mayDsg p h = not (isHost (p .kind)) || dsgSet p h
+
+abbrev pub mayChg : Plan → History → Bool
+mayChg p h = not (isHost (p .kind)) || chgSet p h
+
+-- register 0
+abbrev pub status : Plan → History → ℕ
+status p h = register0 (mayDsg p h) (mayChg p h) (latchesAt p h)
 
 -- ---- Bleeding
 
@@ -140,20 +223,27 @@ flagged k (framed address register v ∷ h) = flagged k h
 abbrev pub flagsAt : ℕ → History → List Bool
 flagsAt n h = each 0 n (λ k. flagged k h)
 
--- ---- the declared record of a board of n cells with these accepted acts; past its cells it is as it started
+-- ---- the declared record of a board of this plan with these accepted acts; past its cells it is as it started
 
 abbrev pub cellGiven : History → ℕ → Cell
 cellGiven h k = record { ov = stored (runOf OV k h); uv = stored (runOf UV k h) }
 
-abbrev pub given : ℕ → History → Board
-given n h =
+abbrev pub lastGiven : Option Sample → Last
+lastGiven none = noLast
+lastGiven (just x) = lastOf (x .readings) (x .cells)
+
+abbrev pub given : Plan → History → Board
+given p h =
     record {
-      count = n;
-      latches = latchesByte (latchesAt n h);
+      count = p .cells;
+      latches = latchesByte (latchesAt p h);
       cycles = spent h;
-      flags = number (flagsAt n h);
+      kind = p .kind;
+      flags = number (flagsAt (p .cells) h);
       working = working h;
       staged = staged h;
       currents = record { ocd = stored (runOf OCD 0 h); scd = stored (runOf SCD 0 h) };
-      cells = each 0 n (cellGiven h) ++ drop n noCells;
+      cells = each 0 (p .cells) (cellGiven h) ++ drop (p .cells) noCells;
+      last = lastGiven (lastSample h);
+      control = control p h;
     }

@@ -1,4 +1,4 @@
--- The table of refusals a second time, from what is known of each board and the act alone: for each act its rows in order, each a number and a proposition (01, Refusal numbers; Frames and registers; 02, ticket 1).
+-- The table of refusals a second time, from what is known of each board and the act alone: for each act its rows in order, each a number and a proposition (01, Refusal numbers; Frames and registers; 02, tickets 1 and 3).
 -- None of the library's conditions is used: beside the history (Paper) it rests on the two current levels (settings, Levels) and the check byte, which is bit by bit (frame, Check).
 -- Assumes nothing.
 use Prim.Native.Nat.{ℕ, zero, suc, _+_, _-_, _*_, _<_, _≤_}
@@ -11,13 +11,14 @@ use lib.ListN.{length, getD, set}
 use Rattle.refusal.specs.Said.{Said, refuses, Bar}
 use Rattle.board.specs.declared.Board.{Board}
 use Rattle.board.specs.declared.Readings.{Readings}
+use Rattle.board.specs.Plan.{Plan, planOf}
 use Rattle.settings.specs.Levels.{ocdLevel, scdLevel}
 use Rattle.frame.specs.Check.{checkOf}
 use Rattle.stack.specs.Open.{openBars, openingSaid, openAnswer}
 use Rattle.stack.specs.Read.{readBars}
 use Rattle.demands.specs.Paper.{Entry, sampled, framed, History, staged, working, spent}
 use Rattle.demands.specs.Acts.{Act, sample, frame, reading, bars, outcome, next, openedRow, final}
-use Rattle.demands.specs.Demands.{Log, log, begun, logAt, joined, rowGiven, taken}
+use Rattle.demands.specs.Demands.{Log, noLog, begun, logAt, joined, rowGiven, taken}
 
 -- a row of the table: a refusal's number, and what has to hold
 pub record Rule : Type 1 where
@@ -31,21 +32,31 @@ rule n P = record { number = n; holds = P }
 abbrev pub Outside : ℕ → ℕ → ℕ → Type 0
 Outside low high n = (n < low) ⊎ (high < n)
 
-abbrev pub Some : (ℕ → Type 0) → List ℕ → Type 0
-Some P l = (i : ℕ) × (i < length l) × P (getD l i 0)
+abbrev pub Some : {A : Type 0} → A → (A → Type 0) → List A → Type 0
+Some none P l = (i : ℕ) × (i < length l) × P (getD l i none)
 
 -- ---- the stack and its boards
 
--- 1: a stack has 1 to 16 boards, of 5 to 10 cells each; by these counts there is none
-abbrev pub NoStack : List ℕ → Type 0
-NoStack counts = Outside 1 16 (length counts) ⊎ Some (Outside 5 10) counts
+-- 1: a stack has 1 to 16 boards, stand-alone or host, of 5 to 10 cells each; by these plans there is none
+abbrev pub NoPlan : Plan → Type 0
+NoPlan p = (1 < p .kind) ⊎ Outside 5 10 (p .cells)
 
-abbrev pub countsOf : List Log → List ℕ
-countsOf logs = map (λ l. l .cells) logs
+abbrev pub NoStack : List Plan → Type 0
+NoStack plans = Outside 1 16 (length plans) ⊎ Some (planOf 0) NoPlan plans
+
+-- the plans of an opening, of the boards of which something is known, and of a row of records
+abbrev pub plansBy : List ℕ → List Plan
+plansBy numbers = map planOf numbers
+
+abbrev pub plansOf : List Log → List Plan
+plansOf logs = map (λ l. l .plan) logs
+
+abbrev pub plansIn : List Board → List Plan
+plansIn row = map (λ b. record { kind = b .kind; cells = b .count }) row
 
 -- boards are numbered from 1; of a number that no board has nothing is known
 abbrev pub logOf : List Log → ℕ → Log
-logOf logs zero = log 0 []
+logOf logs zero = noLog
 logOf logs (suc at) = logAt logs at
 
 -- 2: none of the boards has the number
@@ -56,7 +67,7 @@ NoBoard logs n = Outside 1 (length logs) n
 
 -- 3: a reading for each cell, no more and no fewer
 abbrev pub WrongCells : Log → List ℕ → Type 0
-WrongCells l mv = length mv ≢ l .cells
+WrongCells l mv = length mv ≢ l .plan .cells
 
 -- 4: 1 to 100,000 µs
 abbrev pub WrongTime : Readings → Type 0
@@ -70,7 +81,7 @@ WrongShunt (negsuc k) = 500000 < k + 1
 -- 5: cells and thermistor read at most 5,000 mV, and the load flag is 0 or 1
 abbrev pub WrongReading : Readings → List ℕ → Type 0
 WrongReading x mv =
-    Some (λ v. 5000 < v) mv
+    Some 0 (λ v. 5000 < v) mv
     ⊎ (5000 < x .thermistor)
     ⊎ WrongShunt (x .shunt)
     ⊎ ((x .load ≢ 0) × (x .load ≢ 1))
@@ -94,17 +105,22 @@ Writes address = (n : ℕ) × WriteOf n address
 abbrev pub NoBoardNamed : List Log → ℕ → Type 0
 NoBoardNamed logs address = (n : ℕ) × (ReadOf n address ⊎ WriteOf n address) × NoBoard logs n
 
--- 9: there are registers 0 and 6 to 11, and 0 is only read
-abbrev pub Known : ℕ → Type 0
-Known register = (register ≡ 0) ⊎ ((6 ≤ register) × (register ≤ 11))
+-- the board that it names is so
+abbrev pub Named : (Log → Type 0) → List Log → ℕ → Type 0
+Named So logs address = (n : ℕ) × (ReadOf n address ⊎ WriteOf n address) × So (logOf logs n)
 
-abbrev pub WrongRegister : ℕ → ℕ → Type 0
-WrongRegister address register = (¬ Known register) ⊎ (Writes address × (register ≡ 0))
+-- 9: there are registers 0 and 6 to 11, and 0 is only read; a host board has register 1 too
+abbrev pub Known : ℕ → Log → Type 0
+Known register l = (register ≡ 0) ⊎ ((register ≡ 1) × (l .plan .kind ≡ 1)) ⊎ ((6 ≤ register) × (register ≤ 11))
 
--- 10: what a write may carry. Registers 6, 9 and 10 take any byte, 7 one whose two high bits are 0, 8 one whose three high bits are 0, 11 only 0x41
-abbrev pub MayCarry : ℕ → ℕ → Type 0
-MayCarry register v =
-    (register ≡ 6)
+abbrev pub WrongRegister : List Log → ℕ → ℕ → Type 0
+WrongRegister logs address register = Named (λ l. ¬ Known register l) logs address ⊎ (Writes address × (register ≡ 0))
+
+-- 10: what a write may carry. Register 1 of a host board takes b0 to b2, registers 6, 9 and 10 any byte, 7 one whose two high bits are 0, 8 one whose three high bits are 0, 11 only 0x41
+abbrev pub MayCarry : ℕ → ℕ → Log → Type 0
+MayCarry register v l =
+    ((register ≡ 1) × (l .plan .kind ≡ 1) × (v < 8))
+    ⊎ (register ≡ 6)
     ⊎ ((register ≡ 7) × (v < 64))
     ⊎ ((register ≡ 8) × (v < 32))
     ⊎ (register ≡ 9)
@@ -112,8 +128,8 @@ MayCarry register v =
     ⊎ ((register ≡ 11) × (v ≡ 0x41))
 
 -- a read carries 0
-abbrev pub WrongValue : ℕ → ℕ → ℕ → Type 0
-WrongValue address register v = (Reads address × (v ≢ 0)) ⊎ (Writes address × (¬ MayCarry register v))
+abbrev pub WrongValue : List Log → ℕ → ℕ → ℕ → Type 0
+WrongValue logs address register v = (Reads address × (v ≢ 0)) ⊎ (Writes address × Named (λ l. ¬ MayCarry register v l) logs address)
 
 -- a write to register 11, which programs a board, where its history is so
 abbrev pub Programs : (History → Type 0) → List Log → ℕ → ℕ → Type 0
@@ -129,16 +145,16 @@ Worn h = (staged h ≢ working h) × (3 ≤ spent h)
 
 -- ---- the table, for each act in the paper's order
 
--- an opening has a count for each record of the row that it is given, and none beside
+-- an opening has a plan for each record of the row that it is given, and none beside
 abbrev pub openingRules : ℕ → List ℕ → List Rule
-openingRules records counts = rule 1 ((length counts ≢ records) ⊎ NoStack counts) ∷ []
+openingRules records plans = rule 1 ((length plans ≢ records) ⊎ NoStack (plansBy plans)) ∷ []
 
-abbrev pub stackRules : List ℕ → List Rule
-stackRules counts = rule 1 (NoStack counts) ∷ []
+abbrev pub stackRules : List Plan → List Rule
+stackRules plans = rule 1 (NoStack plans) ∷ []
 
 abbrev pub sampleRules : List Log → ℕ → Readings → List ℕ → List Rule
 sampleRules logs n x mv =
-    rule 1 (NoStack (countsOf logs))
+    rule 1 (NoStack (plansOf logs))
     ∷ rule 2 (NoBoard logs n)
     ∷ rule 3 (WrongCells (logOf logs n) mv)
     ∷ rule 4 (WrongTime x)
@@ -152,13 +168,13 @@ frameRules logs bytes buffer =
     let register = getD bytes 1 0 in
     let v = getD bytes 2 0 in
     let check = getD bytes 3 0 in
-    rule 1 (NoStack (countsOf logs))
+    rule 1 (NoStack (plansOf logs))
     ∷ rule 6 (length bytes ≢ 4)
     ∷ rule 7 (length buffer < 4)
     ∷ rule 8 (check ≢ checkOf (address ∷ register ∷ v ∷ []))
     ∷ rule 2 (NoBoardNamed logs address)
-    ∷ rule 9 (WrongRegister address register)
-    ∷ rule 10 (WrongValue address register v)
+    ∷ rule 9 (WrongRegister logs address register)
+    ∷ rule 10 (WrongValue logs address register v)
     ∷ rule 13 (Programs Crossed logs address register)
     ∷ rule 11 (Programs Worn logs address register)
     ∷ []
@@ -166,7 +182,7 @@ frameRules logs bytes buffer =
 abbrev pub rules : List Log → Act → List Rule
 rules logs (sample n x mv) = sampleRules logs n x mv
 rules logs (frame bytes buffer) = frameRules logs bytes buffer
-rules logs reading = stackRules (countsOf logs)
+rules logs reading = stackRules (plansOf logs)
 
 -- ---- the library's table is this one, row by row in the same order: each condition holds exactly where the paper's does
 
@@ -181,9 +197,9 @@ SameRows (b ∷ bs) (r ∷ rs) = SameRow b r × SameRows bs rs
 
 pub record SameTable : Type 0 where
   -- for an opening; for a row of records handed in, good or damaged; and for every act on the records that the paper gives
-  pub opening : (records : ℕ) (counts : List ℕ) → SameRows (openBars records counts) (openingRules records counts)
-  pub handed-in : (row : List Board) → SameRows (readBars row) (stackRules (map (λ b. b .count) row))
-  pub act : (logs : List Log) → ¬ NoStack (countsOf logs) → (a : Act) → SameRows (bars (rowGiven logs) a) (rules logs a)
+  pub opening : (records : ℕ) (plans : List ℕ) → SameRows (openBars records plans) (openingRules records plans)
+  pub handed-in : (row : List Board) → SameRows (readBars row) (stackRules (plansIn row))
+  pub act : (logs : List Log) → ¬ NoStack (plansOf logs) → (a : Act) → SameRows (bars (rowGiven logs) a) (rules logs a)
 
 -- ---- refused with n exactly if n is the first that holds, accepted exactly if none does
 
@@ -211,12 +227,12 @@ abbrev pub entered : List Log → ℕ → Entry → List Log
 entered logs n e = set logs (n - 1) (joined (logOf logs n) e)
 
 pub record RefusedByPaper : Type 0 where
-  pub opening : (row : List Board) (counts : List ℕ) → ByRules (openingRules (length row) counts) (openingSaid (openAnswer row counts))
+  pub opening : (row : List Board) (plans : List ℕ) → ByRules (openingRules (length row) plans) (openingSaid (openAnswer row plans))
   -- 1 comes before all else for a row handed in
-  pub handed-in : (row : List Board) (a : Act) → (outcome row a .said ≡ refuses 1) ↔ NoStack (map (λ b. b .count) row)
+  pub handed-in : (row : List Board) (a : Act) → (outcome row a .said ≡ refuses 1) ↔ NoStack (plansIn row)
   -- after any opening that is a stack, and any acts
-  pub act : (counts : List ℕ) → ¬ NoStack counts → (acts : List Act) (a : Act)
-      → ByRules (rules (final taken (begun counts) acts) a) (outcome (final next (openedRow counts) acts) a .said)
+  pub act : (plans : List ℕ) → ¬ NoStack (plansBy plans) → (acts : List Act) (a : Act)
+      → ByRules (rules (final taken (begun plans) acts) a) (outcome (final next (openedRow plans) acts) a .said)
   -- an act that none refuses enters its board's log, and one that is refused enters none
-  pub enters : (logs : List Log) → ¬ NoStack (countsOf logs) → (a : Act) (n : ℕ) (e : Entry) → ActOf n e a → NoneOf (rules logs a) → taken logs a ≡ entered logs n e
-  pub leaves : (logs : List Log) → ¬ NoStack (countsOf logs) → (a : Act) (n : ℕ) → 0 < n → FirstOf n (rules logs a) → taken logs a ≡ logs
+  pub enters : (logs : List Log) → ¬ NoStack (plansOf logs) → (a : Act) (n : ℕ) (e : Entry) → ActOf n e a → NoneOf (rules logs a) → taken logs a ≡ entered logs n e
+  pub leaves : (logs : List Log) → ¬ NoStack (plansOf logs) → (a : Act) (n : ℕ) → 0 < n → FirstOf n (rules logs a) → taken logs a ≡ logs

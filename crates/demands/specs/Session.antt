@@ -10,8 +10,9 @@ abbrev sampled : ℕ → ℕ → ℤ → Act
 sampled elapsed load shunt =
     sample 1 (record { elapsed = elapsed; shunt = shunt; thermistor = 2000; load = load }) (4000 ∷ 4000 ∷ 4000 ∷ 4000 ∷ 4000 ∷ [])
 
-abbrev pub counts : List ℕ
-counts = 5 ∷ []
+-- a stand-alone board of five cells
+abbrev pub plans : List ℕ
+plans = 5 ∷ []
 
 abbrev pub session : List Act
 session =

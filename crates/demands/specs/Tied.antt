@@ -6,7 +6,7 @@ use mathlib.Core.List.{List, [], _∷_, _++_}
 use lib.Dec.{eqb}
 use lib.ListN.{length}
 use Rattle.refusal.specs.Said.{Bar, bar, first}
-use Rattle.board.specs.Sample.{outside}
+use Rattle.lists.specs.Compare.{outside}
 use Rattle.frame.specs.Frame.{byte, boardOf, frameBars}
 use Rattle.stack.specs.Row.{placeOf}
 use Rattle.stack.specs.Frame.{framePlace}

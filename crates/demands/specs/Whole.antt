@@ -1,35 +1,45 @@
--- The whole-stack reading a second time, straight from the latches and flags of each board's history: no summary, no number and no search (01, Whole-stack reading; When a fault latches and lets go).
+-- The whole-stack reading a second time, straight from the latches, flags and bits of each board's history: no summary, no number and no search (01, Whole-stack reading; When a fault latches and lets go; 02, ticket 3).
 -- Assumes nothing.
 use Prim.Native.Nat.{ℕ, _-_, _<_, _≤_}
 use mathlib.Core.Path.{_≡_}
 use mathlib.Core.Logic.{_⊎_, _↔_}
-use mathlib.Core.Bool.{true}
+use mathlib.Core.Bool.{Bool, true}
 use mathlib.Core.List.{List}
 use lib.ListN.{length, getD}
 use Rattle.refusal.specs.Said.{accepts}
 use Rattle.settings.specs.Faults.{Fault, SCD, OCD, OV, UV, OT}
-use Rattle.demands.specs.Paper.{latched, flagged}
+use Rattle.demands.specs.Paper.{latched, dsgSet, chgSet, flagged}
 use Rattle.demands.specs.Acts.{Act, reading, outcome, next, openedRow, final}
 use Rattle.demands.specs.Demands.{Log, begun, taken, readingSays}
-use Rattle.demands.specs.Refused.{NoStack, logOf}
+use Rattle.demands.specs.Refused.{NoStack, plansBy, logOf}
 
 -- a fault is latched on board b, and cell c of it is flagged, both numbered from 1; a board that is not there has neither
 abbrev pub Latched : List Log → ℕ → Fault → Type 0
-Latched logs b f = let l = logOf logs b in latched (l .cells) f (l .acts) ≡ true
+Latched logs b f = let l = logOf logs b in latched (l .plan) f (l .acts) ≡ true
 
 abbrev pub Flagged : List Log → ℕ → ℕ → Type 0
-Flagged logs b c = let l = logOf logs b in (1 ≤ c) × (c ≤ l .cells) × (flagged (c - 1) (l .acts) ≡ true)
+Flagged logs b c = let l = logOf logs b in (1 ≤ c) × (c ≤ l .plan .cells) × (flagged (c - 1) (l .acts) ≡ true)
 
 -- the line of board b is up: it has a latch, or a board north of it
 abbrev pub LineUp : List Log → ℕ → Type 0
 LineUp logs b = (a : ℕ) × (b ≤ a) × (f : Fault) × Latched logs a f
 
--- the switches are on at every board: CHG without OV, OCD, SCD and overtemperature, DSG without UV in place of OV
+-- a switch may be on: on a host board its bit of register 1 is set
+abbrev pub May : Log → Bool → Type 0
+May l bit = l .plan .kind ≡ 1 → bit ≡ true
+
+abbrev pub MayChg : List Log → ℕ → Type 0
+MayChg logs b = let l = logOf logs b in May l (chgSet (l .plan) (l .acts))
+
+abbrev pub MayDsg : List Log → ℕ → Type 0
+MayDsg logs b = let l = logOf logs b in May l (dsgSet (l .plan) (l .acts))
+
+-- the switches are on at every board: each may be, CHG without OV, OCD, SCD and overtemperature, DSG without UV in place of OV
 abbrev pub PackChg : List Log → Type 0
-PackChg logs = (b : ℕ) → (¬ Latched logs b OV) × (¬ Latched logs b OCD) × (¬ Latched logs b SCD) × (¬ Latched logs b OT)
+PackChg logs = (b : ℕ) → MayChg logs b × (¬ Latched logs b OV) × (¬ Latched logs b OCD) × (¬ Latched logs b SCD) × (¬ Latched logs b OT)
 
 abbrev pub PackDsg : List Log → Type 0
-PackDsg logs = (b : ℕ) → (¬ Latched logs b UV) × (¬ Latched logs b OCD) × (¬ Latched logs b SCD) × (¬ Latched logs b OT)
+PackDsg logs = (b : ℕ) → MayDsg logs b × (¬ Latched logs b UV) × (¬ Latched logs b OCD) × (¬ Latched logs b SCD) × (¬ Latched logs b OT)
 
 -- cell c of board b is flagged, no lower cell of b is, and no cell of a board further south
 abbrev pub Southernmost : List Log → ℕ → ℕ → Type 0
@@ -55,6 +65,6 @@ pub record Reading (logs : List Log) (says : List ℕ) : Type 0 where
 -- what is told of any logs; and what the library answers after any opening that is a stack, and any acts
 pub record ReadByPaper : Type 0 where
   pub told : (logs : List Log) → Reading logs (readingSays logs)
-  pub answered : (counts : List ℕ) → ¬ NoStack counts → (acts : List Act) → (says : List ℕ)
-      × (outcome (final next (openedRow counts) acts) reading .said ≡ accepts says)
-      × Reading (final taken (begun counts) acts) says
+  pub answered : (plans : List ℕ) → ¬ NoStack (plansBy plans) → (acts : List Act) → (says : List ℕ)
+      × (outcome (final next (openedRow plans) acts) reading .said ≡ accepts says)
+      × Reading (final taken (begun plans) acts) says

@@ -35,6 +35,8 @@ use Rattle.latches.proofs.dsg_on.Reads as latches-dsg-on
 use Rattle.latches.proofs.byte_of.Reads as latches-byte-of
 use Rattle.latches.proofs.status_of.Reads as latches-status-of
 use Rattle.latches.proofs.latch_next.Reads as latches-latch-next
+use Rattle.latches.proofs.risen.Reads as latches-risen
+use Rattle.latches.proofs.control_next.Reads as latches-control-next
 use Rattle.board.proofs.fresh_board.Reads as board-fresh-board
 use Rattle.frame.proofs.check_all.Reads as frame-check-all
 use Rattle.frame.proofs.check_byte.Reads as frame-check-byte
@@ -46,6 +48,13 @@ use Rattle.held.proofs.open_held.Reads as held-open-held
 use Rattle.board.proofs.bad_board.Reads as board-bad-board
 use Rattle.board.proofs.bad_plan.Reads as board-bad-plan
 use Rattle.board.proofs.planned_board.Reads as board-planned-board
+use Rattle.board.proofs.stand_alone.Reads as board-stand-alone
+use Rattle.board.proofs.host.Reads as board-host
+use Rattle.board.proofs.is_host.Reads as board-is-host
+use Rattle.board.proofs.may_dsg.Reads as board-may-dsg
+use Rattle.board.proofs.may_chg.Reads as board-may-chg
+use Rattle.board.proofs.status_by.Reads as board-status-by
+use Rattle.board.proofs.cleared.Reads as board-cleared
 use Rattle.held.proofs.row_count.Reads as held-row-count
 use Rattle.held.proofs.sample_held.Reads as held-sample-held
 use Rattle.held.proofs.read_held.Reads as held-read-held
@@ -163,6 +172,12 @@ latches-status-of-one κs a r t s u = agree
 pub latches-latch-next-one : (κs : _) (a : _) (r t : _) (s u : _) → latches-latch-next.Learnt κs a r s → latches-latch-next.Learnt κs a t u → r ≡ t
 latches-latch-next-one κs a r t s u = agree
 
+pub latches-risen-one : (κs : _) (a : _) (r t : _) (s u : _) → latches-risen.Learnt κs a r s → latches-risen.Learnt κs a t u → r ≡ t
+latches-risen-one κs a r t s u = agree
+
+pub latches-control-next-one : (κs : _) (a : _) (r t : _) (s u : _) → latches-control-next.Learnt κs a r s → latches-control-next.Learnt κs a t u → r ≡ t
+latches-control-next-one κs a r t s u = agree
+
 -- ---- board
 pub board-bad-board-one : (κs : _) (a : _) (r t : _) (s u : _) → board-bad-board.Learnt κs a r s → board-bad-board.Learnt κs a t u → r ≡ t
 board-bad-board-one κs a r t s u = agree
@@ -172,6 +187,27 @@ board-bad-plan-one κs a r t s u = agree
 
 pub board-planned-board-one : (κs : _) (a : _) (r t : _) (s u : _) → board-planned-board.Learnt κs a r s → board-planned-board.Learnt κs a t u → r ≡ t
 board-planned-board-one κs a r t s u = agree
+
+pub board-stand-alone-one : (κs : _) (a : _) (r t : _) (s u : _) → board-stand-alone.Learnt κs a r s → board-stand-alone.Learnt κs a t u → r ≡ t
+board-stand-alone-one κs a r t s u = agree
+
+pub board-host-one : (κs : _) (a : _) (r t : _) (s u : _) → board-host.Learnt κs a r s → board-host.Learnt κs a t u → r ≡ t
+board-host-one κs a r t s u = agree
+
+pub board-is-host-one : (κs : _) (a : _) (r t : _) (s u : _) → board-is-host.Learnt κs a r s → board-is-host.Learnt κs a t u → r ≡ t
+board-is-host-one κs a r t s u = agree
+
+pub board-may-dsg-one : (κs : _) (a : _) (r t : _) (s u : _) → board-may-dsg.Learnt κs a r s → board-may-dsg.Learnt κs a t u → r ≡ t
+board-may-dsg-one κs a r t s u = agree
+
+pub board-may-chg-one : (κs : _) (a : _) (r t : _) (s u : _) → board-may-chg.Learnt κs a r s → board-may-chg.Learnt κs a t u → r ≡ t
+board-may-chg-one κs a r t s u = agree
+
+pub board-status-by-one : (κs : _) (a : _) (r t : _) (s u : _) → board-status-by.Learnt κs a r s → board-status-by.Learnt κs a t u → r ≡ t
+board-status-by-one κs a r t s u = agree
+
+pub board-cleared-one : (κs : _) (a : _) (r t : _) (s u : _) → board-cleared.Learnt κs a r s → board-cleared.Learnt κs a t u → r ≡ t
+board-cleared-one κs a r t s u = agree
 
 pub board-fresh-board-one : (κs : _) (a : _) (r t : _) (s u : _) → board-fresh-board.Learnt κs a r s → board-fresh-board.Learnt κs a t u → r ≡ t
 board-fresh-board-one κs a r t s u = agree

@@ -16,11 +16,11 @@ use Rattle.board.specs.Sample.{sampleOf}
 use Rattle.frame.specs.Way.{replyOf, bufferWith}
 use Rattle.registers.specs.Registers.{obeyedOf}
 use Rattle.reading.specs.Way.{readRow}
-use Rattle.stack.specs.Open.{openAnswer, openRow}
+use Rattle.stack.specs.Open.{openAnswer, openRow, openCountsAnswer, openCountsRow}
 use Rattle.stack.specs.Sample.{sampleAnswer, sampleRow}
 use Rattle.stack.specs.Frame.{frameAnswer, frameRow, frameBuffer}
 use Rattle.stack.specs.Read.{readingOf}
-use Rattle.adomvik.specs.Calls.{openNumber, sampleNumber, sampleOut, boardNumber, boardOut, frameNumber, readNumber, readOut}
+use Rattle.adomvik.specs.Calls.{openNumber, countsNumber, sampleNumber, sampleOut, boardNumber, boardOut, frameNumber, readNumber, readOut}
 use Rattle.held.specs.Held.{framedOf, framedBuffer}
 use Rattle.acts.specs.InPlace.{actTold, actRow}
 use Rattle.text.specs.Way.{placed, Put}
@@ -43,10 +43,12 @@ use Rattle.board.proofs.sample_board as sample-board
 use Rattle.registers.proofs.obey_board as obey-board
 use Rattle.reading.proofs.read_row as read-row
 use Rattle.stack.proofs.open_row as open-row
+use Rattle.stack.proofs.open_counts as open-counts
 use Rattle.stack.proofs.sample_stack as sample-stack
 use Rattle.stack.proofs.frame_stack as frame-stack
 use Rattle.stack.proofs.read_stack as read-stack
 use Rattle.adomvik.proofs.adomvik_open as adomvik-open
+use Rattle.adomvik.proofs.adomvik_open_plans as adomvik-open-plans
 use Rattle.adomvik.proofs.adomvik_sample as adomvik-sample
 use Rattle.adomvik.proofs.adomvik_sample_board as adomvik-sample-board
 use Rattle.adomvik.proofs.adomvik_frame as adomvik-frame
@@ -72,10 +74,13 @@ by-equations : {n : ℕ} (ks : List (Kind n)) (O : RattleType) (result : Takes k
     → gives ks O result lent .says-of κs a r e → gives ks O result lent .says-of κs a t u → (r ≡ t) × (lentAt κs ks e ≡ lentAt κs ks u)
 by-equations ks O result lent κs a r t e u p q = let both = equal-lent κs ks _ e u p q in (agree (both .0) (both .1), both .2)
 
--- ---- the public library: open_row, sample_stack, frame_stack, read_stack
+-- ---- the public library: open_row, open_counts, sample_stack, frame_stack, read_stack
 
 pub open-row-one : Determined stack.openForm (λ M. open-row.spec {M = M})
 open-row-one = record { cited = λ M. stack.open-row-says {M = M}; one = by-equations (stack.openForm .params) (stack.openForm .result) openAnswer (λ row plans. (openRow row plans, tt)) }
+
+pub open-counts-one : Determined stack.countsForm (λ M. open-counts.spec {M = M})
+open-counts-one = record { cited = λ M. stack.open-counts-says {M = M}; one = by-equations (stack.countsForm .params) (stack.countsForm .result) openCountsAnswer (λ row counts. (openCountsRow row counts, tt)) }
 
 pub sample-stack-one : Determined stack.sampleForm (λ M. sample-stack.spec {M = M})
 sample-stack-one = record { cited = λ M. stack.sample-stack-says {M = M}; one = by-equations (stack.sampleForm .params) (stack.sampleForm .result) sampleAnswer (λ row n x mv. (sampleRow row n x mv, tt)) }
@@ -89,7 +94,10 @@ read-stack-one = record { cited = λ M. stack.read-stack-says {M = M}; one = by-
 -- ---- the acts for C
 
 pub adomvik-open-one : Determined adomvik.openForm (λ M. adomvik-open.spec {M = M})
-adomvik-open-one = record { cited = λ M. adomvik.open-says {M = M}; one = by-equations (adomvik.openForm .params) u8 openNumber (λ row counts. (openRow row counts, tt)) }
+adomvik-open-one = record { cited = λ M. adomvik.open-says {M = M}; one = by-equations (adomvik.openForm .params) u8 countsNumber (λ row counts. (openCountsRow row counts, tt)) }
+
+pub adomvik-open-plans-one : Determined adomvik.plansForm (λ M. adomvik-open-plans.spec {M = M})
+adomvik-open-plans-one = record { cited = λ M. adomvik.open-plans-says {M = M}; one = by-equations (adomvik.plansForm .params) u8 openNumber (λ row plans. (openRow row plans, tt)) }
 
 pub adomvik-sample-one : Determined adomvik.sampleForm (λ M. adomvik-sample.spec {M = M})
 adomvik-sample-one = record { cited = λ M. adomvik.sample-says {M = M}; one = by-equations (adomvik.sampleForm .params) u8 (λ row n x mv out. sampleNumber row n x mv) (λ row n x mv out. (sampleRow row n x mv, (sampleOut row n x mv out, tt))) }

@@ -10,7 +10,7 @@ use Rattle.board.specs.declared.Board.{Board}
 use Rattle.board.specs.declared.Readings.{Readings}
 use Rattle.board.specs.Sample.{fresh}
 use Rattle.stack.specs.declared.View.{View}
-use Rattle.stack.specs.Open.{openBars, openingSaying, opened, openAnswer, openRow}
+use Rattle.stack.specs.Open.{openBars, openingSaying, opened, openAnswer, openRow, countPlans}
 use Rattle.stack.specs.Sample.{sampleAnswer, sampleRow}
 use Rattle.stack.specs.Frame.{frameAnswer, frameRow, frameBuffer}
 use Rattle.stack.specs.Read.{readingOf}
@@ -31,10 +31,14 @@ unfoldable pub freshRow : List ℕ → List Board
 freshRow plans = opened plans ++ replicate (16 - length plans) (fresh 0)
 
 -- the opening of as many records as there are plans
-unfoldable pub openOf : List ℕ → Start
-openOf plans =
+unfoldable pub startOf : List ℕ → Start
+startOf plans =
     let rows = openBars (length plans) plans in
     record { stack = unlessRefused rows noStack (record { boards = freshRow plans; count = length plans }); answer = openingSaying (judged rows []) }
+
+-- a stack that is held is one of stand-alone boards, by their cell counts
+abbrev pub openOf : List ℕ → Start
+openOf counts = startOf (countPlans counts)
 
 -- how many records are the row; of a stack that says it has more than 16 boards none, so that every act gets 1
 unfoldable pub rowCount : Stack → ℕ

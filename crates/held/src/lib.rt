@@ -1,6 +1,7 @@
 // A stack that a program holds by value: its row is lent to the public library for one act and comes back.
 ghost use mathlib.Core.Path.{_≡_};
 ghost use Prim.Native.Nat.{_≤_};
+ghost use Rattle.stack.specs.Open.{countPlans};
 ghost use Rattle.held.specs.Held.{noStack, openedIn, openOf, rowCount, sampledIn, framedIn, framedReply, readIn, sampledOf, framedOf, framedBuffer, readOf};
 use board::Answer;
 use board::Board;
@@ -58,12 +59,12 @@ pub fn row_count(s: Stack) -> usize
 }
 
 // The first n records are lent as the row; so below.
-fn open_in(boards: [Board; 16], n: usize, plans: &[u32]) -> OpenedRow
+fn open_in(boards: [Board; 16], n: usize, counts: &[u32]) -> OpenedRow
     requires { ⌜ n ≤ 16 ⌝ }
-    ensures { λ r. ⌜ r ≡ openedIn boards n (now (plans .entry)) ⌝ }
+    ensures { λ r. ⌜ r ≡ openedIn boards n (countPlans (now (counts .entry))) ⌝ }
 {
     let mut row = boards;
-    let answer = stack::open_row(&mut row[..n], plans);
+    let answer = stack::open_counts(&mut row[..n], counts);
     OpenedRow {
         boards: row,
         answer: answer,
@@ -112,12 +113,12 @@ fn no_stack() -> Stack
     }
 }
 
-// A plan for each board, southernmost first, gives the stack.
-pub fn open_held(plans: &[u32]) -> Start
-    ensures { λ r. ⌜ r ≡ openOf (now (plans .entry)) ⌝ }
+// The cell count of each stand-alone board, southernmost first, gives the stack.
+pub fn open_held(counts: &[u32]) -> Start
+    ensures { λ r. ⌜ r ≡ openOf (now (counts .entry)) ⌝ }
 {
     let none = no_stack();
-    let n = plans.len();
+    let n = counts.len();
     if 16 < n {
         return Start {
             stack: none,
@@ -125,7 +126,7 @@ pub fn open_held(plans: &[u32]) -> Start
         };
     }
     let boards = none.boards;
-    let r = open_in(boards, n, plans);
+    let r = open_in(boards, n, counts);
     let opened = r.boards;
     let answer = r.answer;
     match answer {

@@ -15,8 +15,8 @@ use Rattle.latches.specs.Latches.{anyLatch, chgOn, dsgOn, latchesOf, lat
 abbrev Right : ℕ → Type 0
 Right byte =
     (not (eqb (bitAnd byte 31) 0) ≡ anyLatch (latchesOf byte))
-    × (eqb (bitAnd byte 23) 0 ≡ chgOn (latchesOf byte))
-    × (eqb (bitAnd byte 27) 0 ≡ dsgOn (latchesOf byte))
+    × (eqb (bitAnd byte 23) 0 ≡ chgOn true (latchesOf byte))
+    × (eqb (bitAnd byte 27) 0 ≡ dsgOn true (latchesOf byte))
     × (byte % 32 ≡ latchesByte (latchesOf byte))
 
 -- the same as a test
@@ -33,10 +33,10 @@ abbrev any-right : ℕ → Bool
 any-right byte = same (not (eqb (bitAnd byte 31) 0)) (anyLatch (latchesOf byte))
 
 abbrev chg-right : ℕ → Bool
-chg-right byte = same (eqb (bitAnd byte 23) 0) (chgOn (latchesOf byte))
+chg-right byte = same (eqb (bitAnd byte 23) 0) (chgOn true (latchesOf byte))
 
 abbrev dsg-right : ℕ → Bool
-dsg-right byte = same (eqb (bitAnd byte 27) 0) (dsgOn (latchesOf byte))
+dsg-right byte = same (eqb (bitAnd byte 27) 0) (dsgOn true (latchesOf byte))
 
 abbrev low-right : ℕ → Bool
 low-right byte = eqb (byte % 32) (latchesByte (latchesOf byte))

@@ -15,9 +15,14 @@ unfolding latchesByte number
 byte-sum t = omega arith
 
 -- register 0 has the latches, and the switches above them
-pub register0-sum : (t : Latches) → register0 t ≡ latchesByte t + 64 * bit (dsgOn t) + 128 * bit (chgOn t)
+pub register0-sum : (dsg chg : Bool) (t : Latches) → register0 dsg chg t ≡ latchesByte t + 64 * bit (dsgOn dsg t) + 128 * bit (chgOn chg t)
 unfolding register0 latchesByte number
-register0-sum t = omega arith
+register0-sum dsg chg t = omega arith
+
+-- register 1 of its three bits
+pub control-sum : (clear dsg chg : Bool) → number (clear ∷ dsg ∷ chg ∷ []) ≡ bit clear + 2 * bit dsg + 4 * bit chg
+unfolding number
+control-sum clear dsg chg = omega arith
 
 -- what was kept is what is taken out again
 pub latches-kept : (t : Latches) → latchesOf (latchesByte t) ≡ t

@@ -1,1 +1,2 @@
 pub mod Latches
+pub mod Control

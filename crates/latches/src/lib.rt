@@ -1,8 +1,9 @@
-// The latches of the five faults, the switches, and register 0 (01, Frames and registers; When a fault latches and lets go).
+// The latches of the five faults, the switches, register 0 and a host board's register 1 (01, Frames and registers; When a fault latches and lets go; 02, ticket 3).
 ghost use mathlib.Core.Path.{_≡_};
 ghost use Prim.Native.Nat.{_≤_};
 ghost use Rattle.lists.specs.Marks.{bit};
-ghost use Rattle.latches.specs.Latches.{latchNext, latchesOf, latchesByte, anyLatch, chgOn, dsgOn, register0};
+ghost use Rattle.latches.specs.Latches.{latchNext, risen, latchesOf, latchesByte, anyLatch, chgOn, dsgOn, register0};
+ghost use Rattle.latches.specs.Control.{controlNext};
 
 // Which faults are latched.
 pub struct Latches {
@@ -32,16 +33,16 @@ pub fn any_latch(byte: u8) -> bool
     (byte & 31) != 0
 }
 
-pub fn chg_on(byte: u8) -> bool
-    ensures { λ r. ⌜ r ≡ chgOn (latchesOf byte) ⌝ }
+pub fn chg_on(may: bool, byte: u8) -> bool
+    ensures { λ r. ⌜ r ≡ chgOn may (latchesOf byte) ⌝ }
 {
-    (byte & 23) == 0
+    may & ((byte & 23) == 0)
 }
 
-pub fn dsg_on(byte: u8) -> bool
-    ensures { λ r. ⌜ r ≡ dsgOn (latchesOf byte) ⌝ }
+pub fn dsg_on(may: bool, byte: u8) -> bool
+    ensures { λ r. ⌜ r ≡ dsgOn may (latchesOf byte) ⌝ }
 {
-    (byte & 27) == 0
+    may & ((byte & 27) == 0)
 }
 
 fn bit_of(b: bool) -> u8
@@ -57,15 +58,41 @@ pub fn byte_of(t: Latches) -> u8
     bit_of(t.scd) + 2 * bit_of(t.ocd) + 4 * bit_of(t.ov) + 8 * bit_of(t.uv) + 16 * bit_of(t.ot)
 }
 
-// Register 0 of the byte that a board keeps: the latches, then DSG and CHG.
-pub fn status_of(byte: u8) -> u8
-    ensures { λ r. ⌜ r ≡ register0 (latchesOf byte) ⌝ }
+// Register 0 of the byte that a board keeps: the latches, then DSG and CHG, each on where it may be.
+pub fn status_of(dsg: bool, chg: bool, byte: u8) -> u8
+    ensures { λ r. ⌜ r ≡ register0 dsg chg (latchesOf byte) ⌝ }
 {
-    byte % 32 + 64 * bit_of(dsg_on(byte)) + 128 * bit_of(chg_on(byte))
+    byte % 32 + 64 * bit_of(dsg_on(dsg, byte)) + 128 * bit_of(chg_on(chg, byte))
 }
 
 pub fn latch_next(latched: bool, stands: bool, lets_go: bool) -> bool
     ensures { λ r. ⌜ r ≡ latchNext latched stands «lets_go» ⌝ }
 {
     if latched { !lets_go } else { stands }
+}
+
+// The faults that latched.
+pub fn risen(old: Latches, new: Latches) -> Latches
+    ensures { λ r. ⌜ r ≡ risen old new ⌝ }
+{
+    Latches {
+        scd: new.scd & !old.scd,
+        ocd: new.ocd & !old.ocd,
+        ov: new.ov & !old.ov,
+        uv: new.uv & !old.uv,
+        ot: new.ot & !old.ot,
+    }
+}
+
+// Register 1 of a host board after a sample at which these faults latched.
+pub fn control_next(control: u8, up: Latches) -> u8
+    ensures { λ r. ⌜ r ≡ controlNext control up ⌝ }
+{
+    if up.scd | up.ocd | up.ov | up.uv | up.ot {
+        let clear = control / 1 % 2 == 1;
+        let dsg = (control / 2 % 2 == 1) & !(up.uv | up.ocd | up.scd | up.ot);
+        let chg = (control / 4 % 2 == 1) & !(up.ov | up.ocd | up.scd | up.ot);
+        return bit_of(clear) + 2 * bit_of(dsg) + 4 * bit_of(chg);
+    }
+    control
 }

@@ -1,7 +1,7 @@
--- Two numbers compared, in the paper's words.
+-- Numbers compared, in the paper's words.
 -- Assumes nothing.
 use Prim.Native.Nat.{ℕ}
-use mathlib.Core.Bool.{Bool}
+use mathlib.Core.Bool.{Bool, _||_}
 use lib.Dec.{ltb, leb}
 
 infix 50 _above_
@@ -19,3 +19,7 @@ x atOrAbove level = leb level x
 
 abbrev pub _atOrBelow_ : ℕ → ℕ → Bool
 x atOrBelow level = leb x level
+
+-- not from low to high
+abbrev pub outside : ℕ → ℕ → ℕ → Bool
+outside low high n = n below low || n above high

@@ -19,7 +19,7 @@ use Rattle.board.specs.Sample.{badBoard}
 use Rattle.reading.specs.declared.Place.{Place}
 use Rattle.reading.specs.Reading.{summaryOf, place, firstFlagged}
 use Rattle.reading.specs.Way.{placeAt, firstOn, firstFrom}
-use Rattle.board.proofs.Counts as counts
+use Rattle.board.proofs.Counts.{good-plan}
 
 -- ---- what the loops do
 abbrev pub flaggedAt : Board → ℕ → Bool
@@ -62,7 +62,7 @@ unfolding firstFrom firstFlagged every summaryOf
 row-first i [] r good = refl
 row-first i (b ∷ row) r good =
     let parts = both (not (badBoard b)) (every (λ b. not (badBoard b)) row) good in
-    let few = counts.within 5 10 (b .count) (parts .0) .1 in
+    let few = good-plan (record { kind = b .kind; cells = b .count }) (parts .0) .2 in
     board-first b i 0 (b .count) (firstFrom (i + 1) row) (omega arith) (omega (arith, few)) ∙ rw (div-one (b .flags), row-first (i + 1) row (omega arith) (parts .1))
 
 pub first-good : (row : List Board) → length row ≤ 16 → every (λ b. not (badBoard b)) row ≡ true → firstFrom 0 row ≡ firstFlagged 1 (map summaryOf row)

@@ -1,4 +1,4 @@
--- The whole-stack reading of a row of boards, southernmost first (01, Whole-stack reading).
+-- The whole-stack reading of a row of boards, southernmost first (01, Whole-stack reading; 02, ticket 3).
 -- Assumes nothing.
 use Prim.Native.Nat.{ℕ, _+_}
 use mathlib.Core.Bool.{Bool, false, cond, _||_}
@@ -7,6 +7,7 @@ use lib.Dec.{eqb}
 use Rattle.lists.specs.Every.{every}
 use Rattle.lists.specs.Marks.{bit, marks, lowest}
 use Rattle.board.specs.declared.Board.{Board}
+use Rattle.board.specs.Host.{mayDsg, mayChg}
 use Rattle.latches.specs.Latches.{latchesOf, anyLatch}
 use Rattle.latches.specs.Latches as boards
 use Rattle.reading.specs.declared.Summary.{Summary}
@@ -18,8 +19,8 @@ unfoldable pub summaryOf : Board → Summary
 summaryOf b =
     record {
       latched = anyLatch (latchesOf (b .latches));
-      chg = boards.chgOn (latchesOf (b .latches));
-      dsg = boards.dsgOn (latchesOf (b .latches));
+      chg = boards.chgOn (mayChg (b .kind) (b .control)) (latchesOf (b .latches));
+      dsg = boards.dsgOn (mayDsg (b .kind) (b .control)) (latchesOf (b .latches));
       count = b .count;
       flags = b .flags;
     }

@@ -23,8 +23,8 @@ fn summary_of(b: Board) -> Summary
 {
     Summary {
         latched: latches::any_latch(b.latches),
-        chg: latches::chg_on(b.latches),
-        dsg: latches::dsg_on(b.latches),
+        chg: latches::chg_on(board::may_chg(b.kind, b.control), b.latches),
+        dsg: latches::dsg_on(board::may_dsg(b.kind, b.control), b.latches),
         count: b.count,
         flags: b.flags,
     }

@@ -78,4 +78,4 @@ pub obeyed-said : (b : Board) (asked : Request)
 unfolding obeyedOf
 obeyed-said b asked =
     let write = writes (asked .address) in
-    said (noRegister write (asked .register)) (not (fits write (asked .register) (asked .value))) (programs write (asked .register) && crossed (b .staged)) (programs write (asked .register) && lacksCycle b) _
+    said (noRegister (b .kind) write (asked .register)) (not (fits (b .kind) write (asked .register) (asked .value))) (programs write (asked .register) && crossed (b .staged)) (programs write (asked .register) && lacksCycle b) _

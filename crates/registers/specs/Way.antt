@@ -2,8 +2,8 @@
 -- shown in proofs/Ways.antt; nobody need believe it.
 -- Assumes nothing.
 use Prim.Native.Nat.{ℕ, _+_}
-use mathlib.Core.Bool.{Bool, true, false, cond, not, _||_}
-use lib.Dec.{ltb}
+use mathlib.Core.Bool.{Bool, true, false, cond, not, _&&_, _||_}
+use lib.Dec.{ltb, eqb}
 use Rattle.refusal.specs.declared.Refusal.{Refusal}
 use Rattle.refusal.specs.declared.Refusal.the-variants.{NoRegister, BadValue, NoCycle, LevelsCrossed}
 use Rattle.settings.specs.Bytes.{same}
@@ -16,7 +16,7 @@ use Rattle.frame.specs.Frame.{writes}
 use Rattle.registers.specs.declared.Obeyed.{Obeyed}
 use Rattle.registers.specs.declared.Found.{Found}
 use Rattle.registers.specs.Map.{noRegister, fits, readValue}
-use Rattle.registers.specs.Registers.{shownOf, programs, staging, spentTo, lacksCycle}
+use Rattle.registers.specs.Registers.{shownOf, programs, steered, staging, spentTo, lacksCycle}
 
 -- the two kinds of outcome
 abbrev pub gives : ℕ → Outcome
@@ -25,23 +25,29 @@ gives v = record { verdict = verdict.Accepted; value = v }
 abbrev pub denies : Refusal → Outcome
 denies why = record { verdict = verdict.Refused why; value = 0 }
 
--- 9 and 10, which the frame alone decides, in the table's order
-abbrev pub barred : Request → Bool
-barred asked =
+-- 9 and 10, which the frame and the board's kind decide, in the table's order
+abbrev pub barred : Board → Request → Bool
+barred b asked =
     let write = writes (asked .address) in
-    noRegister write (asked .register) || not (fits write (asked .register) (asked .value))
+    noRegister (b .kind) write (asked .register) || not (fits (b .kind) write (asked .register) (asked .value))
 
-abbrev pub barOf : Request → Outcome
-barOf asked = denies (cond (noRegister (writes (asked .address)) (asked .register)) NoRegister BadValue)
+abbrev pub barOf : Board → Request → Outcome
+barOf b asked = denies (cond (noRegister (b .kind) (writes (asked .address)) (asked .register)) NoRegister BadValue)
 
--- of the others: one that programs, and one that stages
+-- of the others: one that programs, one that writes register 1, and one that stages
 abbrev pub asksProgramming : Request → Bool
 asksProgramming asked = programs (writes (asked .address)) (asked .register)
+
+abbrev pub asksSteering : Request → Bool
+asksSteering asked = writes (asked .address) && eqb (asked .register) 1
 
 abbrev pub asksStaging : Request → Bool
 asksStaging asked = writes (asked .address)
 
--- what a frame does to the board: a write that stages gives the byte back
+-- what a frame does to the board: a write to register 1 and one that stages give the byte back
+unfoldable pub steeredBy : Board → Request → Obeyed
+steeredBy b asked = record { board = steered b (asked .value); outcome = gives (asked .value) }
+
 unfoldable pub stagedBy : Board → Request → Obeyed
 stagedBy b asked = record { board = staging b (asked .register) (asked .value); outcome = gives (asked .value) }
 
@@ -75,8 +81,11 @@ abbrev pub readBy : Board → Request → Outcome
 readBy b asked = gives (readValue (shownOf b) (asked .register))
 
 -- the ways of a frame, in the table's order
-abbrev pub waysOf : Board → Request → Obeyed
-waysOf b asked =
-    cond (barred asked) (leaves b (barOf asked))
-    (cond (asksProgramming asked) (programmedBy b)
+unfoldable pub carriedOut : Board → Request → Obeyed
+carriedOut b asked =
+    cond (asksProgramming asked) (programmedBy b)
+    (cond (asksSteering asked) (steeredBy b asked)
     (cond (asksStaging asked) (stagedBy b asked) (leaves b (readBy b asked))))
+
+abbrev pub waysOf : Board → Request → Obeyed
+waysOf b asked = cond (barred b asked) (leaves b (barOf b asked)) (carriedOut b asked)

@@ -1,9 +1,9 @@
-// The register map of one board, and programming (01, Frames and registers).
+// The register map of one board, and what a frame does to its record (01, Frames and registers; 02, tickets 1 and 3).
 ghost use mathlib.Core.Path.{_≡_};
 ghost use Rattle.frame.specs.Frame.{writes};
 ghost use Rattle.registers.specs.Map.{noRegister, fits, readValue};
-ghost use Rattle.registers.specs.Registers.{shownOf, lacksCycle, obeyedOf};
-ghost use Rattle.registers.specs.Way.{gives, denies, barred, barOf, asksProgramming, asksStaging, readBy, stagedBy, cyclesAfter, rests, lookOf, spentBy, programmedBy};
+ghost use Rattle.registers.specs.Registers.{shownOf, latchesSteered, lacksCycle, obeyedOf};
+ghost use Rattle.registers.specs.Way.{gives, denies, barred, barOf, asksProgramming, asksSteering, asksStaging, readBy, steeredBy, stagedBy, cyclesAfter, rests, lookOf, spentBy, programmedBy, carriedOut};
 use board::Board;
 use board::Currents;
 use frame::Outcome;
@@ -53,12 +53,13 @@ fn is_write(address: u8) -> bool
     address % 2 == 1
 }
 
-// The register is not there, or not to be written.
-fn no_register(writes: bool, register: u8) -> bool
-    ensures { λ r. ⌜ r ≡ noRegister writes register ⌝ }
+// The register is not there on a board of this kind, or not to be written.
+fn no_register(kind: u8, writes: bool, register: u8) -> bool
+    ensures { λ r. ⌜ r ≡ noRegister kind writes register ⌝ }
 {
     match register {
         0 => writes,
+        1 => !board::is_host(kind),
         6..=11 => false,
         _ => true,
     }
@@ -68,16 +69,26 @@ fn no_register(writes: bool, register: u8) -> bool
 const KEY: u8 = 0x41;
 
 // A read carries 0, a write what its register takes.
-fn value_fits(writes: bool, register: u8, value: u8) -> bool
-    ensures { λ r. ⌜ r ≡ fits writes register value ⌝ }
+fn value_fits(kind: u8, writes: bool, register: u8, value: u8) -> bool
+    ensures { λ r. ⌜ r ≡ fits kind writes register value ⌝ }
 {
     if writes {
         if register == 11 {
             return value == KEY;
         }
+        if register == 1 {
+            return board::is_host(kind) & (value < 8);
+        }
         return Settings::allows(register, value);
     }
     value == 0
+}
+
+// Register 1 as it is read; a stand-alone board has none.
+fn control_read(b: Board) -> u8
+    ensures { λ r. ⌜ r ≡ readValue (shownOf b) 1 ⌝ }
+{
+    if board::is_host(b.kind) { b.control } else { 0 }
 }
 
 // A read of the settings gives the working bytes, so that a worn memory shows.
@@ -85,7 +96,8 @@ fn read(b: Board, register: u8) -> u8
     ensures { λ r. ⌜ r ≡ readValue (shownOf b) register ⌝ }
 {
     match register {
-        0 => latches::status_of(b.latches),
+        0 => board::status_by(b.kind, b.control, b.latches),
+        1 => control_read(b),
         11 => b.cycles,
         _ => b.working.byte(register),
     }
@@ -93,22 +105,22 @@ fn read(b: Board, register: u8) -> u8
 
 // ---- which way a frame goes, in the table's order
 
-// Refusals 9 and 10, which the frame alone decides. What takes a value is there to be written.
-fn barred(asked: Request) -> bool
-    ensures { λ r. ⌜ r ≡ barred asked ⌝ }
+// Refusals 9 and 10, which the frame and the board's kind decide. What takes a value is there to be written.
+fn barred(b: Board, asked: Request) -> bool
+    ensures { λ r. ⌜ r ≡ barred b asked ⌝ }
 {
     let writes = is_write(asked.address);
-    let fits = value_fits(writes, asked.register, asked.value);
+    let fits = value_fits(b.kind, writes, asked.register, asked.value);
     if writes {
         return !fits;
     }
-    no_register(false, asked.register) | !fits
+    no_register(b.kind, false, asked.register) | !fits
 }
 
-fn bar_of(asked: Request) -> Outcome
-    ensures { λ r. ⌜ r ≡ barOf asked ⌝ }
+fn bar_of(b: Board, asked: Request) -> Outcome
+    ensures { λ r. ⌜ r ≡ barOf b asked ⌝ }
 {
-    if no_register(is_write(asked.address), asked.register) {
+    if no_register(b.kind, is_write(asked.address), asked.register) {
         return denied(Refusal::NoRegister);
     }
     denied(Refusal::BadValue)
@@ -118,6 +130,12 @@ fn asks_programming(asked: Request) -> bool
     ensures { λ r. ⌜ r ≡ asksProgramming asked ⌝ }
 {
     is_write(asked.address) & (asked.register == 11)
+}
+
+fn asks_steering(asked: Request) -> bool
+    ensures { λ r. ⌜ r ≡ asksSteering asked ⌝ }
+{
+    is_write(asked.address) & (asked.register == 1)
 }
 
 fn asks_staging(asked: Request) -> bool
@@ -190,6 +208,30 @@ fn reply_read(b: Board, asked: Request) -> Outcome
     given(read(b, asked.register))
 }
 
+// The latches after a write to register 1.
+fn latches_steered(b: Board, value: u8) -> u8
+    ensures { λ r. ⌜ r ≡ latchesSteered b value ⌝ }
+{
+    if (b.control / 1 % 2 == 1) & !(value / 1 % 2 == 1) {
+        return board::cleared(b.working, b.last, b.latches);
+    }
+    b.latches
+}
+
+// A write to register 1.
+fn steer(b: Board, asked: Request) -> Obeyed
+    ensures { λ r. ⌜ r ≡ steeredBy b asked ⌝ }
+{
+    let latches = latches_steered(b, asked.value);
+    let mut next = b;
+    next.latches = latches;
+    next.control = asked.value;
+    Obeyed {
+        board: next,
+        outcome: given(asked.value),
+    }
+}
+
 // A write that stages.
 fn stage(b: Board, asked: Request) -> Obeyed
     ensures { λ r. ⌜ r ≡ stagedBy b asked ⌝ }
@@ -224,6 +266,14 @@ fn spend(b: Board, _asked: Request) -> Obeyed
 
 // ---- a frame to a lent record
 
+fn steer_board(b: &mut Board, asked: Request) -> Outcome
+    ensures { λ r. ⌜ (r ≡ steeredBy (now (b .entry)) asked .outcome) × (now (b .exit) ≡ steeredBy (now (b .entry)) asked .board) ⌝ }
+{
+    let s = steer(*b, asked);
+    *b = s.board;
+    s.outcome
+}
+
 fn stage_board(b: &mut Board, asked: Request) -> Outcome
     ensures { λ r. ⌜ (r ≡ stagedBy (now (b .entry)) asked .outcome) × (now (b .exit) ≡ stagedBy (now (b .entry)) asked .board) ⌝ }
 {
@@ -251,19 +301,28 @@ fn program_board(b: &mut Board, asked: Request) -> Outcome
     outcome_of(found)
 }
 
-// A frame that was sent to this board: refusals 9, 10, 13, 11 in order, or what it asks. It copies of the record what its way needs,
-// and stores only where it changes something.
-pub fn obey_board(b: &mut Board, asked: Request) -> Outcome
-    ensures { λ r. ⌜ (r ≡ obeyedOf (now (b .entry)) asked .outcome) × (now (b .exit) ≡ obeyedOf (now (b .entry)) asked .board) ⌝ }
+// A frame that neither 9 nor 10 refuses. It copies of the record what its way needs, and stores only where it changes something.
+fn carry_out(b: &mut Board, asked: Request) -> Outcome
+    ensures { λ r. ⌜ (r ≡ carriedOut (now (b .entry)) asked .outcome) × (now (b .exit) ≡ carriedOut (now (b .entry)) asked .board) ⌝ }
 {
-    if barred(asked) {
-        return bar_of(asked);
-    }
     if asks_programming(asked) {
         return program_board(b, asked);
+    }
+    if asks_steering(asked) {
+        return steer_board(b, asked);
     }
     if asks_staging(asked) {
         return stage_board(b, asked);
     }
     reply_read(*b, asked)
+}
+
+// A frame that was sent to this board: refusals 9, 10, 13, 11 in order, or what it asks.
+pub fn obey_board(b: &mut Board, asked: Request) -> Outcome
+    ensures { λ r. ⌜ (r ≡ obeyedOf (now (b .entry)) asked .outcome) × (now (b .exit) ≡ obeyedOf (now (b .entry)) asked .board) ⌝ }
+{
+    if barred(*b, asked) {
+        return bar_of(*b, asked);
+    }
+    carry_out(b, asked)
 }

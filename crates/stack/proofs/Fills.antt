@@ -3,23 +3,25 @@
 use Prim.Native.Nat.{ℕ, zero, suc, _+_, _-_, _<_, _≤_}
 use native.Mathlib.Omega.{arith}
 use native.Mathlib.Numerals.{add-one}
-use mathlib.Core.Path.{_≡_, refl, sym, _∙_}
-use mathlib.Core.Bool.{Bool, true, false, true≢false, not, _||_}
-use mathlib.Core.List.{List, _++_, map, append-nil}
+use mathlib.Core.Path.{_≡_, refl, sym, ap, _∙_}
+use mathlib.Core.Bool.{Bool, true, false, true≢false, not, _&&_, _||_}
+use mathlib.Core.List.{List, [], _∷_, _++_, map, append-nil}
 use lib.Dec.{ltb, eqb}
 use lib.ListN.{length, getD, set, take, drop, length-set}
 use lib.Seq.{take-all, drop-length, drop-cons, take-suc-set, append-snoc}
 use borrow.Author.Tests.{ltb-true, lt-ltb, le-ltb, eqb-true}
-use Rattle.lists.proofs.Split.{split}
+use Rattle.lists.specs.Every.{every}
+use Rattle.lists.proofs.Split.{split, both}
 use Rattle.lists.proofs.Every.{every-at}
 use Rattle.board.specs.declared.Board.{Board}
-use Rattle.board.specs.Sample.{fresh, badPlan}
+use Rattle.board.specs.Plan.{badPlan, planOf, standAlone}
+use Rattle.board.specs.Sample.{fresh}
 use Rattle.board.specs.Way.{plannedOf}
 use Rattle.stack.specs.Row.{badCount, boardAt}
-use Rattle.stack.specs.Open.{goodPlans, openAnswer, openRow}
-use Rattle.board.proofs.Counts.{within}
+use Rattle.stack.specs.Open.{goodPlans, openAnswer, openRow, countPlans, openCountsAnswer, openCountsRow}
+use Rattle.board.proofs.Counts.{good-plan}
 use Rattle.stack.specs.declared.Progress.{Progress}
-use Rattle.stack.specs.Way.{fillFrom, refusedFill, startOf, more, left, placedOf, fillAt, fillRowAt, turnsEnd, turnsRow, fillEnd, fillRow, openingBy}
+use Rattle.stack.specs.Way.{fillFrom, refusedFill, startOf, more, left, placedOf, fillAt, fillRowAt, turnsEnd, turnsRow, fillEnd, fillRow, openingBy, plainCounts, noOpening}
 
 -- a record is put at a place of the row, and past its end the filling is refused
 module _ (row : List Board) (x : Progress) (plans : List ℕ) where
@@ -70,7 +72,7 @@ module _ (row : List Board) (x : Progress) (plans : List ℕ) where
 -- a good plan is of a board as it starts
 module _ (plans : List ℕ) (good : goodPlans plans ≡ true) where
   starts : (i : ℕ) → i < length plans → plannedOf (getD plans i 0) ≡ fresh (getD plans i 0)
-  starts i p = let most = within 5 10 (getD plans i 0) (every-at (λ plan. not (badPlan plan)) plans i 0 good p) .1 in rw (lt-ltb (getD plans i 0) 256 (omega arith))
+  starts i p = let kind = good-plan (planOf (getD plans i 0)) (every-at (λ plan. not (badPlan (planOf plan))) plans i 0 good p) .0 in rw (lt-ltb (getD plans i 0) 65536 (omega (arith, kind)))
 
   -- one turn within the row
   module _ (row : List Board) (same : length row ≡ length plans) (i : ℕ) (p : i < length plans) where
@@ -120,3 +122,39 @@ opens row plans =
     let same = sym (eqb-true (length plans) (length row) (ok .0)) in
     let whole : 0 + (length plans - 0) ≡ length plans = omega arith in
     (rw (e, same, all-end plans (ok .1) (length plans - 0) 0 row same whole), rw (e, same) (all-row plans (ok .1) (length plans - 0) 0 row same whole)))
+
+-- ---- an opening from counts: counts below 256 are their plans, and any other is none that can be opened
+pub plain-are : (counts : List ℕ) → plainCounts counts ≡ true → countPlans counts ≡ counts
+unfolding every
+plain-are [] e = refl
+plain-are (n ∷ counts) e =
+    let parts = both (ltb n 256) (plainCounts counts) e in
+    let here : standAlone n ≡ n = rw (parts .0) (omega arith) in
+    ap (λ (m : ℕ). m ∷ countPlans counts) here ∙ ap (λ (rest : List ℕ). n ∷ rest) (plain-are counts (parts .1))
+
+and-no : (b : Bool) → (b && false) ≡ false
+and-no true = refl
+and-no false = refl
+
+or-yes : (a b : Bool) → (a || b || true) ≡ true
+or-yes true b = refl
+or-yes false true = refl
+or-yes false false = refl
+
+none-good : (counts : List ℕ) → plainCounts counts ≡ false → goodPlans (countPlans counts) ≡ false
+unfolding every
+none-good [] e = absurd (true≢false e)
+none-good (n ∷ counts) e =
+    split (ltb n 256)
+    (λ h. ap (λ (t : Bool). not (badPlan (planOf (standAlone n))) && t) (none-good counts (rw h at e)) ∙ and-no (not (badPlan (planOf (standAlone n)))))
+    (λ h. rw h)
+
+pub opens-plain : (row : List Board) (counts : List ℕ) → plainCounts counts ≡ true → (openAnswer row counts ≡ openCountsAnswer row counts) × (openRow row counts ≡ openCountsRow row counts)
+opens-plain row counts e = (ap (openAnswer row) (sym (plain-are counts e)), ap (openRow row) (sym (plain-are counts e)))
+
+pub opens-none : (row : List Board) (counts : List ℕ) → plainCounts counts ≡ false → (noOpening ≡ openCountsAnswer row counts) × (row ≡ openCountsRow row counts)
+unfolding openAnswer openRow
+opens-none row counts e =
+    let plans = countPlans counts in
+    let refused = ap (λ (t : Bool). not (eqb (length plans) (length row)) || badCount (length plans) || not t) (none-good counts e) ∙ or-yes (not (eqb (length plans) (length row))) (badCount (length plans)) in
+    (rw refused, rw refused)

@@ -31,7 +31,7 @@ use Rattle.stack.specs.Row.{badCount, goodRow, noBoard, placeOf, boardAt
 use Rattle.stack.specs.Sample.{sampleAnswer, sampleRow}
 use Rattle.stack.specs.Way.{noRowSample, sampleAnswerAt, sampleRowAt, obeyOutcomeAt, obeyRowAt, noRowReply, takenAnswer, takenRow, frameAnswerIn, frameRowIn, frameBufferIn}
 use Rattle.stack.specs.Frame.{framePlace, frameBoard, boardFramed, frameAnswer, frameRow, frameBuffer}
-use Rattle.board.proofs.Counts.{within}
+use Rattle.board.proofs.Counts.{within, good-plan}
 
 -- a record that is new only where the act is accepted
 set-kept : (accepted : Bool) (row : List Board) (at : ℕ) (new : Board) → set row at (cond accepted new (boardAt row at)) ≡ cond accepted (set row at new) row
@@ -44,11 +44,14 @@ module _ (row : List Board) (good : goodRow row ≡ true) where
   unfolding goodRow
   row-size = within 1 16 (length row) (both (not (badCount (length row))) (every (λ b. not (badBoard b)) row) good .0)
 
-  -- each of them with 5 to 10 cells
+  -- each of them by a good plan, so with at most ten cells
   pub board-good : (at : ℕ) → at < length row → badBoard (boardAt row at) ≡ false
   unfolding goodRow
   board-good at p =
       not-yes (badBoard (boardAt row at)) (every-at (λ b. not (badBoard b)) row at (fresh 0) (both (not (badCount (length row))) (every (λ b. not (badBoard b)) row) good .1) p)
+
+  pub board-few : (at : ℕ) → at < length row → boardAt row at .count ≤ 10
+  board-few at p = let b = boardAt row at in good-plan (record { kind = b .kind; cells = b .count }) (ap not (board-good at p)) .2
 
   place-next : (k : ℕ) → placeOf (suc k) ≡ k
   place-next k = rw (ne-eqb (suc k) 0 (λ e. omega arith)) (omega arith)

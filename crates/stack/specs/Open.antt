@@ -1,4 +1,4 @@
--- The opening of a lent row (01, The stack and its readings; Refusal number 1).
+-- The opening of a lent row, by plans and by bare cell counts (01, The stack and its readings; Refusal number 1; 02, ticket 3).
 -- Assumes nothing.
 use Prim.Native.Nat.{ℕ}
 use mathlib.Core.Bool.{Bool, cond, not, _||_}
@@ -9,14 +9,15 @@ use Rattle.refusal.specs.Refusals.{numberOf, numbered}
 use Rattle.refusal.specs.Said.{Said, refuses, accepts, Bar, bar, judged, unlessRefused}
 use Rattle.lists.specs.Every.{every}
 use Rattle.board.specs.declared.Board.{Board}
-use Rattle.board.specs.Sample.{fresh, badPlan}
+use Rattle.board.specs.Plan.{badPlan, planOf, standAlone}
+use Rattle.board.specs.Sample.{fresh}
 use Rattle.stack.specs.declared.Opening.{Opening}
 use Rattle.stack.specs.declared.Opening.the-variants.{Opened, Refused}
 use Rattle.stack.specs.Row.{badCount}
 
--- each board has 5 to 10 cells
+-- each board is of a kind that there is and has 5 to 10 cells
 abbrev pub goodPlans : List ℕ → Bool
-goodPlans plans = every (λ plan. not (badPlan plan)) plans
+goodPlans plans = every (λ plan. not (badPlan (planOf plan))) plans
 
 -- refusal 1: no plan for each record of the row and none beside, without 1 to 16 of them, or a bad plan
 abbrev pub openBars : ℕ → List ℕ → List Bar
@@ -40,3 +41,13 @@ openAnswer row plans = openingSaying (judged (openBars (length row) plans) [])
 
 unfoldable pub openRow : List Board → List ℕ → List Board
 openRow row plans = unlessRefused (openBars (length row) plans) row (opened plans)
+
+-- ---- the opening of document 01, from the cell count of each board: they are stand-alone
+abbrev pub countPlans : List ℕ → List ℕ
+countPlans counts = map standAlone counts
+
+abbrev pub openCountsAnswer : List Board → List ℕ → Opening
+openCountsAnswer row counts = openAnswer row (countPlans counts)
+
+abbrev pub openCountsRow : List Board → List ℕ → List Board
+openCountsRow row counts = openRow row (countPlans counts)

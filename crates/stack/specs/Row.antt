@@ -1,4 +1,4 @@
--- The row of board records: which row is good, and the board of a number (01, The stack and its readings; Refusal numbers 1, 2).
+-- The row of board records: which row is good, and the board of a number (01, The stack and its readings; Refusal numbers 1, 2; 02, ticket 3).
 -- Assumes nothing.
 use Prim.Native.Nat.{ℕ, _-_}
 use mathlib.Core.Bool.{Bool, cond, not, _&&_}
@@ -7,13 +7,14 @@ use lib.Dec.{eqb}
 use lib.ListN.{length, getD}
 use Rattle.lists.specs.Every.{every}
 use Rattle.board.specs.declared.Board.{Board}
-use Rattle.board.specs.Sample.{fresh, outside, badBoard}
+use Rattle.lists.specs.Compare.{outside}
+use Rattle.board.specs.Sample.{fresh, badBoard}
 
 -- a number of boards that no row has
 abbrev pub badCount : ℕ → Bool
 badCount n = outside 1 16 n
 
--- 1 to 16 boards, each with 5 to 10 cells
+-- 1 to 16 boards, each of a kind that there is and with 5 to 10 cells
 unfoldable pub goodRow : List Board → Bool
 goodRow row = not (badCount (length row)) && every (λ b. not (badBoard b)) row
 

@@ -8,6 +8,7 @@ use lib.Dec.{ltb, eqb}
 use lib.ListN.{length, getD, set}
 use Rattle.refusal.specs.Refusals.{numbered}
 use Rattle.refusal.specs.Said.{first}
+use Rattle.lists.specs.Every.{every}
 use Rattle.board.specs.declared.Board.{Board}
 use Rattle.board.specs.declared.Readings.{Readings}
 use Rattle.board.specs.declared.Answer.{Answer}
@@ -77,6 +78,13 @@ fillRow row x plans = turnsRow (left x) row x plans
 
 abbrev pub openingBy : Progress → Opening
 openingBy x = cond (x .refused) (opening.Refused (numbered 1)) opening.Opened
+
+-- ---- counts that are their plans as they stand
+abbrev pub plainCounts : List ℕ → Bool
+plainCounts counts = every (λ count. ltb count 256) counts
+
+abbrev pub noOpening : Opening
+noOpening = opening.Refused (numbered 1)
 
 -- ---- by the record at its place, in a row that was found good
 abbrev pub noSample : Answer

@@ -1,11 +1,11 @@
-// The public library: a stack as one row of board records, lent to each routine (01, The stack and its readings).
+// The public library: a stack as one row of board records, lent to each routine (01, The stack and its readings; 02, ticket 3).
 // Every routine over lent records is put together of pieces of crate walks or is one of its shapes, and calls proved work on plain values.
 ghost use mathlib.Core.Path.{_≡_};
 ghost use Rattle.registers.specs.Registers.{obeyedOf};
 ghost use Rattle.stack.specs.Row.{badCount, goodRow, placeOf};
-ghost use Rattle.stack.specs.Open.{goodPlans, openAnswer, openRow};
+ghost use Rattle.stack.specs.Open.{goodPlans, openAnswer, openRow, openCountsAnswer, openCountsRow};
 ghost use Rattle.stack.specs.Sample.{sampleAnswer, sampleRow};
-ghost use Rattle.stack.specs.Way.{refusedFill, startOf, more, placedOf, fillAt, fillRowAt, fillEnd, fillRow, openingBy, sampleAnswerAt, sampleRowAt, noSample, noRowSample, askedPlace, obeyOutcomeAt, obeyRowAt, frameAnswerIn, frameRowIn, frameBufferIn, noOutcome, noRowReply, noRowView};
+ghost use Rattle.stack.specs.Way.{refusedFill, startOf, more, placedOf, fillAt, fillRowAt, fillEnd, fillRow, openingBy, plainCounts, noOpening, sampleAnswerAt, sampleRowAt, noSample, noRowSample, askedPlace, obeyOutcomeAt, obeyRowAt, frameAnswerIn, frameRowIn, frameBufferIn, noOutcome, noRowReply, noRowView};
 ghost use Rattle.stack.specs.Frame.{frameAnswer, frameRow, frameBuffer};
 ghost use Rattle.stack.specs.Read.{readingOf};
 use board::Answer;
@@ -193,7 +193,7 @@ fn opening_of(x: Progress) -> Opening
     Opening::Opened
 }
 
-// A plan for each board, southernmost first: every record of the row as its board starts.
+// A plan for each board, southernmost first (crate board makes them): every record of the row as its board starts.
 pub fn open_row(row: &mut [Board], plans: &[u32]) -> Opening
     ensures { λ r. ⌜ (r ≡ openAnswer (now (row .entry)) (now (plans .entry))) × (now (row .exit) ≡ openRow (now (row .entry)) (now (plans .entry))) ⌝ }
 {
@@ -201,6 +201,35 @@ pub fn open_row(row: &mut [Board], plans: &[u32]) -> Opening
     let x = start(plans, boards);
     let end = fill(row, x, plans);
     opening_of(end)
+}
+
+// Every count is the plan of a stand-alone board as it stands.
+fn plain_counts(counts: &[u32]) -> bool
+    ensures { λ r. ⌜ r ≡ plainCounts (now (counts .entry)) ⌝ }
+{
+    let mut plain = true;
+    let mut i = 0;
+    while i < counts.len() {
+        plain = plain & (counts[i] < 256);
+        i += 1;
+    }
+    plain
+}
+
+fn no_opening() -> Opening
+    ensures { λ r. ⌜ r ≡ noOpening ⌝ }
+{
+    Opening::Refused(Refusal::BadRow)
+}
+
+// The cell count of each board, southernmost first: stand-alone boards.
+pub fn open_counts(row: &mut [Board], counts: &[u32]) -> Opening
+    ensures { λ r. ⌜ (r ≡ openCountsAnswer (now (row .entry)) (now (counts .entry))) × (now (row .exit) ≡ openCountsRow (now (row .entry)) (now (counts .entry))) ⌝ }
+{
+    if plain_counts(counts) {
+        return open_row(row, counts);
+    }
+    no_opening()
 }
 
 // ---- a sample

@@ -71,9 +71,9 @@ fn show_reading(s: Stack) {
     end_line();
 }
 
-// A stack of one board with so many cells.
-fn alone(cells: u8) -> Stack {
-    let board = board::fresh_board(cells);
+// A stack of one board by its plan.
+fn one_board(plan: u32) -> Stack {
+    let board = board::planned_board(plan);
     let boards = [board; 16];
     Stack {
         boards: boards,
@@ -175,7 +175,7 @@ fn session() {
 
 // M1 to M4: the first cell at 4,151 latches on the sixth sample; then all at 4,050, then all at 4,049.
 fn over_voltage() {
-    let s = alone(5);
+    let s = one_board(board::stand_alone(5));
     let s = first_cell(s, 100000, 4151);
     let s = first_cell(s, 100000, 4151);
     let s = first_cell(s, 100000, 4151);
@@ -188,7 +188,7 @@ fn over_voltage() {
 
 // UV at the factory settings: level 1,400, no delay, release 1,600.
 fn under_voltage() {
-    let s = alone(5);
+    let s = one_board(board::stand_alone(5));
     let s = first_cell(s, 1, 1400);
     let s = first_cell(s, 1, 1399);
     let s = first_cell(s, 1, 1600);
@@ -197,7 +197,7 @@ fn under_voltage() {
 
 // The shunt at zero, at the OCD and SCD levels, at both ends and past them; OCD stands 20 ms.
 fn currents() {
-    let s = alone(5);
+    let s = one_board(board::stand_alone(5));
     let s = shunt_at(s, 20000, 0, 1);
     let s = shunt_at(s, 20000, 10000, 1);
     let s = shunt_at(s, 20000, 10001, 1);
@@ -212,7 +212,7 @@ fn currents() {
 }
 
 fn temperature_and_refusals() {
-    let s = alone(5);
+    let s = one_board(board::stand_alone(5));
     let s = sampled(s, 1, 4000, 4000, 0, 974, 0);
     let s = sampled(s, 1, 4000, 4000, 0, 975, 0);
     let s = sampled(s, 0, 5001, 4000, 0, 5001, 2);
@@ -221,15 +221,15 @@ fn temperature_and_refusals() {
     let s = sampled(s, 1, 4000, 4000, 0, 5001, 0);
     let s = first_cell(s, 1, 5001);
     let s = first_cell(s, 1, 5000);
-    let six = alone(6);
+    let six = one_board(board::stand_alone(6));
     first_cell(six, 0, 5001);
-    let four = alone(4);
+    let four = one_board(board::stand_alone(4));
     first_cell(four, 0, 5001);
 }
 
 // Three programmings that differ, and what a worn memory then says; equal settings spend nothing.
 fn programming() {
-    let s = alone(5);
+    let s = one_board(board::stand_alone(5));
     let s = sent(s, 3, 11, 0x41);
     let s = sent(s, 3, 7, 0x38);
     let s = sent(s, 2, 7, 0);
@@ -254,7 +254,7 @@ fn programming() {
 
 // OCD at 60 mV under SCD at 60: crossed, and nothing is spent; under 65 it is programmed.
 fn crossed_levels() {
-    let s = alone(5);
+    let s = one_board(board::stand_alone(5));
     let s = sent(s, 3, 9, 10);
     let s = sent(s, 3, 11, 0x40);
     let s = sent(s, 3, 11, 0x41);
@@ -263,6 +263,39 @@ fn crossed_levels() {
     let s = sent(s, 3, 10, 1);
     let s = sent(s, 3, 11, 0x41);
     sent(s, 2, 9, 0);
+}
+
+// A host board: both switches off until register 1 sets their bits; a short circuit clears both and stays at a good sample, until b0
+// goes from 1 to 0; the same write sets the bits again. OV at its level is not over, one below it is.
+fn host_board() {
+    let s = one_board(board::host(5));
+    let s = first_cell(s, 100000, 4000);
+    let s = sent(s, 3, 1, 6);
+    let s = first_cell(s, 100000, 4000);
+    let s = shunt_at(s, 100000, 60001, 1);
+    let s = shunt_at(s, 100000, 0, 0);
+    let s = sent(s, 2, 1, 0);
+    let s = sent(s, 3, 1, 7);
+    let s = sent(s, 2, 0, 0);
+    let s = sent(s, 3, 1, 6);
+    let s = sent(s, 2, 0, 0);
+    let s = sent(s, 3, 1, 8);
+    let s = first_cell(s, 100000, 4151);
+    let s = first_cell(s, 100000, 4151);
+    let s = first_cell(s, 100000, 4151);
+    let s = first_cell(s, 100000, 4151);
+    let s = first_cell(s, 100000, 4151);
+    let s = first_cell(s, 100000, 4151);
+    let s = first_cell(s, 100000, 4150);
+    let s = sent(s, 3, 1, 7);
+    let s = sent(s, 3, 1, 6);
+    let s = sent(s, 2, 0, 0);
+    let s = first_cell(s, 100000, 4149);
+    let s = sent(s, 3, 1, 7);
+    let s = sent(s, 3, 1, 6);
+    sent(s, 2, 0, 0);
+    let other = one_board(board::stand_alone(5));
+    sent(other, 2, 1, 0);
 }
 
 fn main() {
@@ -274,4 +307,5 @@ fn main() {
     temperature_and_refusals();
     programming();
     crossed_levels();
+    host_board();
 }

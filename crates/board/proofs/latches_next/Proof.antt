@@ -1,7 +1,7 @@
+use borrow.Author.Needs.{needs}
 use mir.Facts.{toZ-ofZ}
 use mir.Syntax.{w32}
 use Rattle.board.specs.Way.{latchesBy}
-use borrow.Author.Needs.{needs}
 use Rattle.board.proofs.latches_next.Statement.{statement}
 use Rattle.board.proofs.latches_next.Tie as tie
 
@@ -35,6 +35,9 @@ ov-release-requires c κs = search needs
 uv-release-requires : tie.Need-uv-release-requires
 uv-release-requires c κs = search needs
 
+is-host-requires : tie.Need-is-host-requires
+is-host-requires c κs = search needs
+
 latch-next-requires : tie.Need-latch-next-requires
 latch-next-requires c κs = search needs
 
@@ -57,19 +60,19 @@ returns c =
     let c3 = c1 .before .before in
     let c5 = c3 .before .before in
     let c6 = c5 .before in
-    let c10 = c6 .before .before .before .before in
-    let c12 = c10 .before .before in
-    let c13 = c12 .before in
+    let c7 = c6 .before in
+    let c11 = c7 .before .before .before .before in
+    let c13 = c11 .before .before in
     let c14 = c13 .before in
-    let c15 = c14 .before in
-    let c16 = c15 .before in
-    let c18 = c16 .before .before in
-    let c19 = c18 .before in
+    let c16 = c14 .before .before in
+    let c17 = c16 .before in
+    let c19 = c17 .before .before in
     let c20 = c19 .before in
     let c21 = c20 .before in
     let c22 = c21 .before in
-    let back = toZ-ofZ {w = w32} {z = c22 .before .args .x .shunt} (record { sfits = c14 .struct-told2 .given .1 .0 .1 }) in
-    rw (c .latch-next5 .ensures, c1 .latch-next4 .ensures, c3 .latch-next3 .ensures, c5 .latch-next2 .ensures, c6 .latch-next .ensures, c10 .uv-release .ensures, c12 .ov-release .ensures, c13 .shunt-above2 .ensures, c15 .ocd-level .ensures, c16 .shunt-above .ensures, c18 .scd-level .ensures, c19 .has-stood2 .ensures, c20 .ocd-delay .ensures, c21 .has-stood .ensures, c22 .scd-delay .ensures, back)
+    let c23 = c22 .before in
+    let back = toZ-ofZ {w = w32} {z = c23 .before .args .x .shunt} (record { sfits = c14 .before .struct-told2 .given .1 .0 .1 }) in
+    rw (c .latch-next5 .ensures, c1 .latch-next4 .ensures, c3 .latch-next3 .ensures, c5 .latch-next2 .ensures, c6 .latch-next .ensures, c7 .is-host .ensures, c11 .uv-release .ensures, c13 .ov-release .ensures, c14 .shunt-above2 .ensures, c16 .ocd-level .ensures, c17 .shunt-above .ensures, c19 .scd-level .ensures, c20 .has-stood2 .ensures, c21 .ocd-delay .ensures, c22 .has-stood .ensures, c23 .scd-delay .ensures, back)
 
 pub latches-next-spec : {M : Type 1} → statement M
 latches-next-spec =
@@ -85,6 +88,7 @@ latches-next-spec =
     shunt-above-requires-2
     ov-release-requires
     uv-release-requires
+    is-host-requires
     latch-next-requires
     latch-next-requires-2
     latch-next-requires-3

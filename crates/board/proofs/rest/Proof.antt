@@ -3,12 +3,15 @@ use Rattle.board.specs.Way.{restedOf}
 use Rattle.board.proofs.rest.Statement.{statement}
 use Rattle.board.proofs.rest.Tie as tie
 
-status-of-requires : tie.Need-status-of-requires
-status-of-requires c κs = search needs
+last-by-requires : tie.Need-last-by-requires
+last-by-requires c κs = search needs
+
+status-by-requires : tie.Need-status-by-requires
+status-by-requires c κs = search needs
 
 returns : tie.Need-returns
 unfolding restedOf
-returns c = rw (c .status-of .ensures)
+returns c = rw (c .status-by .ensures, c .before .last-by .ensures)
 
 pub rest-spec : {M : Type 1} → statement M
-rest-spec = tie.close (tie.spec status-of-requires returns)
+rest-spec = tie.close (tie.spec last-by-requires status-by-requires returns)

@@ -22,7 +22,7 @@ use Rattle.board.proofs.rest_board.Statement as stated
 use Rattle.board.proofs.rest_board.Code as code
 
 abbrev shape : Shape
-shape = record { T = Board.the-type; X = Readings.the-row; Z = Span.the-row; E = u32; Q = Stepped.the-type; O = Answer.the-row; f = #rest; F = λ b x z mv. restedOf b; record-of = λ z. z .board; answer-of = λ z. z .answer }
+shape = record { T = Board.the-type; X = Readings.the-row; Z = Span.the-row; E = u32; Q = Stepped.the-type; O = Answer.the-row; f = #rest; F = λ b x z mv. restedOf b x z; record-of = λ z. z .board; answer-of = λ z. z .answer }
 
 abbrev knows : {M : Type 1} (𝓤 : URA M) (H : Heap 𝓤) (A : Atoms 𝓤) (W : Given 𝓤 H A) → Knows 𝓤 H A shape
 knows 𝓤 H A W = record { plain-X = known.readings 𝓤 H A W; plain-Z = known.span 𝓤 H A W; pair-Q = known.stepped 𝓤 H A W }

@@ -61,5 +61,5 @@ sample-board-spec 𝓤 H 𝓜 𝓖 𝓡 =
     (λ h. answers (asks-of newest answerOf #answer-of (cited 𝓤 H _ 𝓜 𝓡 code.env #answer-of _ code.calls-board·answer-of (answer-of′.met 𝓤 H 𝓜 𝓖 𝓡))) (look-refused b x mv h))
     (λ h. lets (known.span 𝓤 H (𝓖 .A) W) (spanFound (lookOf b x mv)) (asks-of newest spanFound #span-found (cited 𝓤 H _ 𝓜 𝓡 code.env #span-found _ code.calls-board·span-found (span-found′.met 𝓤 H 𝓜 𝓖 𝓡)))
     (branch (asks-of (older newest) isQuiet #is-quiet (cited 𝓤 H _ 𝓜 𝓡 code.env #is-quiet _ code.calls-board·is-quiet (is-quiet′.met 𝓤 H 𝓜 𝓖 𝓡)))
-    (λ q. calls-on (stepping acceptedBy .params) all-keys (lends (same (found newest (shows stop)))) (stepping (λ b x span mv. restedOf b) .says-of) #rest-board (cited 𝓤 H _ 𝓜 𝓡 code.env #rest-board _ code.calls-board·rest-board (rest-board′.met 𝓤 H 𝓜 𝓖 𝓡)) (refl, (refl, tt)) (λ r ws e. follows e (look-quiet b x mv q)))
+    (λ q. calls-on (stepping acceptedBy .params) all-keys (lends (same (found newest (shows stop)))) (stepping (λ b x span mv. restedOf b x span) .says-of) #rest-board (cited 𝓤 H _ 𝓜 𝓡 code.env #rest-board _ code.calls-board·rest-board (rest-board′.met 𝓤 H 𝓜 𝓖 𝓡)) (refl, (refl, tt)) (λ r ws e. follows e (look-quiet b x mv q)))
     (λ q. calls-on (stepping acceptedBy .params) all-keys (lends (same (found newest (shows stop)))) (stepping acceptedBy .says-of) #accept-board (cited 𝓤 H _ 𝓜 𝓡 code.env #accept-board _ code.calls-board·accept-board (accept-board′.met 𝓤 H 𝓜 𝓖 𝓡)) (refl, (refl, tt)) (λ r ws e. follows e (look-changes b x mv h q))))))))

@@ -7,7 +7,7 @@ use lib.ListN.{take, drop}
 use Rattle.board.specs.declared.Board.{Board}
 use denote.Builtin.{u32}
 use Rattle.stack.specs.declared.Opening.{Opening}
-use Rattle.stack.specs.Open.{openAnswer, openRow}
+use Rattle.stack.specs.Open.{countPlans, openCountsAnswer, openCountsRow}
 use Rattle.held.specs.Held.{openedIn}
 use Rattle.board.proofs.Board as Boards
 use Rattle.stack.proofs.Opening as Openings
@@ -20,19 +20,19 @@ use types.Kit.{Given}
 use denote.Triple.Table.{entered, cited}
 use Rattle.walks.proofs.LendsSlice.{Shape, Knows, meets}
 use Rattle.held.proofs.Known as known
-use Rattle.stack.proofs.open_row.Symbol.{name as #open-row}
-use Rattle.stack.proofs.open_row.Met as open-row′
+use Rattle.stack.proofs.open_counts.Symbol.{name as #open-counts}
+use Rattle.stack.proofs.open_counts.Met as open-counts′
 use Rattle.held.proofs.open_in.Key as key
 use Rattle.held.proofs.open_in.Statement as stated
 use Rattle.held.proofs.open_in.Code as code
 
 abbrev shape : Shape
-shape = record { T = Boards.the-type; E = u32; O = Openings.the-row; Q = OpenedRow.the-type; N = 16; f = #open-row; answer-at = openAnswer; row-at = openRow; made = λ l r. record { boards = l; answer = r }; all = openedIn }
+shape = record { T = Boards.the-type; E = u32; O = Openings.the-row; Q = OpenedRow.the-type; N = 16; f = #open-counts; answer-at = openCountsAnswer; row-at = openCountsRow; made = λ l r. record { boards = l; answer = r }; all = λ boards n counts. openedIn boards n (countPlans counts) }
 
 -- what the contract says
-says-all : (boards : List Board) (n : ℕ) (plans : List ℕ) (r : Opening) (row : List Board) → r ≡ openAnswer (take n boards) plans → row ≡ openRow (take n boards) plans → shape .made (row ++ drop n boards) r ≡ openedIn boards n plans
+says-all : (boards : List Board) (n : ℕ) (counts : List ℕ) (r : Opening) (row : List Board) → r ≡ openCountsAnswer (take n boards) counts → row ≡ openCountsRow (take n boards) counts → shape .made (row ++ drop n boards) r ≡ openedIn boards n (countPlans counts)
 unfolding openedIn
-says-all boards n plans r row e f = λ i. record { boards = f i ++ drop n boards; answer = e i }
+says-all boards n counts r row e f = λ i. record { boards = f i ++ drop n boards; answer = e i }
 
 abbrev knows : {M : Type 1} (𝓤 : URA M) (H : Heap 𝓤) (A : Atoms 𝓤) (W : Given 𝓤 H A) → Knows 𝓤 H A shape
 knows 𝓤 H A W = record { says-all = says-all; made-Q = known.opened 𝓤 H A W }
@@ -42,4 +42,4 @@ unfolding code.routine tablesOf
 open-in-spec 𝓤 H 𝓜 𝓖 𝓡 =
     entered 𝓤 H _ _ _ key.name code.function (code.unfolded 𝓤 H 𝓜 𝓡)
     (meets 𝓤 H (𝓖 .A) (givenOf 𝓤 H 𝓜 𝓖) shape (knows 𝓤 H (𝓖 .A) (givenOf 𝓤 H 𝓜 𝓖)) (tablesOf 𝓤 H 𝓜 (tables 𝓤 H 𝓜 𝓡 code.env))
-    (cited 𝓤 H _ 𝓜 𝓡 code.env #open-row _ code.calls-stack·open-row (open-row′.met 𝓤 H 𝓜 𝓖 𝓡)))
+    (cited 𝓤 H _ 𝓜 𝓡 code.env #open-counts _ code.calls-stack·open-counts (open-counts′.met 𝓤 H 𝓜 𝓖 𝓡)))

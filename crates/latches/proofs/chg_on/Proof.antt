@@ -4,7 +4,7 @@ use Rattle.latches.proofs.chg_on.Statement.{statement}
 use Rattle.latches.proofs.chg_on.Tie as tie
 
 returns : tie.Need-returns
-returns c = masks-right (c .args .byte) (search needs) .1
+returns c = rw (masks-right (c .args .byte) (search needs) .1)
 
 pub chg-on-spec : {M : Type 1} → statement M
 chg-on-spec = tie.close (tie.spec returns)

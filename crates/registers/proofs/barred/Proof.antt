@@ -13,8 +13,8 @@ value-fits-requires c κs = search needs
 
 returns : tie.Need-returns
 returns c =
-    let asked = c .before .before .before .args .asked in
-    rw (c .before .value-fits .ensures, ← (c .before .before .is-write .ensures), c .if1 .taken, bars-write (asked .register) (asked .value))
+    let a = c .before .before .before .args in
+    rw (c .before .value-fits .ensures, ← (c .before .before .is-write .ensures), c .if1 .taken, bars-write (a .b .kind) (a .asked .register) (a .asked .value))
 
 no-register-requires : tie.Need-no-register-requires
 no-register-requires c κs = search needs

@@ -1,27 +1,45 @@
--- `registers::read` meets its contract: the status, the cycles spent, and the working bytes.
+-- `registers::read` meets its contract: the status, register 1, the cycles spent, and the working bytes.
 -- Assumes nothing.
+use borrow.Author.Needs.{needs}
 use mathlib.Core.Path.{sym, _∙_}
 use borrow.Author.Tests.{ne-eqb}
 use Rattle.registers.specs.Registers.{shownOf}
 use Rattle.registers.proofs.Map.{read-setting}
-use borrow.Author.Needs.{needs}
 use Rattle.registers.proofs.read.Statement.{statement}
 use Rattle.registers.proofs.read.Tie as tie
 
-status-of-requires : tie.Need-status-of-requires
-status-of-requires c κs = search needs
+status-by-requires : tie.Need-status-by-requires
+status-by-requires c κs = search needs
+
+control-read-requires : tie.Need-control-read-requires
+control-read-requires c κs = search needs
 
 byte-requires : tie.Need-byte-requires
 byte-requires c κs = search needs
 
 returns : tie.Need-returns
-returns c = rw (c .status-of .ensures, c .before .match .keys1)
+returns c = rw (c .status-by .ensures, c .before .match .keys1)
 
 returns-2 : tie.Need-returns-2
-returns-2 c = rw (c .match .keys2)
+returns-2 c = rw (c .control-read .ensures, c .before .match .keys2)
 
 returns-3 : tie.Need-returns-3
-returns-3 c = c .byte .ensures ∙ sym (read-setting (shownOf (c .before .before .args .b)) (c .before .before .args .register) (ne-eqb _ 0 (c .before .match .rest .0 .1)) (ne-eqb _ 11 (c .before .match .rest .1)))
+returns-3 c = rw (c .match .keys3)
+
+returns-4 : tie.Need-returns-4
+returns-4 c =
+    let a = c .before .before .args in
+    let other = c .before .match .rest in
+    c .byte .ensures ∙ sym (read-setting (shownOf (a .b)) (a .register) (ne-eqb _ 0 (other .0 .0 .1)) (ne-eqb _ 1 (other .0 .1)) (ne-eqb _ 11 (other .1)))
 
 pub read-spec : {M : Type 1} → statement M
-read-spec = tie.close (tie.spec status-of-requires byte-requires returns returns-2 returns-3)
+read-spec =
+    tie.close
+    (tie.spec
+    status-by-requires
+    control-read-requires
+    byte-requires
+    returns
+    returns-2
+    returns-3
+    returns-4)

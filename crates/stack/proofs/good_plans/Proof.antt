@@ -4,7 +4,7 @@ use mathlib.Core.Path.{_≡_, refl}
 use mathlib.Core.Bool.{_&&_, not}
 use lib.ListN.{length, drop}
 use borrow.Author.Needs.{needs}
-use Rattle.board.specs.Sample.{badPlan}
+use Rattle.board.specs.Plan.{badPlan, planOf}
 use Rattle.lists.proofs.Every.{every-turn, every-done}
 use Rattle.stack.specs.Open.{goodPlans}
 use Rattle.stack.proofs.good_plans.Statement.{statement}
@@ -37,12 +37,12 @@ loop-less c = search needs
 loop-again : tie.Need-loop-again Inv-loop μ-loop
 loop-again c =
     let h = c .before .before .before in
-    (search needs, rw (c .bad-plan .ensures) (every-turn (λ plan. not (badPlan plan)) (h .before .before .args .plans .now) (h .loop .i) 0 (h .loop .good) (h .loop .inv .1) (omega arith)))
+    (search needs, rw (c .bad-plan .ensures) (every-turn (λ plan. not (badPlan (planOf plan))) (h .before .before .args .plans .now) (h .loop .i) 0 (h .loop .good) (h .loop .inv .1) (omega arith)))
 
 returns : tie.Need-returns Inv-loop μ-loop
 returns c =
     let h = c .before in
-    every-done (λ plan. not (badPlan plan)) (h .before .before .args .plans .now) (h .loop .i) (h .loop .good) (h .loop .inv .1) (omega arith)
+    every-done (λ plan. not (badPlan (planOf plan))) (h .before .before .args .plans .now) (h .loop .i) (h .loop .good) (h .loop .inv .1) (omega arith)
 
 pub good-plans-spec : {M : Type 1} → statement M
 good-plans-spec =
