@@ -3,15 +3,23 @@
 The sessions of sessions.py, whose stretches meet every delay and level, with
 the workshop's own line forms in between: boards by kind, lent rooms, long
 lists, long lines. A form that a request brings is one more scenario here.
+
+Rows have host boards among the others. Their latches stay, so that most
+scenes on them end in writes to register 1, after samples about the levels
+that work at the write.
 """
 
-from reference import crc8
-from sessions import LARGEST, Maker
+from reference import HOST, STAND_ALONE, Settings, crc8
+from sessions import LARGEST, Aim, Maker
 from workshop import LONGEST_LINE, Workshop
 
 # forms of requests that are not in force: malformed, until their scenario stands in their place
 LATER = ("L 1 128", "L 1 0", "L", "U", "U 1", "W 46", "W 0", "W", "D", "C", "C 0100", "C 01000100000000000005",
-         "V 00 00 1", "V 0100 0100 0", "X h5", "X g3/0/2", "X s5 h5 g3/0/2", "X g3/0", "X g/0/2")
+         "V 00 00 1", "V 0100 0100 0", "X g3/0/2", "X s5 h5 g3/0/2", "X g5", "X h5 g3/0/2", "X g3/0", "X g/0/2")
+
+# for each fault that a host board keeps: the register of its level and the mask of the level's code
+LEVELS = {"OV": (6, 0x07), "UV": (7, 0x0F), "OCD": (9, 0x0F), "SCD": (10, 0x0F)}
+QUICK_US = 1_000_000    # a delay that a scene waits for
 
 
 class DeskMaker(Maker):
@@ -22,13 +30,129 @@ class DeskMaker(Maker):
     # -- the forms of document 01, as the workshop may write them
 
     def words(self, letter, numbers):
-        """An opening may name its boards by kind, a frame the room of its reply."""
+        """A refused opening may name its boards by kind, a frame the room of its reply."""
         if letter == "O" and self.chance(0.5):
-            self.put(" ".join(["X"] + [f"s{count}" for count in numbers]))
+            self.put(" ".join(["X"] + self.named(numbers)))
             return
         if letter == "F" and self.chance(0.4):
             letter = f"F@{self.pick(4, 4, 5, 7, 8, 9, 64, 255, 256, 65536, LARGEST - 1, LARGEST)}"
         super().words(letter, numbers)
+
+    def named(self, counts):
+        """Boards of `X` with these cell counts, of either kind."""
+        return [f"{self.pick('s', 'h')}{count}" for count in counts]
+
+    def open(self, counts):
+        """A good opening: stand-alone boards, host boards or both."""
+        hosts = self.pick(0, 0.5, 0.5, 1)
+        kinds = [HOST if self.chance(hosts) else STAND_ALONE for _ in counts]
+        if HOST in kinds or self.chance(0.5):
+            self.put(" ".join(["X"] + [f"{'h' if kind == HOST else 's'}{count}" for kind, count in zip(kinds, counts)]))
+        else:
+            Maker.words(self, "O", counts)
+        self.boards = [Aim(count, kind) for count, kind in zip(counts, kinds)]
+        for number, kind in enumerate(kinds, 1):
+            if kind == HOST and self.chance(0.6):
+                self.write(number, 1, self.pick(6, 6, 7, 2, 4))
+
+    # -- host boards
+
+    def switches(self):
+        """The two switch bits of register 1."""
+        return self.pick(6, 6, 2, 4, 0)
+
+    def clear(self, number):
+        """Take b0 from 1 to 0, mostly; bits of the switches are written with it."""
+        up, down = 1 | self.switches(), self.switches()
+        writes = self.pick([up, down], [up, down], [up, down], [down], [up], [up, up, down], [down, down], [down, up],
+                           [up, 8, down], [up, down, up, down])
+        for value in writes:
+            self.write(number, 1, value)
+            if self.chance(0.15):
+                self.between(number)
+        self.frame(2 * number, 0, 0)
+        if self.chance(0.5):
+            self.frame(2 * number, 1, 0)
+
+    def between(self, number):
+        """Something between two writes to register 1: a sample, a programming, a read."""
+        aim = self.boards[number - 1]
+        self.pick(lambda: self.sample(number, self.elapsed(), self.calm(aim)), lambda: self.refused_sample(number),
+                  lambda: self.program(number), lambda: self.stage(number), lambda: self.frame(2 * number, 0, 0),
+                  lambda: self.put("R"))()
+
+    def delay(self, aim, fault):
+        """The delay of a fault, by the board's picture."""
+        s = aim.settings
+        return {"OV": s.ov_delay, "UV": s.uv_delay, "OCD": s.ocd_delay, "SCD": s.scd_delay}[fault]
+
+    def about(self, number, fault, settings):
+        """A sample at a fault's level by these settings, or one off it, and nothing else past any level."""
+        aim, off = self.boards[number - 1], self.pick(-1, 0, 0, 1)
+        fields = {"load": self.pick(0, 1), "thermistor": self.pick(2000, 2000, 2000, 974), "shunt": 0, "cells": [3500] * aim.count}
+        if fault in ("OV", "UV"):
+            level = settings.ov_level if fault == "OV" else settings.uv_level
+            fields["cells"][self.rng.randrange(aim.count)] = level + off
+        else:
+            fields["shunt"] = (settings.ocd_level if fault == "OCD" else settings.scd_level) + off
+        self.sample(number, self.pick(1, 1, self.elapsed()), fields)
+
+    def moved(self, number, fault):
+        """A sample about a level that only the next programming sets; then the programming."""
+        aim, (register, mask) = self.boards[number - 1], LEVELS[fault]
+        five, at = list(aim.working), register - 6
+        five[at] = five[at] & ~mask | self.rng.randrange(mask + 1)
+        self.unstage(number)
+        self.about(number, fault, Settings(five))
+        self.write(number, register, five[at])
+        if self.chance(0.9):
+            self.program(number)
+
+    def held(self, number):
+        """Latch faults, go about their levels, at times by other levels than at the sample, and clear."""
+        aim = self.boards[number - 1]
+        quick = [fault for fault in LEVELS if self.delay(aim, fault) <= QUICK_US]
+        if not quick:
+            return
+        fault = self.rng.choice(quick)
+        if self.chance(0.5):
+            self.write(number, 1, self.pick(6, 7))
+        for one in [fault] + self.rng.sample(quick, self.pick(0, 0, 1)):
+            delay, fields = self.condition(aim, one)
+            for elapsed in self.parts(delay, delay):
+                self.sample(number, elapsed, fields)
+        if self.chance(0.3):
+            self.write(number, 1, self.pick(6, 7, 2, 4, 3, 5))
+        for _ in range(self.pick(1, 1, 2)):
+            if aim.spent < 3 and self.chance(0.5):
+                self.moved(number, fault)
+            else:
+                self.about(number, fault, aim.settings)
+            self.clear(number)
+        if self.chance(0.3):
+            self.put("R")
+
+    def hosted(self):
+        """A scene of a host board; at times, of one that is none, where register 1 is 9."""
+        number = self.number()
+        hosts = [n for n, aim in enumerate(self.boards, 1) if aim.kind == HOST]
+        if hosts and self.chance(0.9):
+            number = self.rng.choice(hosts[:2])
+        self.pick(self.held, self.held, self.clear, self.heated)(number)
+
+    def heated(self, number):
+        """Overtemperature takes both bits as it latches, and only then."""
+        aim = self.boards[number - 1]
+        for thermistor in (self.pick(975, 974), 974, self.pick(974, 975, 975)):
+            self.write(number, 1, self.pick(7, 6, 2, 4, 1))
+            self.sample(number, self.elapsed(), dict(self.calm(aim), thermistor=thermistor))
+            self.frame(2 * number, self.pick(0, 1), 0)
+
+    def look(self, number):
+        """A host board's latches stay until they are cleared."""
+        super().look(number)
+        if self.boards[number - 1].kind == HOST and self.chance(0.4):
+            self.clear(number)
 
     # -- the workshop's own
 
@@ -64,15 +188,17 @@ class DeskMaker(Maker):
         elif what == 4 and size > 16:
             self.put("O" + f" {self.pick(5, 10)}" * size)
         elif size > 16:
-            self.put("X" + f" s{self.pick(5, 10)}" * size)
+            self.put("X" + f" {self.pick('s', 'h')}{self.pick(5, 10)}" * size)
 
     def odd_boards(self):
         """Boards that are not of their form, or that cannot be opened."""
         counts = [self.rng.randint(5, 10) for _ in range(self.pick(0, 1, 2, 15, 16, 17))]
-        words = [f"s{count}" for count in counts]
-        odd = self.pick("s", "5", "S5", "s05", "s-5", "s+5", "s 5", "ss5", "s5s", "s5/", "s5/0", "s5/0/1", "/5", "q5", "h5", "g3/0/2",
+        words = self.named(counts)
+        odd = self.pick("s", "5", "S5", "s05", "s-5", "s+5", "s 5", "ss5", "s5s", "s5/", "s5/0", "s5/0/1", "/5", "q5", "g3/0/2", "g5",
+                        "h", "H5", "h05", "h-5", "h 5", "hh5", "sh5", "h5s", "h5/0", "h5/0/1", f"h{LARGEST + 1}", f"h{2**32 + 5}",
                         "s5,s5", f"s{LARGEST + 1}", f"s{2**32 + 5}", "s5\r", "s\t5", "s5\0")
-        bad = self.pick("s4", "s11", "s0", "s1", "s261", f"s{LARGEST}", "s65541")
+        bad = self.pick("s4", "s11", "s0", "s1", "s261", f"s{LARGEST}", "s65541",
+                        "h4", "h11", "h0", "h5000", "h261", "h517", f"h{LARGEST}", "h65541")
         words.insert(self.pick(0, len(words)), self.pick(odd, odd, bad))
         self.put(" ".join(["X"] + words))
 
@@ -86,16 +212,16 @@ class DeskMaker(Maker):
 
     def huge(self, size):
         """A well-formed line of so many bytes that opens nothing."""
-        head, field, longer = self.pick((b"O", b" 5", b" 10"), (b"X", b" s5", b" s10"), (b"F", b" 1", b" 10"), (b"F@3", b" 25", b" 255"),
-                                        (b"S 1 1000 0 2000 0", b" 4000", b" 40000"))
+        head, field, longer = self.pick((b"O", b" 5", b" 10"), (b"X", b" s5", b" s10"), (b"X", b" h5", b" h10"), (b"F", b" 1", b" 10"),
+                                        (b"F@3", b" 25", b" 255"), (b"S 1 1000 0 2000 0", b" 4000", b" 40000"))
         count, more = divmod(size - len(head), len(field))
         return head + field * (count - more) + longer * more
 
     def desk(self):
         """One of the workshop's own scenarios."""
         self.rng.choices(
-            (self.short_room, self.odd_room, self.long_list, self.odd_boards, self.later, self.refused_opening, self.huge_line),
-            (8, 4, 6, 8, 4, 2, 0.06))[0]()
+            (self.hosted, self.short_room, self.odd_room, self.long_list, self.odd_boards, self.later, self.refused_opening, self.huge_line),
+            (14, 8, 4, 6, 8, 4, 2, 0.06))[0]()
 
     def scenario(self):
         """The bench's scenarios, and the workshop's own among them."""

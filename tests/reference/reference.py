@@ -24,7 +24,11 @@ class Refusal(Exception):
 
 # ---------------------------------------------------------------- settings
 
-FIRST_SETTING, LAST_SETTING, CYCLES = 6, 10, 11
+STAND_ALONE, HOST = 0, 1     # the kinds of board (02, ticket 3)
+
+CONTROL, FIRST_SETTING, LAST_SETTING, CYCLES = 1, 6, 10, 11
+# the bits of register 1
+LATCH_CLEAR, DSG_MAY, CHG_MAY = 0, 1, 2
 PROGRAM = 0x41
 MOST_CYCLES = 3
 
@@ -84,6 +88,8 @@ STATUS_BIT = {"SCD": 0, "OCD": 1, "OV": 2, "UV": 3, "OT": 4}
 DSG_BIT, CHG_BIT = 6, 7
 STOPS_CHG = {"OV", "OCD", "SCD", "OT"}
 STOPS_DSG = {"UV", "OCD", "SCD", "OT"}
+# on a host board these never let go by themselves (02, ticket 3)
+CLEARED_BY_HAND = {"OV", "UV", "OCD", "SCD"}
 
 
 def run(samples, holds):
@@ -145,26 +151,37 @@ def faults_let_go(sample, settings):
     return {fault for fault in shown if shown[fault]}
 
 
+def conditions_over(sample, settings):
+    """The faults that a clear takes away (02, ticket 3): load and hysteresis are not asked."""
+    shown = {
+        "OV": all(mv < settings.ov_level for mv in sample.cells),
+        "UV": all(mv > settings.uv_level for mv in sample.cells),
+        "OCD": sample.shunt <= settings.ocd_level,
+        "SCD": sample.shunt <= settings.scd_level,
+    }
+    return {fault for fault in shown if shown[fault]}
+
+
 def flags_after(flagged, sample, settings, over):
     """The flagged cells after a sample, counted from 0 (01, Bleeding)."""
     kept = {i for i in flagged if not sample.cells[i] < settings.ov_release}
     return kept | {i for i, yes in enumerate(over) if yes}
 
 
-def chg_on(latched):
-    """CHG (01, When a fault latches)."""
-    return not latched & STOPS_CHG
+def chg_on(latched, may=True):
+    """CHG (01, When a fault latches), where register 1 may forbid it (02, ticket 3)."""
+    return may and not latched & STOPS_CHG
 
 
-def dsg_on(latched):
-    """DSG (01, When a fault latches)."""
-    return not latched & STOPS_DSG
+def dsg_on(latched, may=True):
+    """DSG (01, When a fault latches), where register 1 may forbid it (02, ticket 3)."""
+    return may and not latched & STOPS_DSG
 
 
-def status(latched):
+def status(latched, may_dsg=True, may_chg=True):
     """The value of register 0 (01, Frames and registers)."""
     value = sum(1 << STATUS_BIT[fault] for fault in latched)
-    return value + (dsg_on(latched) << DSG_BIT) + (chg_on(latched) << CHG_BIT)
+    return value + (dsg_on(latched, may_dsg) << DSG_BIT) + (chg_on(latched, may_chg) << CHG_BIT)
 
 
 def bled(flagged, count):
@@ -182,12 +199,15 @@ def bled(flagged, count):
 class Record:
     """What a board's history amounts to (01, The stack and its readings)."""
 
-    def __init__(self):
+    def __init__(self, kind):
+        self.kind = kind
+        self.control = 0        # register 1
         self.staged = [0] * 5
         self.working = [0] * 5
         self.settings = Settings(self.working)
         self.spent = 0
         self.samples = []       # since the start or the last cycle spent
+        self.last = None        # the last sample, which a spent cycle does not take away
         self.latched = set()
         self.flagged = set()    # cells counted from 0
 
@@ -197,18 +217,39 @@ class Record:
             self.follow_sample(detail)
         elif act == "write":
             register, value = detail
-            self.staged[register - FIRST_SETTING] = value
+            if register == CONTROL:
+                self.follow_control(value)
+            else:
+                self.staged[register - FIRST_SETTING] = value
         elif act == "program":
             self.follow_programming()
 
     def follow_sample(self, sample):
-        """01, When a fault latches, and Bleeding."""
+        """01, When a fault latches, and Bleeding; 02, ticket 3."""
         self.samples.append(sample)
+        self.last = sample
         over = cells_over(self.samples, self.settings)
-        shown = faults_stood(self.samples, self.settings, over)
+        latching = faults_stood(self.samples, self.settings, over) - self.latched
         gone = faults_let_go(sample, self.settings)
-        self.latched = (self.latched - gone) | (shown - self.latched)
+        if self.kind == HOST:
+            gone -= CLEARED_BY_HAND
+            self.forbid(latching)
+        self.latched = (self.latched - gone) | latching
         self.flagged = flags_after(self.flagged, sample, self.settings, over)
+
+    def forbid(self, latching):
+        """02, ticket 3: a fault that latches clears the bits of the switches it forbids."""
+        if latching & STOPS_DSG:
+            self.control &= ~(1 << DSG_MAY)
+        if latching & STOPS_CHG:
+            self.control &= ~(1 << CHG_MAY)
+
+    def follow_control(self, value):
+        """02, ticket 3: only a write that takes b0 from 1 to 0 clears, by the levels that work now."""
+        falls = bits(self.control, LATCH_CLEAR, LATCH_CLEAR) == 1 and bits(value, LATCH_CLEAR, LATCH_CLEAR) == 0
+        if falls and self.last is not None:
+            self.latched -= conditions_over(self.last, self.settings)
+        self.control = value
 
     def follow_programming(self):
         """01, Frames and registers: equal sets change and spend nothing."""
@@ -219,19 +260,36 @@ class Record:
         self.spent += 1
         self.samples = []
 
+    def may(self, bit):
+        """Does register 1 allow the switch of that bit? A stand-alone board has no such register."""
+        return self.kind == STAND_ALONE or bits(self.control, bit, bit) == 1
+
+    def chg(self):
+        """Is CHG on?"""
+        return chg_on(self.latched, self.may(CHG_MAY))
+
+    def dsg(self):
+        """Is DSG on?"""
+        return dsg_on(self.latched, self.may(DSG_MAY))
+
+    def status(self):
+        """The value of register 0."""
+        return status(self.latched, self.may(DSG_MAY), self.may(CHG_MAY))
+
 
 class Board:
-    """One board: its cell count and the history of its accepted acts.
+    """One board: its kind, its cell count and the history of its accepted acts.
 
     Reads are not in the history, for they change nothing. `record` keeps
     what it has made of the history so far and takes in only what is new.
     """
 
-    def __init__(self, count):
+    def __init__(self, kind, count):
+        self.kind = kind
         self.count = count
         self.history = []
         self.followed = 0
-        self.made = Record()
+        self.made = Record(kind)
 
     def record(self):
         """The record that the whole history amounts to."""
@@ -244,13 +302,15 @@ class Board:
         """Accept a sample; its answer (01, Bleeding)."""
         self.history.append(("sample", sample))
         record = self.record()
-        return status(record.latched), bled(record.flagged, self.count)
+        return record.status(), bled(record.flagged, self.count)
 
     def read(self, register):
         """The value a read gives (01, Frames and registers)."""
         record = self.record()
         if register == 0:
-            return status(record.latched)
+            return record.status()
+        if register == CONTROL:
+            return record.control
         if register == CYCLES:
             return record.spent
         return record.working[register - FIRST_SETTING]
@@ -290,17 +350,19 @@ def crc8(data):
     return crc
 
 
-def check_register(register, is_write):
-    """Refusal 9 (01, Refusal numbers)."""
-    known = register == 0 or FIRST_SETTING <= register <= CYCLES
+def check_register(register, is_write, kind=STAND_ALONE):
+    """Refusal 9 (01, Refusal numbers; 02, ticket 3)."""
+    known = register == 0 or FIRST_SETTING <= register <= CYCLES or (register == CONTROL and kind == HOST)
     if not known or (is_write and register == 0):
         raise Refusal(9)
 
 
 def value_allowed(register, value, is_write):
-    """May this value stand in the frame (01, Frames and registers)?"""
+    """May this value stand in the frame (01, Frames and registers; 02, ticket 3)?"""
     if not is_write:
         return value == 0
+    if register == CONTROL:
+        return bits(value, 7, 3) == 0
     if register == 7:
         return bits(value, 7, 6) == 0
     if register == 8:
@@ -313,14 +375,20 @@ def value_allowed(register, value, is_write):
 # -------------------------------------------------------------------- stack
 
 class Stack:
-    """A stack that came from an opening (01, The stack and its readings)."""
+    """A stack that came from an opening (01, The stack and its readings).
 
-    def __init__(self, counts):
+    The boards are stand-alone ones unless the kind of each is given (02, ticket 3).
+    """
+
+    def __init__(self, counts, kinds=None):
         if not 1 <= len(counts) <= 16:
             raise Refusal(1)
         if not all(5 <= count <= 10 for count in counts):
             raise Refusal(1)
-        self.boards = [Board(count) for count in counts]
+        kinds = [STAND_ALONE] * len(counts) if kinds is None else kinds
+        if not all(kind in (STAND_ALONE, HOST) for kind in kinds):
+            raise Refusal(1)
+        self.boards = [Board(kind, count) for kind, count in zip(kinds, counts, strict=True)]
 
     def board(self, number):
         """The board of that number, or refusal 2."""
@@ -342,7 +410,7 @@ class Stack:
         return board.sample(sample)
 
     def frame(self, data, reply):
-        """A frame: refusals 6, 7, 8, 2, 9, 10, 13, 11 (01, Refusal numbers; 02, ticket 1).
+        """A frame: refusals 6, 7, 8, 2, 9, 10, 13, 11 (01, Refusal numbers; 02, tickets 1 and 3).
 
         The reply goes into the first four bytes of the lent `reply`.
         """
@@ -355,7 +423,7 @@ class Stack:
             raise Refusal(8)
         board = self.board(address // 2)
         is_write = address % 2 == 1
-        check_register(register, is_write)
+        check_register(register, is_write, board.kind)
         if not value_allowed(register, value, is_write):
             raise Refusal(10)
         given = board.write(register, value) if is_write else board.read(register)
@@ -378,9 +446,8 @@ class Stack:
 
     def reading(self):
         """Line, pack CHG, pack DSG, board, cell (01, Whole-stack reading)."""
-        latched = [board.record().latched for board in self.boards]
-        chg = all(chg_on(one) for one in latched)
-        dsg = all(dsg_on(one) for one in latched)
+        chg = all(board.record().chg() for board in self.boards)
+        dsg = all(board.record().dsg() for board in self.boards)
         return (int(self.fault_line()), int(chg), int(dsg)) + self.first_flagged()
 
 

@@ -41,7 +41,7 @@ def fill_check(text):
 
 def replayed(board):
     """The record of a board's history, gone over afresh from the start."""
-    record = reference.Record()
+    record = reference.Record(board.kind)
     for act in board.history:
         record.follow(*act)
     return record
@@ -51,7 +51,7 @@ def check_replay(name, bench):
     """What was kept on the way must be what the whole history gives."""
     for board in bench.stack.boards if bench.stack else ():
         kept, fresh = vars(board.record()), vars(replayed(board))
-        for key in ("staged", "working", "spent", "samples", "latched", "flagged"):
+        for key in ("control", "staged", "working", "spent", "samples", "last", "latched", "flagged"):
             expect(f"{name}, {key} gone over afresh", fresh[key], kept[key])
 
 
@@ -604,6 +604,14 @@ def unknown_registers():
                 O 5 -> ok
                 F {address} {register} 0 * -> no 9
                 """)
+    # 02, ticket 3: register 1 is a host board's, so that here no value is looked at
+    for value in (1, 6, 7, 8, 65, 255):
+        for address in (2, 3):
+            session(f"register 1 with {value}", f"""
+                O 5 -> ok
+                F {address} 1 {value} * -> no 9
+                F 2 0 0 214 -> re 2 0 192 152
+                """)
 
 
 def sample_refusals():
@@ -646,6 +654,12 @@ def opening_cases():
         O 4 -> no 1
         O 11 -> no 1
         O 5 5 0 -> no 1
+        O 255 -> no 1
+        O 256 -> no 1
+        O 261 -> no 1
+        O 517 -> no 1
+        O 5 261 -> no 1
+        O 65541 -> no 1
         R -> no 1
         O 5 10 -> ok
         R -> ln 0 chg 1 dsg 1 at 0 0
@@ -746,11 +760,21 @@ def buffer_cases():
     expect("later bytes stay", bytearray([2, 0, 192, 152, 9, 9]), buffer)
 
 
+def kind_cases():
+    """02, ticket 3: a kind that is neither is refused as a cell count is, and both kinds have five to ten cells."""
+    for counts, kinds, number in (
+            ([5], [0], None), ([5], [1], None), ([10, 5], [1, 0], None), ([5], [2], 1), ([5], [255], 1), ([5, 5], [1, 2], 1),
+            ([4], [1], 1), ([11], [1], 1), ([261], [1], 1), ([261], [0], 1), ([], [], 1), ([5] * 17, [1] * 17, 1),
+            ([10] * 16, [1] * 16, None)):
+        expect(f"cells {counts}, kinds {kinds}", number, refusal_of(Stack, counts, kinds))
+
+
 def main():
     """Run all; exit 1 if anything differs."""
     for part in (paper_session, crc_values, settings_tables, marked_cases, run_cases,
                  fault_cases, bleeding_cases, frame_cases, crossed_cases, unknown_registers,
-                 sample_refusals, opening_cases, raw_lines, input_cases, buffer_cases):
+                 sample_refusals, opening_cases, raw_lines, input_cases, buffer_cases,
+                 kind_cases):
         part()
     sys.exit(1 if FAILED else 0)
 

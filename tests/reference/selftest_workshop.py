@@ -37,6 +37,16 @@ def openings():
         X s261 -> no 1
         X s2147483647 -> no 1
         X s2147483648 -> no 12
+        X h4 -> no 1
+        X h11 -> no 1
+        X h0 -> no 1
+        X h256 -> no 1
+        X h261 -> no 1
+        X h517 -> no 1
+        X s5 h4 -> no 1
+        X h5 s11 -> no 1
+        X h2147483647 -> no 1
+        X h2147483648 -> no 12
         R -> ln 1 chg 0 dsg 0 at 0 0
         S 2 1000 0 2000 0 {calm} -> no 2
         X s5 s10 -> ok
@@ -55,11 +65,15 @@ def openings():
         O{o17} -> no 1
         S 16 1000 0 974 0 {calm} -> st 16 bal 0
         X{s17} s -> no 12
+        X{s17} h -> no 12
         X{s17} s4 -> no 1
+        X{h17} -> no 1
         R -> ln 1 chg 0 dsg 0 at 0 0
         O{o16} -> ok
         R -> ln 0 chg 1 dsg 1 at 0 0
-        """, s16=" s5" * 16, s17=" s5" * 17, o16=" 5" * 16, o17=" 5" * 17, **FIVE)
+        X{h16} -> ok
+        S 16 1000 0 2000 0 {calm} {calm} -> st 0 bal 0
+        """, s16=" s5" * 16, s17=" s5" * 17, o16=" 5" * 16, o17=" 5" * 17, h16=" h10" * 16, h17=" h10" * 17, **FIVE)
 
 
 def long_lists():
@@ -129,13 +143,403 @@ def rooms():
         """)
 
 
+def host_register():
+    """02, ticket 3: register 1 is there on host boards; its bits are the switches, as long as nothing is latched."""
+    told("register 1 on both kinds", """
+        X h5 s5 -> ok
+        F 2 1 0 * -> re 2 1 0 *
+        F 2 0 0 214 -> re 2 0 0 *
+        S 1 1000 0 2000 0 {calm} -> st 0 bal 0
+        R -> ln 0 chg 0 dsg 0 at 0 0
+        F 3 1 2 * -> re 3 1 2 *
+        F 2 0 0 214 -> re 2 0 64 *
+        R -> ln 0 chg 0 dsg 1 at 0 0
+        F 3 1 4 * -> re 3 1 4 *
+        F 2 0 0 214 -> re 2 0 128 *
+        R -> ln 0 chg 1 dsg 0 at 0 0
+        F 3 1 1 * -> re 3 1 1 *
+        S 1 1000 0 2000 0 {calm} -> st 0 bal 0
+        F 3 1 7 * -> re 3 1 7 *
+        F 2 1 0 * -> re 2 1 7 *
+        S 1 1000 0 2000 0 {calm} -> st 192 bal 0
+        R -> ln 0 chg 1 dsg 1 at 0 0
+        F 3 1 8 * -> no 10
+        F 3 1 9 * -> no 10
+        F 3 1 128 * -> no 10
+        F 3 1 255 * -> no 10
+        F 2 1 1 * -> no 10
+        F 2 1 7 * -> no 10
+        F 2 1 8 * -> no 10
+        F 2 1 0 * -> re 2 1 7 *
+        F 2 0 0 214 -> re 2 0 192 *
+        F 4 1 0 * -> no 9
+        F 4 1 8 * -> no 9
+        F 5 1 0 * -> no 9
+        F 5 1 7 * -> no 9
+        F 5 1 8 * -> no 9
+        F 4 0 0 171 -> re 4 0 192 *
+        """, **FIVE)
+    told("the order of refusals, and the registers beside it", """
+        X h5 -> ok
+        F 3 1 8 -> no 6
+        F@3 3 1 8 0 -> no 7
+        F 3 1 8 0 -> no 8
+        F 7 1 8 * -> no 2
+        F 3 0 0 * -> no 9
+        F 3 0 7 * -> no 9
+        F 2 2 0 * -> no 9
+        F 3 2 0 * -> no 9
+        F 3 5 0 * -> no 9
+        F 3 12 0 * -> no 9
+        F@3 3 1 6 * -> no 7
+        F 2 1 0 * -> re 2 1 0 *
+        F@9 3 1 6 * -> re 3 1 6 *
+        F@9 2 1 0 * -> re 2 1 6 *
+        """)
+    # it is not staged and not compared: equal settings spend nothing, and a spent cycle leaves it
+    told("programming leaves register 1", """
+        X h5 -> ok
+        F 3 1 7 * -> re 3 1 7 *
+        F 3 11 65 234 -> re 3 11 0 *
+        F 3 6 7 * -> re 3 6 7 *
+        F 3 11 65 234 -> re 3 11 1 *
+        F 2 1 0 * -> re 2 1 7 *
+        F 2 0 0 214 -> re 2 0 192 *
+        F 3 1 0 * -> re 3 1 0 *
+        F 2 6 0 * -> re 2 6 7 *
+        F 3 11 65 234 -> re 3 11 1 *
+        F 2 1 0 * -> re 2 1 0 *
+        """)
+
+
+def host_clears():
+    """02, ticket 3: latched by the old rule, kept at every sample, cleared where b0 goes from 1 to 0.
+
+    OV and UV stay at their level, the current faults go at theirs.
+    """
+    # level 4150, release 4050: the flag goes below 4050 as ever, the latch does not
+    told("OV", """
+        X h5 -> ok
+        F 3 1 6 * -> re 3 1 6 *
+        5: S 1 100000 0 2000 0 {one} -> st 192 bal 0
+        S 1 100000 0 2000 0 {one} -> st 68 bal 1
+        F 2 1 0 * -> re 2 1 2 *
+        R -> ln 1 chg 0 dsg 1 at 1 1
+        S 1 1 0 2000 0 4050 4000 4000 4000 4000 -> st 68 bal 1
+        S 1 1 0 2000 0 4049 4049 4049 4049 4049 -> st 68 bal 0
+        R -> ln 1 chg 0 dsg 1 at 0 0
+        S 1 1 0 2000 0 4149 4149 4149 4149 4150 -> st 68 bal 0
+        F 3 1 3 * -> re 3 1 3 *
+        F 2 0 0 214 -> re 2 0 68 *
+        F 3 1 2 * -> re 3 1 2 *
+        F 2 0 0 214 -> re 2 0 68 *
+        S 1 1 0 2000 0 4149 4149 4151 4149 4149 -> st 68 bal 0
+        F 3 1 3 * -> re 3 1 3 *
+        F 3 1 2 * -> re 3 1 2 *
+        F 2 0 0 214 -> re 2 0 68 *
+        S 1 1 1 2000 0 4149 4149 4149 4149 4149 -> st 68 bal 0
+        F 3 1 2 * -> re 3 1 2 *
+        F 2 0 0 214 -> re 2 0 68 *
+        2: F 3 1 3 * -> re 3 1 3 *
+        F 2 0 0 214 -> re 2 0 68 *
+        F 3 1 2 * -> re 3 1 2 *
+        F 2 0 0 214 -> re 2 0 64 *
+        F 2 1 0 * -> re 2 1 2 *
+        R -> ln 0 chg 0 dsg 1 at 0 0
+        F 3 1 6 * -> re 3 1 6 *
+        F 2 0 0 214 -> re 2 0 192 *
+        """, **FIVE)
+    # level 1400, release 1600, no delay; the last write clears and sets the bit
+    told("UV", """
+        X h5 -> ok
+        F 3 1 6 * -> re 3 1 6 *
+        S 1 1 0 2000 0 4000 4000 4000 4000 1399 -> st 136 bal 0
+        F 2 1 0 * -> re 2 1 4 *
+        S 1 1 0 2000 0 {calm} -> st 136 bal 0
+        S 1 1 0 2000 0 4000 4000 4000 4000 1400 -> st 136 bal 0
+        F 3 1 5 * -> re 3 1 5 *
+        F 3 1 4 * -> re 3 1 4 *
+        F 2 0 0 214 -> re 2 0 136 *
+        S 1 1 0 2000 0 1399 4000 4000 4000 4000 -> st 136 bal 0
+        F 3 1 5 * -> re 3 1 5 *
+        F 3 1 4 * -> re 3 1 4 *
+        F 2 0 0 214 -> re 2 0 136 *
+        S 1 1 1 2000 0 1401 4000 4000 4000 4000 -> st 136 bal 0
+        F 3 1 5 * -> re 3 1 5 *
+        F 2 0 0 214 -> re 2 0 136 *
+        F 3 1 6 * -> re 3 1 6 *
+        F 2 0 0 214 -> re 2 0 192 *
+        """, **FIVE)
+    # 60,000 with the load attached is over; each clear but the last leaves both bits at 0
+    told("SCD", """
+        X h5 -> ok
+        F 3 1 6 * -> re 3 1 6 *
+        S 1 1000 1 2000 60001 {calm} -> st 1 bal 0
+        F 2 1 0 * -> re 2 1 0 *
+        S 1 1000 0 2000 0 {calm} -> st 1 bal 0
+        S 1 1000 0 2000 60001 {calm} -> st 1 bal 0
+        F 3 1 1 * -> re 3 1 1 *
+        F 3 1 0 * -> re 3 1 0 *
+        F 2 0 0 214 -> re 2 0 1 *
+        S 1 1000 1 2000 60000 {calm} -> st 1 bal 0
+        F 3 1 0 * -> re 3 1 0 *
+        F 2 0 0 214 -> re 2 0 1 *
+        F 3 1 1 * -> re 3 1 1 *
+        F 2 0 0 214 -> re 2 0 1 *
+        F 3 1 0 * -> re 3 1 0 *
+        F 2 0 0 214 -> re 2 0 0 *
+        R -> ln 0 chg 0 dsg 0 at 0 0
+        S 1 1 1 2000 60001 {calm} -> st 1 bal 0
+        S 1 1 1 2000 59999 {calm} -> st 1 bal 0
+        F 3 1 1 * -> re 3 1 1 *
+        F 3 1 6 * -> re 3 1 6 *
+        F 2 0 0 214 -> re 2 0 192 *
+        """, **FIVE)
+    # level 10,000, delay 20 ms behind the first sample
+    told("OCD", """
+        X h5 -> ok
+        F 3 1 6 * -> re 3 1 6 *
+        S 1 1 1 2000 10001 {calm} -> st 192 bal 0
+        S 1 19999 1 2000 10001 {calm} -> st 192 bal 0
+        S 1 1 1 2000 10001 {calm} -> st 2 bal 0
+        F 2 1 0 * -> re 2 1 0 *
+        S 1 1 0 2000 10000 {calm} -> st 2 bal 0
+        S 1 1 0 2000 -500000 {calm} -> st 2 bal 0
+        S 1 1 0 2000 10001 {calm} -> st 2 bal 0
+        F 3 1 7 * -> re 3 1 7 *
+        F 3 1 6 * -> re 3 1 6 *
+        F 2 0 0 214 -> re 2 0 2 *
+        S 1 1 1 2000 10000 {calm} -> st 2 bal 0
+        F 2 1 0 * -> re 2 1 6 *
+        F 3 1 7 * -> re 3 1 7 *
+        F 3 1 6 * -> re 3 1 6 *
+        F 2 0 0 214 -> re 2 0 192 *
+        S 1 1 1 2000 10001 {calm} -> st 192 bal 0
+        S 1 20000 1 2000 10001 {calm} -> st 2 bal 0
+        S 1 1 1 2000 9999 {calm} -> st 2 bal 0
+        F 3 1 1 * -> re 3 1 1 *
+        F 3 1 0 * -> re 3 1 0 *
+        F 2 0 0 214 -> re 2 0 0 *
+        """, **FIVE)
+    # 60,000 is over for SCD and not for OCD, whose run of 20 ms the clear of SCD has not touched
+    told("one of two, and the runs", """
+        X h5 -> ok
+        F 3 1 6 * -> re 3 1 6 *
+        S 1 1 0 2000 60001 {calm} -> st 1 bal 0
+        S 1 19999 0 2000 60000 {calm} -> st 1 bal 0
+        F 3 1 7 * -> re 3 1 7 *
+        F 3 1 6 * -> re 3 1 6 *
+        F 2 0 0 214 -> re 2 0 192 *
+        S 1 1 0 2000 60001 {calm} -> st 3 bal 0
+        F 2 1 0 * -> re 2 1 0 *
+        S 1 1 1 2000 60000 {calm} -> st 3 bal 0
+        F 3 1 7 * -> re 3 1 7 *
+        F 3 1 6 * -> re 3 1 6 *
+        F 2 0 0 214 -> re 2 0 2 *
+        R -> ln 1 chg 0 dsg 0 at 0 0
+        S 1 1 1 2000 10000 {calm} -> st 2 bal 0
+        F 3 1 7 * -> re 3 1 7 *
+        F 3 1 6 * -> re 3 1 6 *
+        F 2 0 0 214 -> re 2 0 192 *
+        """, **FIVE)
+
+
+def host_levels():
+    """02, ticket 3, and its reading: the last sample against the levels that work at the write."""
+    # codes 2, 1 and 2 again: levels 4250, 4200, 4250. 4200 is under the first, at the second; a staged level is not asked.
+    # The flag of cell 1 stays: 4200 is not lower than 4150
+    told("OV levels moved", """
+        X h5 -> ok
+        F 3 6 2 * -> re 3 6 2 *
+        F 3 11 65 234 -> re 3 11 1 *
+        F 3 1 6 * -> re 3 1 6 *
+        5: S 1 100000 0 2000 0 4251 4000 4000 4000 4000 -> st 192 bal 0
+        S 1 100000 0 2000 0 4251 4000 4000 4000 4000 -> st 68 bal 1
+        S 1 100000 0 2000 0 4200 4000 4000 4000 4000 -> st 68 bal 1
+        F 3 6 1 * -> re 3 6 1 *
+        F 3 11 65 234 -> re 3 11 2 *
+        F 3 1 3 * -> re 3 1 3 *
+        F 3 1 2 * -> re 3 1 2 *
+        F 2 0 0 214 -> re 2 0 68 *
+        F 3 6 2 * -> re 3 6 2 *
+        F 3 1 3 * -> re 3 1 3 *
+        F 3 1 2 * -> re 3 1 2 *
+        F 2 0 0 214 -> re 2 0 68 *
+        F 3 11 65 234 -> re 3 11 3 *
+        F 2 0 0 214 -> re 2 0 68 *
+        F 3 1 3 * -> re 3 1 3 *
+        F 3 1 2 * -> re 3 1 2 *
+        F 2 0 0 214 -> re 2 0 64 *
+        R -> ln 0 chg 0 dsg 1 at 1 1
+        """, **FIVE)
+    # codes 1, 2 and 0: levels 1500, 1600, 1400, against a lowest cell of 1500
+    told("UV levels moved", """
+        X h5 -> ok
+        F 3 1 6 * -> re 3 1 6 *
+        S 1 1 0 2000 0 1399 4000 4000 4000 4000 -> st 136 bal 0
+        S 1 1 0 2000 0 1500 4000 4000 4000 4000 -> st 136 bal 0
+        F 3 7 1 * -> re 3 7 1 *
+        F 3 11 65 234 -> re 3 11 1 *
+        F 3 1 5 * -> re 3 1 5 *
+        F 3 1 4 * -> re 3 1 4 *
+        F 2 0 0 214 -> re 2 0 136 *
+        F 3 7 2 * -> re 3 7 2 *
+        F 3 11 65 234 -> re 3 11 2 *
+        F 3 1 5 * -> re 3 1 5 *
+        F 3 1 4 * -> re 3 1 4 *
+        F 2 0 0 214 -> re 2 0 136 *
+        F 3 7 0 * -> re 3 7 0 *
+        F 3 11 65 234 -> re 3 11 3 *
+        F 3 1 5 * -> re 3 1 5 *
+        F 3 1 4 * -> re 3 1 4 *
+        F 2 0 0 214 -> re 2 0 128 *
+        """, **FIVE)
+    # SCD codes 1 and 0 are 65 and 60 mV, OCD codes 1 and 0 are 15 and 10. The last shunt reads 65,000, then 15,000
+    told("current levels moved", """
+        X h5 -> ok
+        F 3 1 6 * -> re 3 1 6 *
+        S 1 1 1 2000 65000 {calm} -> st 1 bal 0
+        F 3 1 7 * -> re 3 1 7 *
+        F 3 1 6 * -> re 3 1 6 *
+        F 2 0 0 214 -> re 2 0 1 *
+        F 3 10 1 * -> re 3 10 1 *
+        F 3 9 1 * -> re 3 9 1 *
+        F 3 11 65 234 -> re 3 11 1 *
+        F 3 1 7 * -> re 3 1 7 *
+        F 3 1 6 * -> re 3 1 6 *
+        F 2 0 0 214 -> re 2 0 192 *
+        S 1 1 1 2000 15001 {calm} -> st 192 bal 0
+        S 1 20000 1 2000 15001 {calm} -> st 2 bal 0
+        S 1 1 1 2000 15000 {calm} -> st 2 bal 0
+        F 3 9 0 * -> re 3 9 0 *
+        F 3 11 65 234 -> re 3 11 2 *
+        F 3 1 7 * -> re 3 1 7 *
+        F 3 1 6 * -> re 3 1 6 *
+        F 2 0 0 214 -> re 2 0 2 *
+        F 3 9 1 * -> re 3 9 1 *
+        F 3 11 65 234 -> re 3 11 3 *
+        F 3 1 7 * -> re 3 1 7 *
+        F 3 1 6 * -> re 3 1 6 *
+        F 2 0 0 214 -> re 2 0 192 *
+        """, **FIVE)
+
+
+def host_bits():
+    """02, ticket 3: a fault that latches clears the bits of the switches it forbids, at that sample only."""
+    told("overtemperature", """
+        X h5 -> ok
+        F 3 1 7 * -> re 3 1 7 *
+        S 1 1 0 974 0 {calm} -> st 16 bal 0
+        F 2 1 0 * -> re 2 1 1 *
+        F 3 1 7 * -> re 3 1 7 *
+        F 2 0 0 214 -> re 2 0 16 *
+        S 1 1 0 974 0 {calm} -> st 16 bal 0
+        F 2 1 0 * -> re 2 1 7 *
+        F 3 1 6 * -> re 3 1 6 *
+        F 2 0 0 214 -> re 2 0 16 *
+        S 1 1 0 975 0 {calm} -> st 192 bal 0
+        F 2 1 0 * -> re 2 1 6 *
+        S 1 1 0 974 0 {calm} -> st 16 bal 0
+        F 2 1 0 * -> re 2 1 0 *
+        S 1 1 0 975 0 {calm} -> st 0 bal 0
+        """, **FIVE)
+    # OV is latched as UV latches: the CHG bit, written under OV, stays. Both are over at 4149 and 1401
+    told("bits under a latch", """
+        X h5 -> ok
+        F 3 1 6 * -> re 3 1 6 *
+        5: S 1 100000 0 2000 0 {one} -> st 192 bal 0
+        S 1 100000 0 2000 0 {one} -> st 68 bal 1
+        F 3 1 6 * -> re 3 1 6 *
+        F 2 0 0 214 -> re 2 0 68 *
+        S 1 1 0 2000 0 {one} -> st 68 bal 1
+        F 2 1 0 * -> re 2 1 6 *
+        S 1 1 0 2000 0 4151 1399 4000 4000 4000 -> st 12 bal 1
+        F 2 1 0 * -> re 2 1 4 *
+        S 1 1 0 2000 0 4149 1401 4000 4000 4000 -> st 12 bal 1
+        F 3 1 7 * -> re 3 1 7 *
+        F 3 1 6 * -> re 3 1 6 *
+        F 2 0 0 214 -> re 2 0 192 *
+        R -> ln 0 chg 1 dsg 1 at 1 1
+        """, **FIVE)
+    # b0 at 1 through a latching; then a 0 that clears UV and takes both bits away
+    told("only a write changes b0", """
+        X h5 -> ok
+        F 3 1 7 * -> re 3 1 7 *
+        S 1 1 0 2000 0 1399 4000 4000 4000 4000 -> st 136 bal 0
+        F 2 1 0 * -> re 2 1 5 *
+        S 1 1 0 2000 0 {calm} -> st 136 bal 0
+        F 3 1 0 * -> re 3 1 0 *
+        F 2 0 0 214 -> re 2 0 0 *
+        """, **FIVE)
+
+
+def host_last_sample():
+    """02, ticket 3: the last accepted sample; before any there is nothing to clear."""
+    told("refused samples do not count", """
+        X h5 -> ok
+        F 3 1 1 * -> re 3 1 1 *
+        F 3 1 0 * -> re 3 1 0 *
+        F 2 0 0 214 -> re 2 0 0 *
+        S 1 1 1 2000 60001 {calm} -> st 1 bal 0
+        S 1 1 0 2000 0 4000 4000 4000 4000 -> no 3
+        S 1 0 0 2000 0 {calm} -> no 4
+        S 1 1 2 2000 0 {calm} -> no 5
+        S 2 1 0 2000 0 {calm} -> no 2
+        F 3 1 1 * -> re 3 1 1 *
+        F 3 1 0 * -> re 3 1 0 *
+        F 2 0 0 214 -> re 2 0 1 *
+        S 1 1 1 2000 0 {calm} -> st 1 bal 0
+        S 1 1 2 2000 60001 {calm} -> no 5
+        F 3 1 1 * -> re 3 1 1 *
+        F 3 1 8 * -> no 10
+        F 2 0 0 214 -> re 2 0 1 *
+        F 3 1 0 * -> re 3 1 0 *
+        F 2 0 0 214 -> re 2 0 0 *
+        """, **FIVE)
+
+
+def host_rows():
+    """02, ticket 3: both kinds in a row, each by its own rules; the page's own lines of its host board."""
+    told("both kinds", """
+        X s5 h5 s6 -> ok
+        R -> ln 0 chg 0 dsg 0 at 0 0
+        F 5 1 6 199 -> re 5 1 6 199
+        R -> ln 0 chg 1 dsg 1 at 0 0
+        S 2 1 1 2000 60001 {calm} -> st 1 bal 0
+        S 1 1 1 2000 60001 {calm} -> st 1 bal 0
+        S 1 1 0 2000 0 {calm} -> st 192 bal 0
+        S 2 1 0 2000 0 {calm} -> st 1 bal 0
+        R -> ln 1 chg 0 dsg 0 at 0 0
+        F 5 1 7 192 -> re 5 1 7 192
+        F 5 1 6 199 -> re 5 1 6 199
+        R -> ln 0 chg 1 dsg 1 at 0 0
+        S 3 1 0 2000 0 1399 {calm} -> st 136 bal 0
+        R -> ln 1 chg 1 dsg 0 at 0 0
+        S 3 1 0 2000 0 1601 {calm} -> st 192 bal 0
+        F 5 1 4 * -> re 5 1 4 *
+        R -> ln 0 chg 1 dsg 0 at 0 0
+        X h5 -> ok
+        F 2 1 0 * -> re 2 1 0 *
+        """, **FIVE)
+    told("the page's host board", """
+        X s5 h5 -> ok
+        F 5 1 6 199 -> re 5 1 6 199
+        S 2 1000 0 2000 0 {calm} -> st 192 bal 0
+        S 2 1000 1 2000 60001 {calm} -> st 1 bal 0
+        S 2 1000 0 2000 0 {calm} -> st 1 bal 0
+        F 5 1 7 192 -> re 5 1 7 192
+        F 5 1 6 199 -> re 5 1 6 199
+        F 4 0 0 171 -> re 4 0 192 229
+        """, **FIVE)
+
+
 def later_forms():
     """Before their request lands."""
     told("later forms", """
         O 5 -> ok
-        X h5 -> no 12
         X g3/0/2 -> no 12
-        X s5 h5 -> no 12
+        X s5 g3/0/2 -> no 12
+        X h5 g3/0/2 -> no 12
         L 1 128 -> no 12
         U -> no 12
         W 46 -> no 12
@@ -153,6 +557,9 @@ RAW_LINES = (
     (b"O 05", 12), (b"O 00", 12), (b"O 0", 1), (b"O -5", 12), (b"O s5", 12), (b"O@4 5", 12),
     (b"X 5", 12), (b"X s", 12), (b"X s05", 12), (b"X s00", 12), (b"X s-5", 12), (b"X s 5", 12), (b"X S5", 12), (b"X s5s5", 12),
     (b"X s5/0/1", 12), (b"X s5,s5", 12), (b"X s5 ", 12), (b"X  s5", 12), (b"X ", 12), (b"Xs5", 12), (b"X q5", 12), (b"X s5\xff", 12),
+    (b"X h", 12), (b"X h05", 12), (b"X h-5", 12), (b"X h 5", 12), (b"X H5", 12), (b"X hs5", 12), (b"X sh5", 12), (b"X h5h5", 12),
+    (b"X h5/0", 12), (b"X h5/0/1", 12), (b"X h5,h5", 12), (b"X h5 ", 12), (b"Xh5", 12), (b"X h5 5", 12), (b"O h5", 12), (b"X h0", 1),
+    (b"X h5 h4", 1), (b"X h4294967301", 12), (b"H 5", 12),
     (b"F@", 12), (b"F@ 4", 12), (b"F @4", 12), (b"F@04", 12), (b"F@-4", 12), (b"F@+4", 12), (b"F@4 ", 12), (b"F@4@4", 12), (b"F@x", 12),
     (b"F@4", 6), (b"F@00", 12), (b"F 256", 12), (b"F -1", 12), (b"F 00", 12), (b"F@0 256", 12),
     (b"S", 12), (b"S 1 1 0 2000", 12), (b"S 1 1 0 2000 0", 3), (b"S 1 1 0 2000 -0" + b" 1" * 5, 12),
@@ -196,7 +603,8 @@ def input_cases():
 
 def main():
     """Run all; exit 1 if anything differs."""
-    for part in (openings, long_lists, rooms, later_forms, raw_lines, long_lengths, input_cases):
+    for part in (openings, long_lists, rooms, host_register, host_clears, host_levels, host_bits, host_last_sample, host_rows,
+                 later_forms, raw_lines, long_lengths, input_cases):
         part()
     sys.exit(1 if FAILED else 0)
 

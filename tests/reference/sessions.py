@@ -8,7 +8,7 @@ the right answers are is the reference's business.
 import random
 from collections import namedtuple
 
-from reference import Bench, Settings, crc8, value_allowed
+from reference import STAND_ALONE, Bench, Settings, crc8, value_allowed
 
 LARGEST = 2147483647
 LONGEST_ELAPSED = 100000
@@ -26,8 +26,9 @@ Session = namedtuple("Session", "seed data alone")
 class Aim:
     """A rough picture of one board, kept only to aim at its edges."""
 
-    def __init__(self, count):
+    def __init__(self, count, kind=STAND_ALONE):
         self.count = count
+        self.kind = kind
         self.staged = [0] * 5
         self.working = [0] * 5
         self.spent = 0
@@ -123,7 +124,7 @@ class Maker:
         elif kind == "many":
             counts = [self.rng.randint(5, 10) for _ in range(self.pick(17, 17, 18, 40))]
         else:
-            counts[self.pick(0, -1)] = self.pick(0, 1, 4, 4, 11, 11, 255, 261, LARGEST,
+            counts[self.pick(0, -1)] = self.pick(0, 1, 4, 4, 11, 11, 255, 256, 261, 266, 517, LARGEST,
                                                  LARGEST + 1)
         self.words("O", counts)
 
@@ -298,8 +299,8 @@ class Maker:
             self.read(number)
 
     def read(self, number):
-        """Read one of the registers that hold something, at times with a value."""
-        register = self.pick(0, 0, 6, 7, 8, 9, 10, 11, 11)
+        """Read one of the registers that hold something, at times with a value; register 1 is a host board's."""
+        register = self.pick(0, 0, 0, 1, 6, 7, 8, 9, 10, 11, 11)
         value = self.pick(1, 0x41, 128, 255) if self.chance(0.08) else 0
         self.frame(2 * number, register, value)
 
@@ -307,8 +308,8 @@ class Maker:
         """A frame that is mostly refused."""
         rng, number = self.rng, self.number()
         address = 2 * number + self.pick(0, 1)
-        register = self.pick(0, 5, 6, 7, 8, 9, 10, 11, 12, rng.randrange(256))
-        value = self.pick(0, 0, 1, 0x1F, 0x20, 0x40, 0x41, 0x42, 0x80, 0xFF, rng.randrange(256))
+        register = self.pick(0, 1, 5, 6, 7, 8, 9, 10, 11, 12, rng.randrange(256))
+        value = self.pick(0, 0, 1, 6, 7, 8, 0x1F, 0x20, 0x40, 0x41, 0x42, 0x80, 0xFF, rng.randrange(256))
         what = rng.randrange(6)
         if what == 0:
             self.frame(address, register, value, self.pick(1, 128, 255, rng.randint(1, 255)))
@@ -637,7 +638,7 @@ class Maker:
         rng = self.rng
         at = rng.randint(0, len(line))
         odd = self.pick(b" ", b"0", b"-", b"+", b"\t", b"\r", b"\0", b"\x80", b"\xff",
-                        b"9", b"1", b"S", b".", b"a", bytes([rng.randrange(256)]))
+                        b"9", b"1", b"S", b".", b"a", b"h", bytes([rng.randrange(256)]))
         what = rng.randrange(10)
         if what == 0:
             return line[:at] + line[at + 1:]

@@ -14,7 +14,7 @@ import sys
 
 sys.dont_write_bytecode = True
 
-from reference import LARGEST_NUMBER, Refusal, Sample, Stack, split_lines  # noqa: E402
+from reference import HOST, LARGEST_NUMBER, STAND_ALONE, Refusal, Sample, Stack, split_lines  # noqa: E402
 
 LONGEST_LINE = 300000
 USUAL_ROOM = 4
@@ -24,7 +24,8 @@ MODEL_ROOM = 16
 # ten digits are enough for every number that is small enough
 NUMBER = rb"(?:0|[1-9][0-9]{0,9})"
 SHUNT = rb"(?:0|-?[1-9][0-9]{0,9})"
-BOARD = rb"s%b" % NUMBER
+BOARD = rb"[sh]%b" % NUMBER
+KINDS = {b"s": STAND_ALONE, b"h": HOST}
 
 
 def numbers(text):
@@ -41,6 +42,11 @@ def byte_list(text):
     if any(number > 255 for number in found):
         raise Refusal(12)
     return found
+
+
+def plans(text):
+    """The cell count and the kind of each board."""
+    return numbers(text), [KINDS[letter] for letter in re.findall(rb"[a-z]", text)]
 
 
 class Workshop:
@@ -73,9 +79,9 @@ class Workshop:
             raise Refusal(1)
         return self.stack
 
-    def opening(self, counts):
+    def opening(self, counts, kinds=None):
         """A refused one raises before the earlier stack is let go."""
-        self.stack = Stack(counts)
+        self.stack = Stack(counts, kinds)
         return b"ok"
 
     def sample(self, fields):
@@ -104,7 +110,7 @@ FORMS = (
     (re.compile(rb"O((?: %b)*)" % NUMBER),
      lambda counts: (numbers(counts),), Workshop.opening),
     (re.compile(rb"X((?: %b)*)" % BOARD),
-     lambda boards: (numbers(boards),), Workshop.opening),
+     plans, Workshop.opening),
     (re.compile(rb"S((?: %b){4} %b(?: %b)*)" % (NUMBER, SHUNT, NUMBER)),
      lambda fields: (numbers(fields),), Workshop.sample),
     (re.compile(rb"F((?: %b)*)" % NUMBER),
