@@ -1,9 +1,11 @@
 //! What each line does: the desk lends its stack, and for a frame its reply buffer, to the library, and keeps what comes.
-use crate::lines::Line;
-use adomvik::{Board, Reading, Refusal, Sampled, BOARDS_MAX, FRAME_BYTES, RECORD_BYTES};
+use crate::lines::{Kind, Line, Wanted};
+use adomvik::{Board, Plan, Reading, Refusal, Sampled, BOARDS_MAX, FRAME_BYTES, RECORD_BYTES};
 
 /// The most bytes that are really lent for a reply. It takes the first four, so that more make no difference.
 const MOST_LENT: usize = 65_536;
+/// The most plans that are really handed over. One is too many for a stack, so that more make no difference.
+const MOST_PLANS: usize = BOARDS_MAX + 1;
 
 /// What an accepted line is answered with.
 pub enum Answer {
@@ -31,7 +33,7 @@ impl Desk {
     /// Does what a line asks. A refused line has changed nothing.
     pub fn act(&mut self, line: &Line) -> Result<Answer, Refusal> {
         match line {
-            Line::Opening { counts } => self.open(counts),
+            Line::Opening { boards } => self.open(boards),
             Line::Sample { board, readings, cells } => {
                 adomvik::sample(self.row(), *board, *readings, cells).map(Answer::Sampled)
             }
@@ -46,12 +48,20 @@ impl Desk {
     }
 
     /// As many places are lent as boards are asked for, or all where they are not enough.
-    fn open(&mut self, counts: &[u32]) -> Result<Answer, Refusal> {
-        let boards = counts.len().min(BOARDS_MAX);
-        adomvik::open(self.boards.get_mut(..boards).unwrap_or_default(), counts)?;
+    fn open(&mut self, wanted: &[Wanted]) -> Result<Answer, Refusal> {
+        let mut plans = [Plan::stand_alone(0); MOST_PLANS];
+        for (plan, board) in plans.iter_mut().zip(wanted) {
+            *plan = match board.kind {
+                Kind::StandAlone => Plan::stand_alone(board.cells),
+                Kind::Host => Plan::host(board.cells),
+            };
+        }
+        let plans = plans.get(..wanted.len()).unwrap_or(&plans);
+        let boards = plans.len().min(BOARDS_MAX);
+        adomvik::open_plans(self.boards.get_mut(..boards).unwrap_or_default(), plans)?;
         self.opened = boards;
-        for (kept, count) in self.counts.iter_mut().zip(counts) {
-            *kept = *count;
+        for (kept, board) in self.counts.iter_mut().zip(wanted) {
+            *kept = board.cells;
         }
         Ok(Answer::Opened)
     }

@@ -15,10 +15,24 @@ const MOST_DIGITS: usize = 10;
 /// No line has more fields: each takes a space and a byte.
 const MOST_FIELDS: usize = LONGEST_LINE / 2;
 
+/// The kind of a board.
+#[derive(Clone, Copy)]
+pub enum Kind {
+    StandAlone,
+    Host,
+}
+
+/// A board that an opening asks for. Any number of cells is well formed: the library decides.
+#[derive(Clone, Copy)]
+pub struct Wanted {
+    pub kind: Kind,
+    pub cells: u32,
+}
+
 /// What a well-formed line asks. Its lists lie in lent memory.
 pub enum Line<'a> {
-    /// `O` and cell counts, or `X` and boards: the cell count of each stand-alone board.
-    Opening { counts: &'a [u32] },
+    /// `O` and cell counts, of stand-alone boards, or `X` and boards.
+    Opening { boards: &'a [Wanted] },
     /// `S`: a sample of one board.
     Sample { board: u32, readings: Readings, cells: &'a [u32] },
     /// `F`, or `F@N` with another room: a frame, and the bytes that are lent for its reply.
@@ -53,11 +67,17 @@ pub enum What {
 pub struct Lent {
     numbers: Box<[u32]>,
     bytes: Box<[u8]>,
+    boards: Box<[Wanted]>,
 }
 
 impl Lent {
     pub fn new() -> Lent {
-        Lent { numbers: vec![0; MOST_FIELDS].into(), bytes: vec![0; MOST_FIELDS].into() }
+        let none = Wanted { kind: Kind::StandAlone, cells: 0 };
+        Lent {
+            numbers: vec![0; MOST_FIELDS].into(),
+            bytes: vec![0; MOST_FIELDS].into(),
+            boards: vec![none; MOST_FIELDS].into(),
+        }
     }
 }
 
@@ -72,8 +92,8 @@ pub fn take_apart<'a>(line: &[u8], lent: &'a mut Lent) -> Result<Line<'a>, Flaw>
 
 fn asked<'a>(fields: &mut Fields, lent: &'a mut Lent) -> Result<Line<'a>, What> {
     match fields.letter()? {
-        b'O' => Ok(Line::Opening { counts: fields.list(&mut lent.numbers, Fields::number)? }),
-        b'X' => Ok(Line::Opening { counts: fields.list(&mut lent.numbers, Fields::board)? }),
+        b'O' => Ok(Line::Opening { boards: fields.list(&mut lent.boards, Fields::count)? }),
+        b'X' => Ok(Line::Opening { boards: fields.list(&mut lent.boards, Fields::board)? }),
         b'S' => fields.sample(&mut lent.numbers),
         b'F' => Ok(Line::Frame { room: fields.room()?, bytes: fields.list(&mut lent.bytes, Fields::byte)? }),
         b'R' => fields.nothing_more(Line::Reading),
@@ -160,14 +180,22 @@ impl Fields<'_> {
         u8::try_from(self.number()?).map_err(|_| What::NoByte)
     }
 
-    /// A board of `X`: the letter of its kind and its numbers.
-    fn board(&mut self) -> Result<u32, What> {
+    /// A board of `O`: a stand-alone one, by its cell count.
+    fn count(&mut self) -> Result<Wanted, What> {
+        Ok(Wanted { kind: Kind::StandAlone, cells: self.number()? })
+    }
+
+    /// A board of `X`: the letter of its kind and its cell count.
+    fn board(&mut self) -> Result<Wanted, What> {
         self.space()?;
-        if self.passes(b's') {
-            self.digits()
+        let kind = if self.passes(b's') {
+            Kind::StandAlone
+        } else if self.passes(b'h') {
+            Kind::Host
         } else {
-            Err(What::NoBoard)
-        }
+            return Err(What::NoBoard);
+        };
+        Ok(Wanted { kind, cells: self.digits()? })
     }
 
     /// The bytes that are lent for a frame's reply.

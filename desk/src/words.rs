@@ -1,6 +1,6 @@
 //! Words for a person at the desk: what stands behind a refusal's number. Nothing here decides anything.
 use crate::acts::Desk;
-use crate::lines::{Flaw, Line, What, LARGEST, LONGEST_LINE};
+use crate::lines::{Flaw, Line, Wanted, What, LARGEST, LONGEST_LINE};
 use crate::print::{self, Text};
 use adomvik::{Readings, Refusal, BOARDS_MAX, FRAME_BYTES};
 
@@ -33,7 +33,7 @@ pub fn flaw(text: &mut Text, line: &[u8], flaw: &Flaw) {
         What::MinusZero => format!("a minus sign before a zero at byte {place}"),
         What::TooLarge => format!("the number at byte {place} is over {LARGEST}"),
         What::NoByte => format!("a byte of a frame is over 255: it ends at byte {}", flaw.at),
-        What::NoBoard => format!("{found} at byte {place}, where a board such as s5 should be"),
+        What::NoBoard => format!("{found} at byte {place}, where a board such as s5 or h5 should be"),
     };
     said(text, &format!("no line of the workshop: {why}"));
 }
@@ -52,7 +52,7 @@ fn byte_at(line: &[u8], at: usize) -> String {
 pub fn refusal(text: &mut Text, refused: Refusal, line: &Line, desk: &Desk) {
     said(text, short(refused));
     let particulars = match (refused, line) {
-        (Refusal::BadRow, Line::Opening { counts }) => opening(counts),
+        (Refusal::BadRow, Line::Opening { boards }) => opening(boards),
         (Refusal::BadRow, _) => Some("none is open, and O 5 opens one".to_string()),
         (_, Line::Sample { board, readings, cells }) => sample(refused, *board, readings, cells, desk),
         (_, Line::Frame { bytes, room }) => frame(refused, bytes, *room, desk),
@@ -81,12 +81,12 @@ fn short(refused: Refusal) -> &'static str {
     }
 }
 
-fn opening(counts: &[u32]) -> Option<String> {
-    if counts.is_empty() || counts.len() > BOARDS_MAX {
-        return Some(format!("it would have {} boards, and can have 1 to {BOARDS_MAX}", counts.len()));
+fn opening(boards: &[Wanted]) -> Option<String> {
+    if boards.is_empty() || boards.len() > BOARDS_MAX {
+        return Some(format!("it would have {} boards, and can have 1 to {BOARDS_MAX}", boards.len()));
     }
-    let (board, count) = (1..).zip(counts).find(|(_, count)| !(5..=10).contains(*count))?;
-    Some(format!("board {board} would have {count} cells, and can have 5 to 10"))
+    let (board, Wanted { cells, .. }) = (1..).zip(boards).find(|(_, board)| !(5..=10).contains(&board.cells))?;
+    Some(format!("board {board} would have {cells} cells, and can have 5 to 10"))
 }
 
 fn no_board(board: u32, desk: &Desk) -> String {
