@@ -39,7 +39,7 @@ enum {
 /* What an act returns; the table's 12 is a program's own and never comes from here. */
 enum {
     ADOMVIK_OK = 0,
-    ADOMVIK_BAD_ROW = 1,      /* not 1 to 16 boards, or a board without 5 to 10 cells */
+    ADOMVIK_BAD_ROW = 1,      /* not 1 to 16 boards, or a board that is of no kind below or is without 5 to 10 cells */
     ADOMVIK_NO_BOARD = 2,     /* no board of that number */
     ADOMVIK_CELL_LIST = 3,    /* the cell list is not as long as the board's cell count */
     ADOMVIK_ELAPSED = 4,      /* elapsed time not 1 to 100,000 us */
@@ -47,8 +47,8 @@ enum {
     ADOMVIK_FRAME_LENGTH = 6, /* the frame is not 4 bytes */
     ADOMVIK_REPLY_ROOM = 7,   /* the reply buffer is under 4 bytes */
     ADOMVIK_CHECK_BYTE = 8,   /* the check byte is wrong */
-    ADOMVIK_NO_REGISTER = 9,  /* the register is unknown, or a write to register 0 */
-    ADOMVIK_BAD_VALUE = 10,   /* the value is not allowed */
+    ADOMVIK_NO_REGISTER = 9,  /* the board has no such register (only host boards have 1), or a write to register 0 */
+    ADOMVIK_BAD_VALUE = 10,   /* a read with a value, or a write of one that the register does not take */
     ADOMVIK_NO_CYCLE = 11,    /* programming staged settings unlike the working ones, three cycles already spent */
     ADOMVIK_CROSSED = 13      /* programming staged settings whose SCD level is not above their OCD level */
 };
@@ -64,6 +64,43 @@ enum {
     ADOMVIK_CHG_ON = 128
 };
 
+/* Kinds of board. The four faults SCD, OCD, OV and UV of a stand-alone board let go by themselves; those of a host board stay
+ * until its host clears them by register 1, and its switches are on only where the host has set their bits there. */
+enum {
+    ADOMVIK_STAND_ALONE = 0,
+    ADOMVIK_HOST = 1
+};
+
+/* Register 1, that host boards alone have: read, and written with a value of 0 to 7. It starts at 0 and programming leaves it.
+ * A write that takes CLEAR from 1 to 0 clears each of the four faults that is over on the last accepted sample by the levels
+ * that work at the write: the highest cell below the OV level, the lowest above the UV level, the shunt at or below the level.
+ * DSG and CHG let their switches on where no latch forbids it; a fault that latches, overtemperature too, clears the bits of the
+ * switches that it forbids, at that sample only. */
+enum {
+    ADOMVIK_CONTROL_CLEAR = 1,
+    ADOMVIK_CONTROL_DSG = 2,
+    ADOMVIK_CONTROL_CHG = 4
+};
+
+/* What a board is to be. Plans are made by the two functions below and by nothing else: what stands in one may change. */
+typedef struct adomvik_plan {
+    uint32_t number;
+} adomvik_plan;
+
+/* A stand-alone board of so many cells. Any number makes a plan; one of other than 5 to 10 cells is refused as it is opened. */
+static inline adomvik_plan adomvik_stand_alone(uint32_t cells)
+{
+    adomvik_plan plan = {cells < 256 ? 256u * ADOMVIK_STAND_ALONE + cells : 0};
+    return plan;
+}
+
+/* A host board of so many cells. */
+static inline adomvik_plan adomvik_host(uint32_t cells)
+{
+    adomvik_plan plan = {cells < 256 ? 256u * ADOMVIK_HOST + cells : 0};
+    return plan;
+}
+
 /* The five settings bytes, each under its register's number. */
 typedef struct adomvik_settings {
     uint8_t r6, r7, r8, r9, r10;
@@ -78,17 +115,31 @@ typedef struct adomvik_cell {
     uint32_t ov, uv;
 } adomvik_cell;
 
-/* One board. Records are made by adomvik_open; copy and keep them as plain bytes. A byte of padding lies behind `cycles`, and two
- * records that are equal otherwise may differ in it: compare records by their fields. */
+/* The last accepted sample; before the first one, what no fault is over on: 0, 4,294,967,295 and 2,147,483,647. */
+typedef struct adomvik_last {
+    uint32_t low;  /* its lowest cell, mV */
+    uint32_t high; /* its highest cell, mV */
+    int32_t shunt; /* uV */
+} adomvik_last;
+
+/* One board. Records are made by an opening; copy and keep them as plain bytes. Three bytes of padding lie behind `control`, and
+ * two records that are equal otherwise may differ in them: compare records by their fields.
+ *
+ * The record had 104 bytes before there were host boards and has 120 now. New are `kind`, in the byte that was padding, and
+ * behind all others `last` and `control`; no other field has moved. 104 bytes that were kept are a stand-alone board's: give it
+ * kind 0, and anything as the last 16 bytes, which only a host board asks for. */
 typedef struct adomvik_board {
     uint8_t count;              /* cells */
     uint8_t latches;            /* the low five bits of register 0 */
     uint8_t cycles;             /* programming cycles spent */
+    uint8_t kind;               /* ADOMVIK_STAND_ALONE or ADOMVIK_HOST */
     uint16_t flags;             /* flagged cells: cell 1 is worth 1, cell 2 is worth 2, cell 3 is worth 4 and so on */
     adomvik_settings working;
     adomvik_settings staged;
     adomvik_currents currents;
     adomvik_cell cells[ADOMVIK_CELLS_MAX];
+    adomvik_last last;          /* kept by boards of both kinds */
+    uint8_t control;            /* register 1 */
 } adomvik_board;
 
 /* What a sample reads beside the cells. It is passed by value. */
@@ -114,21 +165,33 @@ typedef struct adomvik_reading {
     uint8_t cell;  /* the lowest flagged cell on it, or 0 */
 } adomvik_reading;
 
-ADOMVIK_ASSERT(sizeof(adomvik_board) == 104 && ADOMVIK_ALIGN(adomvik_board) == 4, "a board's record is 104 bytes, aligned to 4");
-ADOMVIK_ASSERT(offsetof(adomvik_board, flags) == 4 && offsetof(adomvik_board, working) == 6 && offsetof(adomvik_board, staged) == 11
-        && offsetof(adomvik_board, currents) == 16 && offsetof(adomvik_board, cells) == 24, "a board's fields lie where the library has them");
+ADOMVIK_ASSERT(sizeof(adomvik_plan) == 4 && ADOMVIK_ALIGN(adomvik_plan) == 4, "a plan is a number of 4 bytes");
+ADOMVIK_ASSERT(sizeof(adomvik_board) == 120 && ADOMVIK_ALIGN(adomvik_board) == 4, "a board's record is 120 bytes, aligned to 4");
+ADOMVIK_ASSERT(offsetof(adomvik_board, count) == 0 && offsetof(adomvik_board, latches) == 1 && offsetof(adomvik_board, cycles) == 2
+        && offsetof(adomvik_board, kind) == 3 && offsetof(adomvik_board, flags) == 4 && offsetof(adomvik_board, working) == 6
+        && offsetof(adomvik_board, staged) == 11 && offsetof(adomvik_board, currents) == 16 && offsetof(adomvik_board, cells) == 24
+        && offsetof(adomvik_board, last) == 104 && offsetof(adomvik_board, control) == 116, "a board's fields lie where the library has them");
+ADOMVIK_ASSERT(sizeof(adomvik_settings) == 5 && offsetof(adomvik_settings, r6) == 0 && offsetof(adomvik_settings, r7) == 1
+        && offsetof(adomvik_settings, r8) == 2 && offsetof(adomvik_settings, r9) == 3 && offsetof(adomvik_settings, r10) == 4, "settings are 5 bytes");
+ADOMVIK_ASSERT(sizeof(adomvik_currents) == 8 && offsetof(adomvik_currents, ocd) == 0 && offsetof(adomvik_currents, scd) == 4, "two runs of 4 bytes");
+ADOMVIK_ASSERT(sizeof(adomvik_cell) == 8 && offsetof(adomvik_cell, ov) == 0 && offsetof(adomvik_cell, uv) == 4, "a cell has two runs of 4 bytes");
+ADOMVIK_ASSERT(sizeof(adomvik_last) == 12 && offsetof(adomvik_last, low) == 0 && offsetof(adomvik_last, high) == 4
+        && offsetof(adomvik_last, shunt) == 8, "a last sample is three numbers of 4 bytes");
 ADOMVIK_ASSERT(sizeof(adomvik_readings) == 16 && ADOMVIK_ALIGN(adomvik_readings) == 4, "readings are four numbers of 4 bytes");
 ADOMVIK_ASSERT(sizeof(adomvik_sampled) == 4 && offsetof(adomvik_sampled, bled) == 2, "an answer to a sample is 4 bytes");
 ADOMVIK_ASSERT(sizeof(adomvik_reading) == 5, "a reading is 5 bytes");
 
-/* Opens a stack: counts[i] is the cell count of board i + 1, one for each record of the row. Every record of the row is made
- * anew, whatever it held. Refusal 1 also where the two lengths differ. */
+/* Opens a stack of stand-alone boards: counts[i] is the cell count of board i + 1, one for each record of the row. Every record
+ * of the row is made anew, whatever it held. Refusal 1 also where the two lengths differ. */
 uint8_t adomvik_open(adomvik_board *row, size_t boards, const uint32_t *counts, size_t count);
+
+/* The same by a plan for each board, made by adomvik_stand_alone or adomvik_host: a row may have boards of both kinds. */
+uint8_t adomvik_open_plans(adomvik_board *row, size_t boards, const adomvik_plan *plans, size_t count);
 
 /* A sample of one board of the row, in mV for each cell from cell 1 up. Refusals 1, 2, 3, 4, 5. */
 uint8_t adomvik_sample(adomvik_board *row, size_t boards, uint32_t board, adomvik_readings readings, const uint32_t *cells, size_t count, adomvik_sampled *out);
 
-/* The same of one record that is lent by itself; no row is looked at. Refusals 1 (this record's cell count), 3, 4, 5. */
+/* The same of one record that is lent by itself; no row is looked at. Refusals 1 (by this record), 3, 4, 5. */
 uint8_t adomvik_sample_board(adomvik_board *board, adomvik_readings readings, const uint32_t *cells, size_t count, adomvik_sampled *out);
 
 /* A frame from the host. The reply takes the first four bytes of its buffer; later bytes stay. The frame and the reply must not

@@ -1,9 +1,15 @@
 // The types of adomvik.mjs.
 
 /** The bytes of a record. */
-export const RECORD_BYTES: 104;
+export const RECORD_BYTES: 120;
 /** The most boards that a stack has. */
 export const BOARDS_MAX: 16;
+/** Register 1 of a host board: a write that takes this bit from 1 to 0 clears the faults that are over on the last sample. */
+export const CONTROL_CLEAR: 1;
+/** Register 1 of a host board: DSG may be on. A fault that latches and forbids the switch clears the bit. */
+export const CONTROL_DSG: 2;
+/** Register 1 of a host board: CHG may be on, likewise. */
+export const CONTROL_CHG: 4;
 
 /** Why an act was refused, with the paper's number. */
 export class Refusal extends Error {
@@ -47,6 +53,16 @@ export interface Reading {
   cell: number;
 }
 
+/** What a board is to be: its kind and its cells. Any number of cells makes a plan; one of other than 5 to 10 is refused as it is opened. */
+export class Plan {
+  private constructor();
+  #private;
+  /** A board whose faults let go by themselves. */
+  static standAlone(cells: number): Plan;
+  /** A board whose host clears its faults and lets its switches on, by register 1. Overtemperature lets go by itself. */
+  static host(cells: number): Plan;
+}
+
 /** A row of board records. Every act returns its answer or throws a Refusal, and has then changed nothing. */
 export class Row {
   private constructor();
@@ -54,8 +70,10 @@ export class Row {
   readonly boards: number;
   /** The row of the first so many of these records. */
   first(boards: number): Row;
-  /** Opens the row: a cell count for each record, southernmost first. */
+  /** Opens the row as stand-alone boards: a cell count for each record, southernmost first. */
   open(counts: readonly number[]): void;
+  /** Opens the row: a plan for each record, southernmost first. */
+  openPlans(plans: readonly Plan[]): void;
   /** A sample of one board, counted from 1. */
   sample(board: number, readings: Readings, cells: readonly number[]): Sampled;
   /** A sample of the record at a place, from 0, with no row looked at. */
@@ -75,8 +93,10 @@ export class Row {
 /** The library. */
 export class Adomvik {
   constructor(module: WebAssembly.Module);
-  /** A stack by the cell count of each board, southernmost first. */
+  /** A stack of stand-alone boards by the cell count of each, southernmost first. */
   open(counts: readonly number[]): Row;
+  /** A stack by the plan of each board, southernmost first. */
+  openPlans(plans: readonly Plan[]): Row;
   /** A row of so many records that no opening has made yet, in a memory of its own. */
   row(boards: number): Row;
 }

@@ -4,9 +4,16 @@
 // table; a refused act has changed nothing. adomvik.d.ts has the types.
 
 /** The bytes of a record. */
-export const RECORD_BYTES = 104;
+export const RECORD_BYTES = 120;
 /** The most boards that a stack has. */
 export const BOARDS_MAX = 16;
+
+/** Register 1 of a host board: a write that takes this bit from 1 to 0 clears the faults that are over on the last sample. */
+export const CONTROL_CLEAR = 1;
+/** Register 1 of a host board: DSG may be on. A fault that latches and forbids the switch clears the bit. */
+export const CONTROL_DSG = 2;
+/** Register 1 of a host board: CHG may be on, likewise. */
+export const CONTROL_CHG = 4;
 
 const FRAME_BYTES = 4;
 const RECORDS_MAX = 256; // that fit the memory as it starts; the library itself takes 16 at most
@@ -14,7 +21,7 @@ const LARGEST = 0xffffffff;
 
 // By the paper's number; 12 is a program's own and never comes from the library.
 const WHY = {
-  1: "not 1 to 16 boards, or a board without 5 to 10 cells",
+  1: "not 1 to 16 boards, or a board that is of no kind or is without 5 to 10 cells",
   2: "no board of that number",
   3: "the cell list is not as long as the board's cell count",
   4: "elapsed time not 1 to 100,000 µs",
@@ -22,8 +29,8 @@ const WHY = {
   6: "the frame is not 4 bytes",
   7: "the reply buffer is under 4 bytes",
   8: "the check byte is wrong",
-  9: "the register is unknown, or a write to register 0",
-  10: "the value is not allowed",
+  9: "the board has no such register (only host boards have 1), or a write to register 0",
+  10: "a read with a value, or a write of one that the register does not take",
   11: "programming staged settings unlike the working ones, three cycles already spent",
   13: "programming staged settings whose SCD level is not above their OCD level",
 };
@@ -57,7 +64,36 @@ function checkBytes(bytes) {
   }
 }
 
-/** A row of board records, made by `Adomvik.open` or `Adomvik.row`. */
+// A plan as the library takes it; a TypeError where it is none.
+let numberOf;
+
+/** What a board is to be: its kind and its cells. Plans are made by `Plan.standAlone` and `Plan.host` alone. */
+export class Plan {
+  #number;
+
+  static {
+    numberOf = (plan) => plan.#number;
+  }
+
+  // Cells that no plan can have make one that nothing opens.
+  static #of(kind, cells) {
+    const plan = new Plan();
+    plan.#number = natural(cells) < 256 ? 256 * kind + cells : 0;
+    return plan;
+  }
+
+  /** A board of so many cells whose faults let go by themselves. */
+  static standAlone(cells) {
+    return Plan.#of(0, cells);
+  }
+
+  /** A board of so many cells whose host clears its faults and lets its switches on, by register 1. */
+  static host(cells) {
+    return Plan.#of(1, cells);
+  }
+}
+
+/** A row of board records, made by `Adomvik.open`, `Adomvik.openPlans` or `Adomvik.row`. */
 export class Row {
   #acts;
   #memory;
@@ -115,9 +151,15 @@ export class Row {
     return { status: view.getUint8(0), bled: view.getUint16(2, true) };
   }
 
-  /** Opens the row: a cell count for each record, southernmost first. */
+  /** Opens the row as stand-alone boards: a cell count for each record, southernmost first. */
   open(counts) {
     accepted(this.#acts.adomvik_open(this.#at, this.#boards, this.#words(0, counts), counts.length));
+  }
+
+  /** Opens the row: a plan for each record, southernmost first. */
+  openPlans(plans) {
+    const numbers = plans.map(numberOf);
+    accepted(this.#acts.adomvik_open_plans(this.#at, this.#boards, this.#words(0, numbers), numbers.length));
   }
 
   /** A sample of one board, counted from 1. */
@@ -184,10 +226,17 @@ export class Adomvik {
     this.#module = module;
   }
 
-  /** A stack by the cell count of each board, southernmost first. */
+  /** A stack of stand-alone boards by the cell count of each, southernmost first. */
   open(counts) {
     const row = this.row(Math.min(counts.length, RECORDS_MAX));
     row.open(counts);
+    return row;
+  }
+
+  /** A stack by the plan of each board, southernmost first. */
+  openPlans(plans) {
+    const row = this.row(Math.min(plans.length, RECORDS_MAX));
+    row.openPlans(plans);
     return row;
   }
 

@@ -6,6 +6,7 @@
 #include "adomvik.h"
 
 uint8_t proved_open(adomvik_board *row, uint64_t boards, const uint32_t *counts, uint64_t count);
+uint8_t proved_open_plans(adomvik_board *row, uint64_t boards, const adomvik_plan *plans, uint64_t count);
 uint8_t proved_sample(adomvik_board *row, uint64_t boards, uint32_t board, uint64_t first, uint64_t second, const uint32_t *cells, uint64_t count, adomvik_sampled *out);
 uint8_t proved_sample_board(adomvik_board *board, uint64_t first, uint64_t second, const uint32_t *cells, uint64_t count, adomvik_sampled *out);
 uint8_t proved_frame(adomvik_board *row, uint64_t boards, const uint8_t *frame, uint64_t length, uint8_t *reply, uint64_t room);
@@ -20,6 +21,11 @@ static inline uint64_t word(uint32_t low, uint32_t high)
 uint8_t adomvik_open(adomvik_board *row, size_t boards, const uint32_t *counts, size_t count)
 {
     return proved_open(row, boards, counts, count);
+}
+
+uint8_t adomvik_open_plans(adomvik_board *row, size_t boards, const adomvik_plan *plans, size_t count)
+{
+    return proved_open_plans(row, boards, plans, count);
 }
 
 uint8_t adomvik_sample(adomvik_board *row, size_t boards, uint32_t board, adomvik_readings x, const uint32_t *cells, size_t count, adomvik_sampled *out)

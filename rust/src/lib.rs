@@ -12,6 +12,20 @@
 //! assert!(answer.chg_on() && answer.dsg_on());
 //! # Ok::<(), adomvik::Refusal>(())
 //! ```
+//!
+//! A board whose faults a host clears itself is opened by its [`Plan`], and has register 1:
+//!
+//! ```
+//! use adomvik::{Plan, Row, CONTROL_CHG, CONTROL_DSG};
+//!
+//! let mut row = Row::open_plans([Plan::stand_alone(5), Plan::host(10)])?;
+//! assert!(!row.read()?.chg);
+//! let both = CONTROL_CHG + CONTROL_DSG;
+//! let write = [2 * 2 + 1, 1, both, 0xc7];
+//! assert_eq!(row.frame(&write)?, write);
+//! assert!(row.read()?.chg && row.read()?.dsg);
+//! # Ok::<(), adomvik::Refusal>(())
+//! ```
 #![no_std]
 #![warn(missing_docs)]
 
@@ -21,15 +35,22 @@ use core::mem::{align_of, size_of};
 /// The most boards that a stack has.
 pub const BOARDS_MAX: usize = 16;
 /// The bytes of a record.
-pub const RECORD_BYTES: usize = 104;
+pub const RECORD_BYTES: usize = 120;
 /// The bytes of a frame and of a reply.
 pub const FRAME_BYTES: usize = 4;
+
+/// Register 1 of a host board: a write that takes this bit from 1 to 0 clears the faults that are over on the last sample.
+pub const CONTROL_CLEAR: u8 = 1;
+/// Register 1 of a host board: DSG may be on. A fault that latches and forbids the switch clears the bit.
+pub const CONTROL_DSG: u8 = 2;
+/// Register 1 of a host board: CHG may be on, likewise.
+pub const CONTROL_CHG: u8 = 4;
 
 /// Why an act was refused, with the paper's number.
 #[derive(Clone, Copy, Debug, PartialEq, Eq)]
 #[repr(u8)]
 pub enum Refusal {
-    /// Not 1 to 16 boards, or a board without 5 to 10 cells.
+    /// Not 1 to 16 boards, or a board that is of no kind or is without 5 to 10 cells.
     BadRow = 1,
     /// No board of that number.
     NoBoard = 2,
@@ -45,9 +66,9 @@ pub enum Refusal {
     ReplyRoom = 7,
     /// The check byte is wrong.
     CheckByte = 8,
-    /// The register is unknown, or a write to register 0.
+    /// The board has no such register (only host boards have 1), or a write to register 0.
     NoRegister = 9,
-    /// The value is not allowed.
+    /// A read with a value, or a write of one that the register does not take.
     BadValue = 10,
     /// Programming staged settings unlike the working ones, three cycles already spent.
     NoCycle = 11,
@@ -88,6 +109,30 @@ impl fmt::Display for Refusal {
     }
 }
 
+/// What a board is to be: its kind and its cells. Any number of cells makes a plan; one of other than 5 to 10 is refused as it
+/// is opened.
+#[derive(Clone, Copy, Debug, PartialEq, Eq)]
+#[repr(transparent)]
+pub struct Plan(u32);
+
+const _: () = assert!(size_of::<Plan>() == 4 && align_of::<Plan>() == 4);
+
+impl Plan {
+    /// A board whose faults let go by themselves.
+    pub const fn stand_alone(cells: u32) -> Plan {
+        Plan::of(0, cells)
+    }
+
+    /// A board whose host clears its faults and lets its switches on, by register 1. Overtemperature lets go by itself.
+    pub const fn host(cells: u32) -> Plan {
+        Plan::of(1, cells)
+    }
+
+    const fn of(kind: u32, cells: u32) -> Plan {
+        Plan(if cells < 256 { 256 * kind + cells } else { 0 })
+    }
+}
+
 #[derive(Clone, Copy)]
 #[repr(C)]
 struct Settings {
@@ -101,18 +146,33 @@ struct Run {
     other: u32,
 }
 
+/// The last sample; before the first one, what no fault is over on.
+#[derive(Clone, Copy)]
+#[repr(C)]
+struct Last {
+    low: u32,
+    high: u32,
+    shunt: i32,
+}
+
 /// One board's record. It is made by an opening, or from bytes that were kept: every pattern of bytes is a record.
+///
+/// It had 104 bytes before there were host boards. 104 bytes that were kept are a stand-alone board's: byte 3, which was padding,
+/// has to be 0 now, and the 16 that come behind may be anything.
 #[derive(Clone, Copy)]
 #[repr(C)]
 pub struct Board {
     count: u8,
     latches: u8,
     cycles: u8,
+    kind: u8,
     flags: u16,
     working: Settings,
     staged: Settings,
     currents: Run,
     cells: [Run; 10],
+    last: Last,
+    control: u8,
 }
 
 const _: () = assert!(size_of::<Board>() == RECORD_BYTES && align_of::<Board>() == 4);
@@ -184,6 +244,7 @@ pub struct Reading {
 // The header include/adomvik.h in Rust. A slice is passed as a pointer and a length, a record by reference.
 extern "C" {
     fn adomvik_open(row: *mut Board, boards: usize, counts: *const u32, count: usize) -> u8;
+    fn adomvik_open_plans(row: *mut Board, boards: usize, plans: *const Plan, count: usize) -> u8;
     fn adomvik_sample(row: *mut Board, boards: usize, board: u32, readings: Readings, cells: *const u32, count: usize, out: &mut Sampled) -> u8;
     fn adomvik_sample_board(board: &mut Board, readings: Readings, cells: *const u32, count: usize, out: &mut Sampled) -> u8;
     fn adomvik_frame(row: *mut Board, boards: usize, frame: *const u8, length: usize, reply: *mut u8, room: usize) -> u8;
@@ -195,11 +256,14 @@ impl Board {
         count: 0,
         latches: 0,
         cycles: 0,
+        kind: 0,
         flags: 0,
         working: Settings { registers: [0; 5] },
         staged: Settings { registers: [0; 5] },
         currents: Run { one: 0, other: 0 },
         cells: [Run { one: 0, other: 0 }; 10],
+        last: Last { low: 0, high: 0, shunt: 0 },
+        control: 0,
     };
 
     /// A sample of this record, with no row looked at.
@@ -216,14 +280,19 @@ impl Board {
         bytes[0] = self.count;
         bytes[1] = self.latches;
         bytes[2] = self.cycles;
+        bytes[3] = self.kind;
         bytes[4..6].copy_from_slice(&self.flags.to_le_bytes());
         bytes[6..11].copy_from_slice(&self.working.registers);
         bytes[11..16].copy_from_slice(&self.staged.registers);
         let runs = core::iter::once(&self.currents).chain(&self.cells);
-        for (place, run) in bytes[16..].chunks_exact_mut(8).zip(runs) {
+        for (place, run) in bytes[16..104].chunks_exact_mut(8).zip(runs) {
             place[..4].copy_from_slice(&run.one.to_le_bytes());
             place[4..].copy_from_slice(&run.other.to_le_bytes());
         }
+        bytes[104..108].copy_from_slice(&self.last.low.to_le_bytes());
+        bytes[108..112].copy_from_slice(&self.last.high.to_le_bytes());
+        bytes[112..116].copy_from_slice(&self.last.shunt.to_le_bytes());
+        bytes[116] = self.control;
         bytes
     }
 
@@ -236,19 +305,28 @@ impl Board {
             count: bytes[0],
             latches: bytes[1],
             cycles: bytes[2],
+            kind: bytes[3],
             flags: u16::from_le_bytes([bytes[4], bytes[5]]),
             working: Settings { registers: five(6) },
             staged: Settings { registers: five(11) },
             currents: run(16),
             cells: core::array::from_fn(|i| run(24 + 8 * i)),
+            last: Last { low: word(104), high: word(108), shunt: word(112) as i32 },
+            control: bytes[116],
         }
     }
 }
 
-/// Opens the row that `boards` lends: every record is made anew, one for each count.
+/// Opens the row that `boards` lends: every record is made anew, a stand-alone board for each count.
 pub fn open(boards: &mut [Board], counts: &[u32]) -> Result<(), Refusal> {
     // SAFETY: an exclusive and a shared slice, each with its own length.
     Refusal::check(unsafe { adomvik_open(boards.as_mut_ptr(), boards.len(), counts.as_ptr(), counts.len()) })
+}
+
+/// Opens the row that `boards` lends: every record is made anew, one for each plan.
+pub fn open_plans(boards: &mut [Board], plans: &[Plan]) -> Result<(), Refusal> {
+    // SAFETY: an exclusive and a shared slice, each with its own length.
+    Refusal::check(unsafe { adomvik_open_plans(boards.as_mut_ptr(), boards.len(), plans.as_ptr(), plans.len()) })
 }
 
 /// A sample of board `board` of a lent row, counted from 1.
@@ -281,10 +359,17 @@ pub struct Row<const N: usize> {
 }
 
 impl<const N: usize> Row<N> {
-    /// Opens a stack by the cell count of each board, southernmost first.
+    /// Opens a stack of stand-alone boards by the cell count of each, southernmost first.
     pub fn open(counts: [u32; N]) -> Result<Row<N>, Refusal> {
         let mut row = Row { boards: [Board::EMPTY; N] };
         open(&mut row.boards, &counts)?;
+        Ok(row)
+    }
+
+    /// Opens a stack by the plan of each board, southernmost first.
+    pub fn open_plans(plans: [Plan; N]) -> Result<Row<N>, Refusal> {
+        let mut row = Row { boards: [Board::EMPTY; N] };
+        open_plans(&mut row.boards, &plans)?;
         Ok(row)
     }
 
