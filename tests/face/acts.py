@@ -1,15 +1,20 @@
 """Random acts for the drivers of the C and the Rust face, each with the answer that it should get.
 
-Acts on opened rows are the sessions of tests/differential, answered by the
-reference from each board's history; the record model must agree. Acts on
-garbage are answered by the record model alone.
+Acts on opened rows are the workshop's sessions of tests/differential, answered
+by the reference from each board's history; the record model must agree. Acts
+on garbage are answered by the record model alone.
 """
 
 import random
+import struct
 
+from desk_sessions import DeskMaker
 from record import LAYOUT, RECORDS, Rows
-from reference import Refusal, Sample, Stack, crc8, parse, split_lines
+from reference import HOST, Refusal, STAND_ALONE, Sample, Settings, Stack, crc8, split_lines
 from sessions import make_session
+from workshop import Workshop
+
+LONGEST_LIST = 100      # that the drivers are told
 
 
 class Script:
@@ -27,8 +32,12 @@ class Script:
         self.answers.append(answer)
 
     def opening(self, boards, counts):
-        """An opening of so many records."""
-        self.put("O", [boards] + counts, self.rows.opening(boards, counts))
+        """An opening of so many records by cell counts."""
+        self.put("O", [boards] + counts, self.rows.opening(boards, [(STAND_ALONE, count) for count in counts]))
+
+    def opening_plans(self, boards, plans):
+        """An opening of so many records by the kind and the cells of each."""
+        self.put("P", [boards] + [number for plan in plans for number in plan], self.rows.opening(boards, plans))
 
     def sample(self, boards, number, fields):
         """A sample of the row; fields are those of Record.sample."""
@@ -64,10 +73,10 @@ class Told:
     def __init__(self):
         self.stack = None
 
-    def opening(self, counts):
+    def opening(self, counts, kinds=None):
         """0 or 1."""
         try:
-            self.stack = Stack(counts)
+            self.stack = Stack(counts, kinds)
             return "0"
         except Refusal as refusal:
             return str(refusal.number)
@@ -93,57 +102,80 @@ def frame_told(told, data, room):
     return " ".join([number] + ([reply.hex()] if room else []))
 
 
+def opened(script, told, counts, kinds=None):
+    """An opening by counts, or by plans where there are kinds; was it good?"""
+    if kinds is None:
+        script.opening(len(counts), counts)
+    else:
+        script.opening_plans(len(counts), list(zip(kinds, counts)))
+    answer = told.opening(counts, kinds)
+    agree(answer, script)
+    return answer == "0"
+
+
 def session(script, seed):
-    """The acts of one session of tests/differential, but for malformed lines."""
+    """The acts of one session of tests/differential --workshop, but for malformed lines and lists too long for a driver."""
     told, boards = Told(), 0
-    for line in split_lines(make_session(seed).data):
+    for line in split_lines(make_session(seed, DeskMaker).data):
         try:
-            letter, numbers = parse(line)
+            act, fields = Workshop().take_apart(line)
         except Refusal:
             continue
-        if letter == "O" and len(numbers) <= RECORDS:
-            script.opening(len(numbers), numbers)
-            answer = told.opening(numbers)
-            boards = len(numbers) if answer == "0" else boards
-            agree(answer, script)
-        elif told.stack is None:
+        if act is Workshop.opening:
+            if len(fields[0]) <= RECORDS and opened(script, told, *fields):
+                boards = len(fields[0])
+        elif told.stack is None or (fields and len(fields[0]) > LONGEST_LIST):
             continue
-        elif letter == "S":
-            number, elapsed, load, thermistor, shunt = numbers[:5]
-            cells = numbers[5:]
+        elif act is Workshop.sample:
+            number, elapsed, load, thermistor, shunt = fields[0][:5]
+            cells = fields[0][5:]
             sample = Sample(elapsed, load, thermistor, shunt, tuple(cells))
-            fields = (elapsed, shunt, thermistor, load, cells)
             if 1 <= number <= boards and script.rng.random() < 0.4:
-                script.sample_one(number - 1, fields)
+                script.sample_one(number - 1, (elapsed, shunt, thermistor, load, cells))
             else:
-                script.sample(boards, number, fields)
+                script.sample(boards, number, (elapsed, shunt, thermistor, load, cells))
             agree(told.act(lambda: told.stack.sample(number, sample), ["165", "42405"]), script)
-        elif letter == "F":
+        elif act is Workshop.frame:
+            # the driver's own rooms: the session's are at times larger than its memory
             room = script.rng.choice((4, 4, 4, 5, 8, 3, 0))
-            script.frame(boards, numbers, room)
-            agree(frame_told(told, numbers, room), script)
-        elif letter == "R":
+            script.frame(boards, fields[0], room)
+            agree(frame_told(told, fields[0], room), script)
+        elif act is Workshop.reading:
             script.reading(boards)
             agree(told.act(told.stack.reading, []), script)
 
 
 # ------------------------------------------------------------- garbage
 
+def last_garbage(rng, working):
+    """The bytes of a last sample about the working levels, its lowest cell at times above its highest."""
+    s = Settings(working)
+    levels = s.uv_level, s.ov_level, rng.choice((s.ocd_level, s.scd_level))
+    low, high, shunt = (rng.choice((level - 1, level, level, level + 1, -level)) for level in levels)
+    return struct.pack("<IIi", low % 2**32, high % 2**32, shunt)
+
+
 def garbage(rng):
-    """The bytes of a record that came from no opening; half of them with a good cell count."""
+    """The bytes of a record that came from no opening; most of them of a good kind and cell count."""
     data = bytearray(rng.randbytes(LAYOUT.size))
-    if rng.random() < 0.9:
+    if rng.random() < 0.93:
         data[0] = rng.randint(5, 10)
+    if rng.random() < 0.97:
+        data[3] = rng.choice((STAND_ALONE, HOST))
+    elif rng.random() < 0.5:
+        data[3] = HOST + 1
     if rng.random() < 0.5:
         data[2] = rng.randint(0, 4)
     if rng.random() < 0.3:      # runs near the delays and the cap
-        data[16:] = LAYOUT.pack(*[0] * 4, b"", b"", *[rng.choice((0, 1, 499_999, 500_000, 500_001, 9_999_999, 10_000_000, 2**32 - 1)) for _ in range(22)])[16:]
+        data[16:104] = struct.pack("<22I", *rng.choices((0, 1, 499_999, 500_000, 500_001, 9_999_999, 10_000_000, 2**32 - 1), k=22))
     if rng.random() < 0.3:      # staged levels crossed, equal or a step apart
         short = rng.randrange(7)
         data[14] = data[14] & 0xF0 | min(15, short + rng.choice((9, 10, 11)))
         data[15] = data[15] & 0xF0 | short
     if rng.random() < 0.3:      # equal settings
         data[6:11] = data[11:16]
+    if rng.random() < 0.7:
+        data[104:116] = last_garbage(rng, data[6:11])
     return bytes(data)
 
 
@@ -159,11 +191,15 @@ def fields(rng, record):
 
 def frame_bytes(rng, boards):
     """A frame, mostly well made."""
-    address = 2 * rng.randint(0, boards + 1) % 256 + rng.randint(0, 1)
+    number = rng.randint(1, boards) if boards and rng.random() < 0.8 else rng.randint(0, boards + 1)
+    address = 2 * number + rng.randint(0, 1)
     register = rng.choice((0, 6, 7, 8, 9, 10, 11, 11, 1, 12, 255))
     value = rng.choice((0, 0, 0x41, 0x41, rng.randint(0, 255))) if address % 2 else rng.choice((0, 0, 0, 0x41))
-    if rng.random() < 0.2:
+    kind = rng.random()
+    if kind < 0.2:
         address, register, value = address | 1, 11, 0x41
+    elif kind < 0.5:
+        address, register, value = address | 1, 1, rng.randint(0, 8)
     data = [address, register, value, crc8((address, register, value))]
     if rng.random() < 0.05:
         data[rng.randint(0, 3)] ^= rng.randint(1, 255)
@@ -178,18 +214,24 @@ def wreck(script, acts):
     for _ in range(acts):
         boards = rng.choice((1, 1, 2, 3, 5, 16, 16, 17, 0, rng.randint(0, RECORDS)))
         kind = rng.random()
-        if kind < 0.1:
-            script.overwrite(rng.randrange(RECORDS), garbage(rng))
-        elif kind < 0.45:
+        if kind < 0.15:
+            # short rows are the ones that are not refused
+            script.overwrite(rng.choice((0, 1, rng.randrange(RECORDS))), garbage(rng))
+        elif kind < 0.4:
             place = rng.randrange(RECORDS)
             script.sample_one(place, fields(rng, rows.records[place]))
-        elif kind < 0.7:
+        elif kind < 0.6:
             number = rng.choice((1, 1, boards, rng.randint(0, 18), 2**32 - 1))
             script.sample(boards, number, fields(rng, rows.records[max(0, min(number, boards, 16) - 1)]))
         elif kind < 0.9:
-            script.frame(boards, frame_bytes(rng, boards), rng.choice((4, 4, 4, 9, 3, 0)))
+            script.frame(boards, frame_bytes(rng, boards), rng.choice((4, 4, 4, 4, 4, 9, 3, 0)))
         elif kind < 0.97:
             script.reading(boards)
         else:
-            counts = [rng.choice((5, 7, 10, 10, rng.choice((4, 11, 0, 260, 2**32 - 1)) if rng.random() < 0.2 else 6)) for _ in range(boards)]
-            script.opening(boards if rng.random() < 0.8 else rng.randint(0, RECORDS), counts)
+            odd = (4, 11, 0, 255, 261, 517, 2**32 - 1)
+            counts = [rng.choice((5, 7, 10, 10, rng.choice(odd) if rng.random() < 0.2 else 6)) for _ in range(boards)]
+            lent = boards if rng.random() < 0.8 else rng.randint(0, RECORDS)
+            if rng.random() < 0.3:
+                script.opening(lent, counts)
+            else:
+                script.opening_plans(lent, [(rng.choice((STAND_ALONE, HOST)), count) for count in counts])

@@ -1,12 +1,13 @@
 /* The C face under test: acts from standard input, one to a line, each answered by one line. The face in Rust, drive.rs, reads
  * and writes the same.
  *
- *     O boards counts..                                  an opening
+ *     O boards counts..                                  an opening by cell counts
+ *     P boards kind cells kind cells ..                  an opening by plans
  *     S boards board elapsed shunt thermistor load cells..   a sample of the row
  *     B place elapsed shunt thermistor load cells..      a sample of the record at a place, from 0
  *     F boards room bytes..                              a frame, with a reply buffer of so many bytes
  *     R boards                                           a reading
- *     W place bytes..                                    104 bytes over the record at a place, and no act
+ *     W place bytes..                                    120 bytes over the record at a place, and no act
  *
  * An answer: the act's number, what stands in the place for the answer or in the reply buffer, and a checksum of all records.
  * Before an act these places hold PATTERN, so that what a refusal wrote would show. Every list is lent in a block of just its
@@ -106,6 +107,14 @@ static uint8_t *bytes(size_t from)
     return list;
 }
 
+static adomvik_plan *plans(size_t from)
+{
+    adomvik_plan *list = block((numbers - from) / 2 * sizeof *list);
+    for (size_t i = from; i < numbers; i += 2)
+        list[(i - from) / 2] = number[i] == ADOMVIK_HOST ? adomvik_host(number[i + 1]) : adomvik_stand_alone(number[i + 1]);
+    return list;
+}
+
 /* A place for an answer. */
 static void *blank(size_t size)
 {
@@ -123,16 +132,14 @@ static adomvik_readings readings(size_t from)
 
 /* ---- answers */
 
-/* CRC-32 of the records, as zlib has it, but for the byte of padding in each. */
+/* CRC-32 of the records, as zlib has it, but for the padding behind each. */
 static uint32_t checksum(void)
 {
     const unsigned char *p = (const unsigned char *)row;
     uint32_t crc = 0xffffffff;
-    for (size_t n = 0; n < RECORDS; n++)
-        for (size_t i = 0; i < sizeof *row; i++, p++) {
-            if (i == offsetof(adomvik_board, cycles) + 1)
-                continue;
-            crc ^= *p;
+    for (size_t n = 0; n < RECORDS; n++, p += sizeof *row)
+        for (size_t i = 0; i <= offsetof(adomvik_board, control); i++) {
+            crc ^= p[i];
             for (int k = 0; k < 8; k++)
                 crc = crc >> 1 ^ (crc & 1 ? 0xedb88320 : 0);
         }
@@ -168,6 +175,14 @@ static void open_row(void)
     put_number(adomvik_open(row, number[0], counts, numbers - 1));
     answer_end();
     release(counts);
+}
+
+static void open_plans(void)
+{
+    adomvik_plan *list = plans(1);
+    put_number(adomvik_open_plans(row, number[0], list, (numbers - 1) / 2));
+    answer_end();
+    release(list);
 }
 
 static void sample_row(void)
@@ -231,6 +246,7 @@ int main(void)
         read_numbers(line + 1);
         switch (line[0]) {
         case 'O': open_row(); break;
+        case 'P': open_plans(); break;
         case 'S': sample_row(); break;
         case 'B': sample_one(); break;
         case 'F': frame(); break;

@@ -4,10 +4,10 @@ import { readFileSync, writeSync } from "node:fs";
 import { pathToFileURL } from "node:url";
 
 const folder = process.argv[2];
-const { load, Refusal, RECORD_BYTES } = await import(pathToFileURL(`${folder}/adomvik.mjs`));
+const { load, Plan, Refusal } = await import(pathToFileURL(`${folder}/adomvik.mjs`));
 const RECORDS = 18;
 const PATTERN = 0xa5;
-const PADDING = 3;
+const BARE = 117; // the bytes of a record in front of its padding
 
 const row = (await load(readFileSync(`${folder}/adomvik.wasm`))).row(RECORDS);
 
@@ -27,13 +27,20 @@ const TABLE = Uint32Array.from({ length: 256 }, (_, crc) => {
   return crc;
 });
 
-// CRC-32 of the records, but for the byte of padding in each.
+// CRC-32 of the records, but for the padding behind each.
 function checksum() {
   let crc = 0xffffffff;
   for (let place = 0; place < RECORDS; place++) {
-    row.record(place).forEach((byte, i) => { if (i !== PADDING) crc = crc >>> 8 ^ TABLE[(crc ^ byte) & 255]; });
+    row.record(place).subarray(0, BARE).forEach((byte) => { crc = crc >>> 8 ^ TABLE[(crc ^ byte) & 255]; });
   }
   return (~crc >>> 0).toString(16).padStart(8, "0");
+}
+
+// A plan for each kind and cell count.
+function plans(numbers) {
+  const made = [];
+  for (let i = 0; i < numbers.length; i += 2) made.push(numbers[i] === 1 ? Plan.host(numbers[i + 1]) : Plan.standAlone(numbers[i + 1]));
+  return made;
 }
 
 const readings = ([elapsed, shunt, thermistor, load]) => ({ elapsed, shunt, thermistor, load });
@@ -42,6 +49,7 @@ const NOT_SAMPLED = [PATTERN, PATTERN << 8 | PATTERN];
 
 const acts = {
   O: ([boards, ...counts]) => told(() => { row.first(boards).open(counts); return []; }, []),
+  P: ([boards, ...pairs]) => told(() => { row.first(boards).openPlans(plans(pairs)); return []; }, []),
   S: ([boards, board, ...x]) => told(() => sampled(row.first(boards).sample(board, readings(x), x.slice(4))), NOT_SAMPLED),
   B: ([place, ...x]) => told(() => sampled(row.sampleRecord(place, readings(x), x.slice(4))), NOT_SAMPLED),
   F: ([boards, room, ...frame]) => {

@@ -1,18 +1,17 @@
 //! The Rust face under test: reads and writes what drive.c does.
-use adomvik::{Board, Readings, Refusal, RECORD_BYTES};
+use adomvik::{Board, Plan, Readings, Refusal, RECORD_BYTES};
 use std::io::{self, BufRead, BufWriter, Write};
 
 const RECORDS: usize = 18;
 const PATTERN: u8 = 0xa5;
+/// The bytes of a record in front of its padding.
+const BARE: usize = 117;
 
-/// CRC-32 of the records, as zlib has it, but for the byte of padding in each.
+/// CRC-32 of the records, as zlib has it, but for the padding behind each.
 fn checksum(row: &[Board]) -> u32 {
     let mut crc = u32::MAX;
     for board in row {
-        for (i, byte) in board.to_bytes().iter().enumerate() {
-            if i == 3 {
-                continue;
-            }
+        for byte in &board.to_bytes()[..BARE] {
             crc ^= u32::from(*byte);
             for _ in 0..8 {
                 crc = if crc & 1 == 1 { crc >> 1 ^ 0xedb8_8320 } else { crc >> 1 };
@@ -28,6 +27,10 @@ fn readings(x: &[i64]) -> Readings {
 
 fn words(x: &[i64]) -> Vec<u32> {
     x.iter().map(|&n| n as u32).collect()
+}
+
+fn plans(x: &[i64]) -> Vec<Plan> {
+    x.chunks_exact(2).map(|pair| if pair[0] == 1 { Plan::host(pair[1] as u32) } else { Plan::stand_alone(pair[1] as u32) }).collect()
 }
 
 fn bytes(x: &[i64]) -> Vec<u8> {
@@ -59,6 +62,7 @@ fn told_reading(result: Result<adomvik::Reading, Refusal>) -> String {
 fn act(row: &mut [Board], letter: u8, x: &[i64]) -> Option<String> {
     Some(match letter {
         b'O' => number(&adomvik::open(&mut row[..x[0] as usize], &words(&x[1..]))).to_string(),
+        b'P' => number(&adomvik::open_plans(&mut row[..x[0] as usize], &plans(&x[1..]))).to_string(),
         b'S' => told_sample(adomvik::sample(&mut row[..x[0] as usize], x[1] as u32, readings(&x[2..6]), &words(&x[6..]))),
         b'B' => told_sample(row[x[0] as usize].sample(readings(&x[1..5]), &words(&x[5..]))),
         b'F' => {

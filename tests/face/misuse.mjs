@@ -5,7 +5,7 @@ import { readFileSync } from "node:fs";
 import { pathToFileURL } from "node:url";
 
 const folder = process.argv[2];
-const { load, Refusal } = await import(pathToFileURL(`${folder}/adomvik.mjs`));
+const { load, Plan, Refusal, CONTROL_CHG, CONTROL_CLEAR, CONTROL_DSG } = await import(pathToFileURL(`${folder}/adomvik.mjs`));
 const adomvik = await load(readFileSync(`${folder}/adomvik.wasm`));
 const quiet = { elapsed: 1000, shunt: 0, thermistor: 2000, load: 0 };
 const five = [3900, 3900, 3900, 3900, 3900];
@@ -16,14 +16,16 @@ function refused(number, act) {
 }
 
 const stack = adomvik.open([5, 6]);
-const before = stack.record(0);
 assert.deepEqual(stack.sample(1, quiet, five), { status: 192, bled: 0 });
 assert.deepEqual(stack.read(), { line: false, chg: true, dsg: true, board: 0, cell: 0 });
 assert.deepEqual([...stack.frame([2, 0, 0, 214])], [2, 0, 192, 152]);
+const before = stack.record(0);
 
 // each field by itself: too large for it, below 0, a fraction, no number
 for (const n of [2 ** 32, 2 ** 32 + 5, -1, 0.5, NaN, Infinity, undefined]) {
   refused(1, () => adomvik.open([n]));
+  refused(1, () => adomvik.openPlans([Plan.standAlone(n)]));
+  refused(1, () => adomvik.openPlans([Plan.host(n)]));
   refused(2, () => stack.sample(n, quiet, five));
   refused(4, () => stack.sample(1, { ...quiet, elapsed: n }, five));
   refused(5, () => stack.sample(1, { ...quiet, thermistor: n }, five));
@@ -34,6 +36,12 @@ for (const n of [2 ** 31, -(2 ** 31) - 1, 2 ** 32, 0.5, NaN]) refused(5, () => s
 for (const n of [256, -1, 0.5, NaN]) assert.throws(() => stack.frame([n, 0, 0, 214]), RangeError);
 refused(1, () => adomvik.open([]));
 refused(1, () => adomvik.open(Array(300).fill(5)));
+refused(1, () => adomvik.open([256 + 5]));
+refused(1, () => adomvik.openPlans([]));
+refused(1, () => adomvik.openPlans(Array(300).fill(Plan.host(5))));
+refused(1, () => adomvik.openPlans([new Plan()]));
+for (const cells of [4, 11, 256, 256 + 5]) refused(1, () => adomvik.openPlans([Plan.host(5), Plan.standAlone(cells)]));
+for (const none of [5, 256 + 5, undefined, {}]) assert.throws(() => adomvik.openPlans([none]), TypeError);
 refused(6, () => stack.frame([]));
 refused(7, () => stack.frameInto([2, 0, 0, 214], new Uint8Array(3)));
 const crossed = adomvik.open([5]);
@@ -51,4 +59,20 @@ const other = adomvik.open([5, 6]);
 other.sample(1, { ...quiet, thermistor: 900 }, five);
 stack.setRecord(0, other.record(0));
 assert.equal(stack.frame([2, 0, 0, 214])[2], 16);
+
+// a host board: its register 1, which a stand-alone board has not
+const hosted = adomvik.openPlans([Plan.host(5), Plan.standAlone(6)]);
+refused(9, () => stack.frame([2, 1, 0, 195]));
+refused(9, () => hosted.frame([5, 1, 6, 199]));
+refused(10, () => hosted.frame([3, 1, 8, 144]));
+assert.deepEqual(hosted.read(), { line: false, chg: false, dsg: false, board: 0, cell: 0 });
+assert.deepEqual([...hosted.frame([3, 1, CONTROL_DSG | CONTROL_CHG, 186])], [3, 1, 6, 186]);
+assert.deepEqual(hosted.read(), { line: false, chg: true, dsg: true, board: 0, cell: 0 });
+assert.deepEqual(hosted.sample(1, { ...quiet, shunt: 60001 }, five), { status: 1, bled: 0 });
+assert.deepEqual(hosted.sample(1, quiet, five), { status: 1, bled: 0 });
+assert.equal(hosted.frame([2, 1, 0, 195])[2], 0);
+hosted.frame([3, 1, CONTROL_CLEAR, 175]);
+assert.equal(hosted.frame([2, 0, 0, 214])[2], 1);
+hosted.frame([3, 1, 0, 168]);
+assert.equal(hosted.frame([2, 0, 0, 214])[2], 0);
 console.log("no difference");

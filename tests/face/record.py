@@ -8,15 +8,21 @@ byte and status are the reference's, its runs are the kept numbers.
 import struct
 from zlib import crc32
 
-from reference import (CYCLES, FIRST_SETTING, HOT_BELOW_MV, MOST_CYCLES, Refusal, STATUS_BIT,
-                       Settings, bled, check_register, chg_on, crc8, dsg_on, status,
-                       value_allowed)
+from reference import (CHG_MAY, CLEARED_BY_HAND, CONTROL, CYCLES, DSG_MAY, FIRST_SETTING, HOST, HOT_BELOW_MV, LATCH_CLEAR,
+                       MOST_CYCLES, Refusal, STAND_ALONE, STATUS_BIT, STOPS_CHG, STOPS_DSG, Settings, bled, check_register,
+                       chg_on, crc8, dsg_on, status, value_allowed)
 
-LAYOUT = struct.Struct("<BBBxH5s5s22I")     # x is the byte of padding
-BARE = struct.Struct("<BBBH5s5s22I")
+BARE = struct.Struct("<BBBBH5s5s22IIIiB")
+LAYOUT = struct.Struct(BARE.format + "3x")  # and its padding
+NO_SAMPLE = (0, 2**32 - 1, 2**31 - 1)       # lowest cell, highest cell and shunt before any sample: no fault is over on it
 RECORDS = 18                                # that the drivers have
 RUN_CAP = 10_000_000
 PATTERN = 0xA5                              # what a place holds before an act
+
+
+def refused_board(kind, count):
+    """Can no board be of that kind and so many cells?"""
+    return kind not in (STAND_ALONE, HOST) or not 5 <= count <= 10
 
 
 def run_next(run, holds, elapsed):
@@ -30,27 +36,44 @@ class Record:
     """One record, field by field."""
 
     def __init__(self, data=bytes(LAYOUT.size)):
-        self.count, self.latches, self.cycles, self.flags, working, staged, *runs = LAYOUT.unpack(data)
-        self.working, self.staged, self.runs = list(working), list(staged), runs
+        self.count, self.latches, self.cycles, self.kind, self.flags, working, staged, *rest, self.control = LAYOUT.unpack(data)
+        self.working, self.staged, self.runs, self.last = list(working), list(staged), rest[:22], tuple(rest[22:])
 
     @classmethod
-    def fresh(cls, count):
+    def fresh(cls, kind, count):
         """A board as it starts."""
         record = cls()
-        record.count = count
+        record.kind, record.count, record.last = kind, count, NO_SAMPLE
         return record
 
     def bare(self):
         """The bytes without the padding."""
-        return BARE.pack(self.count, self.latches, self.cycles, self.flags, bytes(self.working), bytes(self.staged), *self.runs)
+        return BARE.pack(self.count, self.latches, self.cycles, self.kind, self.flags, bytes(self.working), bytes(self.staged),
+                         *self.runs, *self.last, self.control)
 
     def bad(self):
-        """A board without 5 to 10 cells."""
-        return not 5 <= self.count <= 10
+        """A record that no board can have."""
+        return refused_board(self.kind, self.count)
 
     def latched(self):
         """The latched faults, by name."""
         return {fault for fault, bit in STATUS_BIT.items() if self.latches >> bit & 1}
+
+    def may(self, bit):
+        """Does register 1 let the switch of that bit on? A stand-alone board has no such register."""
+        return self.kind == STAND_ALONE or self.control >> bit & 1 == 1
+
+    def chg(self):
+        """Is CHG on?"""
+        return chg_on(self.latched(), self.may(CHG_MAY))
+
+    def dsg(self):
+        """Is DSG on?"""
+        return dsg_on(self.latched(), self.may(DSG_MAY))
+
+    def status(self):
+        """Register 0."""
+        return status(self.latched(), self.may(DSG_MAY), self.may(CHG_MAY))
 
     def flagged(self):
         """The flagged cells, counted from 0."""
@@ -76,22 +99,48 @@ class Record:
         self.runs[1] = run_next(self.runs[1], shunt > s.scd_level, elapsed)
         hot = thermistor < HOT_BELOW_MV
         stands = {"OV": bool(over), "UV": under, "OCD": self.runs[0] > s.ocd_delay, "SCD": self.runs[1] > s.scd_delay, "OT": hot}
+        self.last = (min(cells), max(cells), shunt)
         goes = {"OV": max(cells) < s.ov_release, "UV": min(cells) > s.uv_release, "OCD": load == 0 and shunt <= s.ocd_level,
                 "SCD": load == 0 and shunt <= s.scd_level, "OT": not hot}
+        if self.kind == HOST:
+            goes.update(dict.fromkeys(CLEARED_BY_HAND, False))
         before = self.latched()
         after = {fault for fault in STATUS_BIT if (not goes[fault] if fault in before else stands[fault])}
         flagged = over | {i for i in self.flagged() if not cells[i] < s.ov_release}
-        self.latches = sum(1 << STATUS_BIT[fault] for fault in after)
+        self.latch(after)
         self.flags = sum(1 << i for i in flagged)
-        return status(after), bled(flagged, self.count)
+        if self.kind == HOST and after - before:
+            self.forbid(after - before)
+        return self.status(), bled(flagged, self.count)
+
+    def latch(self, faults):
+        """The latches byte anew."""
+        self.latches = sum(1 << STATUS_BIT[fault] for fault in faults)
+
+    def forbid(self, latching):
+        """Register 1 where a fault latches: its three bits, without those of the switches that are forbidden now."""
+        forbidden = bool(latching & STOPS_DSG) << DSG_MAY | bool(latching & STOPS_CHG) << CHG_MAY
+        self.control &= 7 & ~forbidden
+
+    def clear(self):
+        """The faults go that are over on the last sample by the levels that work now."""
+        s, (low, high, shunt) = Settings(self.working), self.last
+        over = {"OV": high < s.ov_level, "UV": low > s.uv_level, "OCD": shunt <= s.ocd_level, "SCD": shunt <= s.scd_level}
+        self.latch(fault for fault in self.latched() if not over.get(fault, False))
 
     def access(self, writes, register, value):
         """Refusals 9, 10, 13, 11 in order; else the reply's value."""
-        check_register(register, writes)
+        check_register(register, writes, self.kind)
         if not value_allowed(register, value, writes):
             raise Refusal(10)
         if not writes:
-            return {0: status(self.latched()), CYCLES: self.cycles}.get(register) if register in (0, CYCLES) else self.working[register - FIRST_SETTING]
+            kept = {0: self.status(), CONTROL: self.control, CYCLES: self.cycles}
+            return kept[register] if register in kept else self.working[register - FIRST_SETTING]
+        if register == CONTROL:
+            if self.control >> LATCH_CLEAR & 1 and not value >> LATCH_CLEAR & 1:
+                self.clear()
+            self.control = value
+            return value
         if register != CYCLES:
             self.staged[register - FIRST_SETTING] = value
             return value
@@ -134,12 +183,12 @@ class Rows:
         """An answer line: the number, what the places hold, the checksum."""
         return " ".join([str(number)] + told + ["%08x" % crc32(b"".join(self.kept))])
 
-    def opening(self, boards, counts):
-        """Every record made anew, or refusal 1."""
-        if len(counts) != boards or not 1 <= boards <= 16 or not all(5 <= n <= 10 for n in counts):
+    def opening(self, boards, plans):
+        """Every record made anew by the kind and the cells of its plan, or refusal 1."""
+        if len(plans) != boards or not 1 <= boards <= 16 or any(refused_board(*plan) for plan in plans):
             return self.line(1, [])
-        for place, count in enumerate(counts):
-            self.records[place] = Record.fresh(count)
+        for place, plan in enumerate(plans):
+            self.records[place] = Record.fresh(*plan)
             self.kept[place] = self.records[place].bare()
         return self.line(0, [])
 
@@ -194,6 +243,6 @@ class Rows:
         except Refusal as refusal:
             return self.line(refusal.number, [str(PATTERN)] * 5)
         line = any(record.latched() for record in row)
-        chg, dsg = all(chg_on(r.latched()) for r in row), all(dsg_on(r.latched()) for r in row)
+        chg, dsg = all(record.chg() for record in row), all(record.dsg() for record in row)
         place = next(((n, min(r.flagged()) + 1) for n, r in enumerate(row, 1) if r.flagged()), (0, 0))
         return self.line(0, [str(int(n)) for n in (line, chg, dsg) + place])
