@@ -1,6 +1,7 @@
 /* Times the C library against its peer, act by act, after both have answered the same random acts alike.
  * Output, a line for each act: its name, and the best nanoseconds of the library and of the peer. Then bytes of stack.
  */
+#include <stdbool.h>
 #include <stdio.h>
 #include <stdlib.h>
 #include <string.h>
@@ -56,13 +57,19 @@ static void same_sample(void)
         fail("a sample is answered otherwise by the peer");
 }
 
+/* The value of a write: mostly one that the register takes. */
+static unsigned value_for(unsigned reg)
+{
+    return reg == 11 ? 0x41 : random_below(reg == 1 ? 9 : 70);
+}
+
 static void same_frame(void)
 {
-    static const uint8_t registers[] = {0, 6, 7, 8, 9, 10, 11, 11, 5, 12};
+    static const uint8_t registers[] = {0, 1, 1, 1, 6, 7, 8, 9, 10, 11, 11, 5, 12};
     uint8_t frame[4], reply[2][4] = {{1, 2, 3, 4}, {1, 2, 3, 4}};
     frame[0] = (uint8_t)random_below(2 * boards + 4);
-    frame[1] = registers[random_below(10)];
-    frame[2] = (uint8_t)(frame[0] % 2 == 0 ? random_below(8) == 0 : frame[1] == 11 ? 0x41 : random_below(70));
+    frame[1] = registers[random_below(sizeof registers)];
+    frame[2] = (uint8_t)(frame[0] % 2 == 0 ? random_below(8) == 0 : value_for(frame[1]));
     frame[3] = (uint8_t)(check(frame[0], frame[1], frame[2]) ^ (random_below(30) == 0));
     const size_t length = random_below(30) ? 4 : 3, room = random_below(30) ? 4 : 3;
     const unsigned one = adomvik_frame(ours, boards, frame, length, reply[0], room), other = peer_frame(theirs, boards, frame, length, reply[1], room);
@@ -77,11 +84,30 @@ static void same_reading(void)
         fail("a reading is answered otherwise by the peer");
 }
 
+/* Openings by counts and by plans, of both kinds, now and then of cells that no board can have. */
+static void same_opening(void)
+{
+    uint32_t counts[BOARDS];
+    adomvik_plan plans[BOARDS];
+    boards = 1 + random_below(BOARDS);
+    for (size_t i = 0; i < boards; i++) {
+        counts[i] = random_below(100) ? CELLS : random_below(600);
+        plans[i] = random_below(2) ? adomvik_host(counts[i]) : adomvik_stand_alone(counts[i]);
+    }
+    const bool planned = random_below(4);
+    const unsigned one = planned ? adomvik_open_plans(ours, boards, plans, boards) : adomvik_open(ours, boards, counts, boards);
+    const unsigned other = planned ? peer_open_plans(theirs, boards, plans, boards) : peer_open(theirs, boards, counts, boards);
+    if (one != other)
+        fail("an opening is answered otherwise by the peer");
+    if (one)
+        open_both(boards, adomvik_host(CELLS));
+}
+
 static void same_answers(void)
 {
     for (int i = 0; i < TRIALS; i++) {
         if (i % 1000 == 0)
-            open_both(1 + random_below(BOARDS));
+            same_opening();
         const unsigned kind = random_below(10);
         if (kind < 7)
             same_sample();

@@ -31,14 +31,17 @@ static unsigned check(unsigned a, unsigned b, unsigned c)
     return crc;
 }
 
-static void open_both(size_t count)
+/* A row of so many boards by the same plan; both switches of host boards may be on. */
+static void open_both(size_t count, adomvik_plan plan)
 {
-    uint32_t counts[BOARDS];
+    adomvik_plan plans[BOARDS];
     boards = count;
     for (size_t i = 0; i < count; i++)
-        counts[i] = CELLS;
-    if (adomvik_open(ours, count, counts, count) || peer_open(theirs, count, counts, count))
+        plans[i] = plan;
+    if (adomvik_open_plans(ours, count, plans, count) || peer_open_plans(theirs, count, plans, count))
         fail("an opening was refused");
+    for (size_t i = 0; i < count; i++)
+        ours[i].control = theirs[i].control = ADOMVIK_CONTROL_DSG | ADOMVIK_CONTROL_CHG;
 }
 
 /* ---- the acts */
@@ -81,6 +84,23 @@ static void theirs_spend(int i)
     theirs_frame(i);
 }
 
+/* all four faults cleared at each call: the bit is set and the faults latched before */
+static void ours_clear(int i)
+{
+    adomvik_board *b = &ours[addressed(i)];
+    b->control = ADOMVIK_CONTROL_CLEAR;
+    b->latches = ADOMVIK_SCD | ADOMVIK_OCD | ADOMVIK_OV | ADOMVIK_UV;
+    ours_frame(i);
+}
+
+static void theirs_clear(int i)
+{
+    struct peer_board *b = &theirs[addressed(i)];
+    b->control = ADOMVIK_CONTROL_CLEAR;
+    b->latches = ADOMVIK_SCD | ADOMVIK_OCD | ADOMVIK_OV | ADOMVIK_UV;
+    theirs_frame(i);
+}
+
 /* Samples with so many cells and currents at fault, of ten cells; which ones goes round. */
 static void set_samples(int faults)
 {
@@ -101,29 +121,49 @@ static void set_frames(uint8_t address, uint8_t reg, uint8_t value)
     }
 }
 
+static adomvik_plan plan_of(int kind)
+{
+    return kind == ADOMVIK_HOST ? adomvik_host(CELLS) : adomvik_stand_alone(CELLS);
+}
+
 static void samples(void)
 {
-    static const struct { const char *name; int faults; } how[] = {{"quiet", 0}, {"a third faulting", 3}, {"all faulting", CELLS}};
-    for (int k = 0; k < 3; k++) {
+    static const struct { const char *name; int kind, faults; } how[] = {
+        {"quiet", ADOMVIK_STAND_ALONE, 0},
+        {"quiet host", ADOMVIK_HOST, 0},
+        {"a third faulting", ADOMVIK_STAND_ALONE, 3},
+        {"all faulting", ADOMVIK_STAND_ALONE, CELLS},
+        {"all faulting, host", ADOMVIK_HOST, CELLS},
+    };
+    for (size_t k = 0; k < sizeof how / sizeof *how; k++) {
+        const adomvik_plan plan = plan_of(how[k].kind);
         set_samples(how[k].faults);
-        open_both(1);
+        open_both(1, plan);
         measure("sample of one record, ", how[k].name, ours_one, theirs_one);
         measure("sample in a row of 1, ", how[k].name, ours_row, theirs_row);
-        open_both(BOARDS);
+        open_both(BOARDS, plan);
         measure("sample in a row of 16, ", how[k].name, ours_row, theirs_row);
     }
 }
 
 static void frames_in(size_t count, const char *row)
 {
-    static const struct { const char *name; uint8_t address, reg, value; act *one, *other; } acts[] = {
-        {"a read", 2, 0, 0, ours_frame, theirs_frame},
-        {"a staging write", 3, 9, 0x25, ours_frame, theirs_frame},
-        {"programming equal", 3, 11, 0x41, ours_frame, theirs_frame},
-        {"programming that spends", 3, 11, 0x41, ours_spend, theirs_spend},
+    static const struct { const char *name; int kind; uint8_t address, reg, value; act *one, *other; } acts[] = {
+        {"a read", ADOMVIK_STAND_ALONE, 2, 0, 0, ours_frame, theirs_frame},
+        {"a staging write", ADOMVIK_STAND_ALONE, 3, 9, 0x25, ours_frame, theirs_frame},
+        {"programming equal", ADOMVIK_STAND_ALONE, 3, 11, 0x41, ours_frame, theirs_frame},
+        {"programming that spends", ADOMVIK_STAND_ALONE, 3, 11, 0x41, ours_spend, theirs_spend},
+        {"a write to register 1", ADOMVIK_HOST, 3, 1, 6, ours_frame, theirs_frame},
+        {"a write that clears", ADOMVIK_HOST, 3, 1, 6, ours_clear, theirs_clear},
     };
-    for (int k = 0; k < 4; k++) {
-        open_both(count);
+    set_samples(0);
+    for (size_t k = 0; k < sizeof acts / sizeof *acts; k++) {
+        open_both(count, plan_of(acts[k].kind));
+        /* a last sample that every fault is over on */
+        for (int i = 0; i < (int)count; i++) {
+            ours_row(i);
+            theirs_row(i);
+        }
         set_frames(acts[k].address, acts[k].reg, acts[k].value);
         measure(row, acts[k].name, acts[k].one, acts[k].other);
     }
@@ -131,7 +171,7 @@ static void frames_in(size_t count, const char *row)
 
 static void readings_of_16(void)
 {
-    open_both(BOARDS);
+    open_both(BOARDS, plan_of(ADOMVIK_STAND_ALONE));
     measure("reading of 16, ", "quiet", ours_read, theirs_read);
     set_samples(CELLS);
     readings.elapsed = 100000;
@@ -140,6 +180,8 @@ static void readings_of_16(void)
         theirs_row(i);
     }
     measure("reading of 16, ", "with latches", ours_read, theirs_read);
+    open_both(BOARDS, plan_of(ADOMVIK_HOST));
+    measure("reading of 16, ", "quiet hosts", ours_read, theirs_read);
 }
 
 static void all_acts(void)
@@ -159,7 +201,7 @@ static void nothing(int i) { sum += (unsigned)i; }
 
 static void all_stacks(void)
 {
-    open_both(BOARDS);
+    open_both(BOARDS, plan_of(ADOMVIK_STAND_ALONE));
     set_samples(3);
     set_frames(3, 9, 0x25);
     const size_t base = depth(nothing);

@@ -9,6 +9,9 @@
 
 enum { SCD = 1, OCD = 2, OV = 4, UV = 8, HOT = 16, DSG_ON = 64, CHG_ON = 128 };
 enum { RUN_MAX = 8000000, CYCLES_MAX = 3, PROGRAM = 0x41 };
+enum { STAND_ALONE = 0, HOST = 1 };
+enum { CLEAR_BIT = 1, DSG_BIT = 2, CHG_BIT = 4, CONTROL_MAX = 7 };
+enum { STOPS_DSG = UV | OCD | SCD | HOT, STOPS_CHG = OV | OCD | SCD | HOT };
 
 static const int32_t ov_hysteresis[4] = {100, 200, 300, 0};
 static const int32_t uv_hysteresis[4] = {200, 400, 800, 1200};
@@ -39,9 +42,9 @@ static const uint8_t crc_table[256] = {
 
 /* ---- rows */
 
-static bool good_count(size_t cells)
+static bool good_board(uint32_t kind, uint32_t cells)
 {
-    return cells - 5 <= 5;
+    return kind <= HOST && cells - 5 <= 5;
 }
 
 static bool good_row(const struct peer_board *row, size_t boards)
@@ -50,8 +53,18 @@ static bool good_row(const struct peer_board *row, size_t boards)
         return false;
     unsigned bad = 0;
     for (size_t i = 0; i < boards; i++)
-        bad |= row[i].cells - 5u > 5;
+        bad |= (row[i].cells - 5u > 5) | (row[i].kind > HOST);
     return !bad;
+}
+
+/* A board as it starts; no fault is over on a last sample such as this. */
+static void start(struct peer_board *b, uint32_t kind, uint32_t cells)
+{
+    memset(b, 0, sizeof *b);
+    b->kind = (uint8_t)kind;
+    b->cells = (uint8_t)cells;
+    b->high = UINT16_MAX;
+    b->shunt = INT32_MAX;
 }
 
 uint8_t peer_open(struct peer_board *row, size_t boards, const uint32_t *counts, size_t count)
@@ -59,24 +72,46 @@ uint8_t peer_open(struct peer_board *row, size_t boards, const uint32_t *counts,
     if (count != boards || count - 1 > 15)
         return 1;
     for (size_t i = 0; i < count; i++)
-        if (!good_count(counts[i]))
+        if (!good_board(STAND_ALONE, counts[i]))
             return 1;
-    memset(row, 0, boards * sizeof *row);
     for (size_t i = 0; i < boards; i++)
-        row[i].cells = (uint8_t)counts[i];
+        start(&row[i], STAND_ALONE, counts[i]);
+    return 0;
+}
+
+uint8_t peer_open_plans(struct peer_board *row, size_t boards, const adomvik_plan *plans, size_t count)
+{
+    if (count != boards || count - 1 > 15)
+        return 1;
+    for (size_t i = 0; i < count; i++)
+        if (!good_board(plans[i].number >> 8, plans[i].number & 255))
+            return 1;
+    for (size_t i = 0; i < boards; i++)
+        start(&row[i], plans[i].number >> 8, plans[i].number & 255);
     return 0;
 }
 
 /* ---- samples */
 
-static unsigned status(unsigned latches)
+static inline unsigned status(const struct peer_board *b)
 {
-    unsigned value = latches;
-    if (!(latches & (UV | OCD | SCD | HOT)))
+    const unsigned may = b->kind == HOST ? b->control : DSG_BIT | CHG_BIT;
+    unsigned value = b->latches;
+    if (!(b->latches & STOPS_DSG) && (may & DSG_BIT))
         value |= DSG_ON;
-    if (!(latches & (OV | OCD | SCD | HOT)))
+    if (!(b->latches & STOPS_CHG) && (may & CHG_BIT))
         value |= CHG_ON;
     return value;
+}
+
+/* Register 1 where these faults latch. */
+static inline unsigned forbidden(unsigned control, unsigned latching)
+{
+    if (latching & STOPS_DSG)
+        control &= ~(unsigned)DSG_BIT;
+    if (latching & STOPS_CHG)
+        control &= ~(unsigned)CHG_BIT;
+    return control;
 }
 
 static inline unsigned next_latch(unsigned latches, unsigned fault, bool stood, bool lets_go)
@@ -106,6 +141,16 @@ static unsigned bled(unsigned flags)
     return taken;
 }
 
+static inline uint32_t ov_mv(const uint8_t *settings)
+{
+    return 4150 + 50 * (settings[0] & 7u);
+}
+
+static inline uint32_t uv_mv(const uint8_t *settings)
+{
+    return 1400 + 100 * (settings[1] & 15u);
+}
+
 static inline int32_t ocd_uv(const uint8_t *settings)
 {
     return 10000 + 5000 * (settings[3] & 15);
@@ -123,9 +168,9 @@ static inline uint8_t step(struct peer_board *b, adomvik_readings x, const uint3
     if (x.elapsed - 1 > 99999)
         return 4;
     const uint8_t *w = b->working;
-    const uint32_t ov_level = 4150 + 50 * (w[0] & 7u);
+    const uint32_t ov_level = ov_mv(w);
     const uint32_t ov_low = ov_level - (uint32_t)ov_hysteresis[w[0] >> 3 & 3];
-    const uint32_t uv_level = 1400 + 100 * (w[1] & 15u);
+    const uint32_t uv_level = uv_mv(w);
     const uint32_t uv_sum = uv_level + (uint32_t)uv_hysteresis[w[1] >> 4 & 3];
     const uint32_t uv_release = uv_sum < 3300 ? uv_sum : 3300;
 
@@ -137,6 +182,10 @@ static inline uint8_t step(struct peer_board *b, adomvik_readings x, const uint3
     }
     if (most > 5000 || x.thermistor > 5000 || x.shunt < -500000 || x.shunt > 500000 || x.load > 1)
         return 5;
+
+    b->low = (uint16_t)least;
+    b->high = (uint16_t)most;
+    b->shunt = x.shunt;
 
     const int32_t elapsed = (int32_t)x.elapsed;
     unsigned over = 0, under = 0, ov_stood = 0, flags = b->flags;
@@ -181,22 +230,26 @@ static inline uint8_t step(struct peer_board *b, adomvik_readings x, const uint3
     }
     b->currents = (uint8_t)(ocd_over * OCD | scd_over * SCD);
 
+    /* a host clears these four itself */
+    const bool alone = b->kind != HOST, unloaded = alone && !x.load;
     unsigned latches = b->latches;
-    latches = next_latch(latches, OV, ov_stood != 0, most < ov_low);
-    latches = next_latch(latches, UV, uv_stood, least > uv_release);
-    latches = next_latch(latches, OCD, ocd_stood, !x.load && !ocd_over);
-    latches = next_latch(latches, SCD, scd_stood, !x.load && !scd_over);
+    latches = next_latch(latches, OV, ov_stood != 0, alone && most < ov_low);
+    latches = next_latch(latches, UV, uv_stood, alone && least > uv_release);
+    latches = next_latch(latches, OCD, ocd_stood, unloaded && !ocd_over);
+    latches = next_latch(latches, SCD, scd_stood, unloaded && !scd_over);
     const bool hot = x.thermistor < 975;
     latches = next_latch(latches, HOT, hot, !hot);
+    if (!alone)
+        b->control = (uint8_t)forbidden(b->control, latches & ~b->latches);
     b->latches = (uint8_t)latches;
-    out->status = (uint8_t)status(latches);
+    out->status = (uint8_t)status(b);
     out->bled = (uint16_t)bled(b->flags);
     return 0;
 }
 
 uint8_t peer_sample_board(struct peer_board *board, adomvik_readings readings, const uint32_t *cells, size_t count, adomvik_sampled *out)
 {
-    if (!good_count(board->cells))
+    if (!good_board(board->kind, board->cells))
         return 1;
     return step(board, readings, cells, count, out);
 }
@@ -224,6 +277,29 @@ static bool allowed_setting(unsigned reg, unsigned value)
     if (reg == 8)
         return value < 32;
     return true;
+}
+
+/* The faults that are over on the last sample, by the levels of now. */
+static unsigned over_now(const struct peer_board *b)
+{
+    const uint8_t *w = b->working;
+    unsigned over = 0;
+    if (b->high < ov_mv(w))
+        over |= OV;
+    if (b->low > uv_mv(w))
+        over |= UV;
+    if (b->shunt <= ocd_uv(w))
+        over |= OCD;
+    if (b->shunt <= scd_uv(w))
+        over |= SCD;
+    return over;
+}
+
+static void set_control(struct peer_board *b, unsigned value)
+{
+    if (b->control & ~value & CLEAR_BIT)
+        b->latches = (uint8_t)(b->latches & ~over_now(b));
+    b->control = (uint8_t)value;
 }
 
 /* Programs the board: 13 for staged levels that are crossed, 11 if it has no cycle left for a real change, or 0. */
@@ -259,13 +335,17 @@ uint8_t peer_frame(struct peer_board *row, size_t boards, const uint8_t *frame, 
     if (number - 1u >= boards)
         return 2;
     struct peer_board *b = &row[number - 1];
-    const bool setting = reg >= 6 && reg <= 10;
-    if (!setting && reg != 11 && (reg != 0 || write))
+    const bool setting = reg >= 6 && reg <= 10, control = reg == 1 && b->kind == HOST;
+    if (!setting && reg != 11 && !control && (reg != 0 || write))
         return 9;
     if (!write) {
         if (value != 0)
             return 10;
-        value = setting ? b->working[reg - 6] : reg == 11 ? b->cycles : status(b->latches);
+        value = setting ? b->working[reg - 6] : reg == 11 ? b->cycles : control ? b->control : status(b);
+    } else if (control) {
+        if (value > CONTROL_MAX)
+            return 10;
+        set_control(b, value);
     } else if (setting) {
         if (!allowed_setting(reg, value))
             return 10;
@@ -294,7 +374,7 @@ uint8_t peer_read(const struct peer_board *row, size_t boards, adomvik_reading *
     unsigned latches = 0, pack = CHG_ON | DSG_ON, board = 0, cell = 0;
     for (size_t i = 0; i < boards; i++) {
         latches |= row[i].latches;
-        pack &= status(row[i].latches);
+        pack &= status(&row[i]);
         if (row[i].flags && !board) {
             board = (unsigned)i + 1;
             cell = (unsigned)__builtin_ctz(row[i].flags) + 1;

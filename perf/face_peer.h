@@ -5,16 +5,20 @@
 #include "adomvik.h"
 
 struct peer_board {
-    uint8_t cells, cycles, latches;
+    uint8_t cells, kind, cycles, latches;
     uint8_t working[5], staged[5];
     uint16_t flags;               /* bit 0 is cell 1, here and below */
     uint16_t over, under;         /* cells with an OV run, with a UV run */
     uint8_t currents;             /* which of OCD and SCD have a run */
+    uint8_t control;              /* register 1 */
+    uint16_t low, high;           /* of the last sample, with its shunt below */
     int32_t ov_run[10], uv_run[10];
     int32_t ocd_run, scd_run;
+    int32_t shunt;
 };
 
 uint8_t peer_open(struct peer_board *row, size_t boards, const uint32_t *counts, size_t count);
+uint8_t peer_open_plans(struct peer_board *row, size_t boards, const adomvik_plan *plans, size_t count);
 uint8_t peer_sample(struct peer_board *row, size_t boards, uint32_t board, adomvik_readings readings, const uint32_t *cells, size_t count, adomvik_sampled *out);
 uint8_t peer_sample_board(struct peer_board *board, adomvik_readings readings, const uint32_t *cells, size_t count, adomvik_sampled *out);
 uint8_t peer_frame(struct peer_board *row, size_t boards, const uint8_t *frame, size_t length, uint8_t *reply, size_t room);

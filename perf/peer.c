@@ -21,8 +21,14 @@ enum {
 };
 
 enum { SCD = 1, OCD = 2, OV = 4, UV = 8, HOT = 16, DSG_ON = 64, CHG_ON = 128 };
+enum { STOPS_DSG = UV | OCD | SCD | HOT, STOPS_CHG = OV | OCD | SCD | HOT };
+
+// The bench opens stand-alone boards only; its boards know both kinds, as the library's do.
+enum { STAND_ALONE = 0, HOST = 1 };
+enum { CLEAR_BIT = 1, DSG_BIT = 2, CHG_BIT = 4, CONTROL_MAX = 7 };
 
 enum {
+    CONTROL = 1,
     FIRST_SETTING = 6,
     LAST_SETTING = 10,
     SETTINGS = LAST_SETTING - FIRST_SETTING + 1,
@@ -50,9 +56,13 @@ struct board {
     uint8_t working[SETTINGS], staged[SETTINGS];
     uint8_t cycles;
     uint8_t latches;
-    uint16_t flags;  // bit 0 is cell 1
+    uint8_t kind;
+    uint8_t control;  // register 1
+    uint16_t flags;   // bit 0 is cell 1
+    uint16_t low, high;  // of the last sample, with its shunt below
     int32_t ov_run[CELLS_MAX], uv_run[CELLS_MAX];
     int32_t ocd_run, scd_run;
+    int32_t shunt;
 };
 
 static struct board stack[BOARDS_MAX];
@@ -230,6 +240,9 @@ static void open_stack(const struct line *l)
     boards = l->count;
     for (int i = 0; i < boards; i++) {
         stack[i].cells = l->list[i];
+        stack[i].kind = STAND_ALONE;
+        stack[i].high = UINT16_MAX;  // no fault is over on a last sample such as this
+        stack[i].shunt = INT32_MAX;
         start_runs(&stack[i]);
     }
     answer_end(put_text(answer_start(), "ok"));
@@ -255,12 +268,23 @@ static inline uint8_t next_latch(uint8_t latches, uint8_t fault, bool stood, boo
 
 static unsigned status(const struct board *b)
 {
+    const unsigned may = b->kind == HOST ? b->control : DSG_BIT | CHG_BIT;
     unsigned value = b->latches;
-    if (!(value & (UV | OCD | SCD | HOT)))
+    if (!(b->latches & STOPS_DSG) && (may & DSG_BIT))
         value |= DSG_ON;
-    if (!(b->latches & (OV | OCD | SCD | HOT)))
+    if (!(b->latches & STOPS_CHG) && (may & CHG_BIT))
         value |= CHG_ON;
     return value;
+}
+
+// Register 1 where these faults latch.
+static unsigned forbidden(unsigned control, unsigned latching)
+{
+    if (latching & STOPS_DSG)
+        control &= ~(unsigned)DSG_BIT;
+    if (latching & STOPS_CHG)
+        control &= ~(unsigned)CHG_BIT;
+    return control;
 }
 
 // A flagged cell is left out exactly if one of the two above it was taken.
@@ -272,6 +296,16 @@ static unsigned bled(unsigned flags)
             if ((flags & bit) && !(taken & (bit << 1 | bit << 2)))
                 taken |= bit;
     return taken;
+}
+
+static int32_t ov_mv(const uint8_t *settings)
+{
+    return 4150 + 50 * (settings[0] & 7);
+}
+
+static int32_t uv_mv(const uint8_t *settings)
+{
+    return 1400 + 100 * (settings[1] & 15);
 }
 
 static int32_t ocd_uv(const uint8_t *settings)
@@ -289,10 +323,10 @@ static void step(struct board *b, const struct line *l)
     const uint8_t *w = b->working;
     const int32_t elapsed = l->elapsed;
 
-    const int32_t ov_level = 4150 + 50 * (w[0] & 7);
+    const int32_t ov_level = ov_mv(w);
     const int32_t ov_low = ov_level - ov_hysteresis[w[0] >> 3 & 3];
     const int32_t ov_wait = 500000 + 250000 * (w[0] >> 5);
-    const int32_t uv_level = 1400 + 100 * (w[1] & 15);
+    const int32_t uv_level = uv_mv(w);
     const int32_t uv_sum = uv_level + uv_hysteresis[w[1] >> 4 & 3];
     const int32_t uv_release = uv_sum < 3300 ? uv_sum : 3300;
     const int32_t uv_wait = uv_delay[w[3] >> 4];
@@ -302,7 +336,8 @@ static void step(struct board *b, const struct line *l)
     // that level is close to where cells usually are.
     const int cells = b->cells;
     unsigned stood = 0, low = 0;
-    bool uv_stood = false, released = true;
+    int32_t least = INT32_MAX;
+    bool uv_stood = false;
     for (int i = 0; i < cells; i++) {
         const int32_t mv = l->list[i];
         int32_t ov_run = NO_RUN, uv_run = NO_RUN;
@@ -316,9 +351,12 @@ static void step(struct board *b, const struct line *l)
         b->ov_run[i] = ov_run;
         b->uv_run[i] = uv_run;
         low |= (unsigned)(mv < ov_low) << i;
-        released &= mv > uv_release;
+        least = mv < least ? mv : least;
     }
     b->flags = (uint16_t)((b->flags & ~low) | stood);
+    b->low = (uint16_t)least;
+    b->high = (uint16_t)l->largest;
+    b->shunt = l->shunt;
 
     const int32_t ocd_code = w[2] & 31;
     const int32_t ocd_wait = ocd_code < 16 ? 20000 * (ocd_code + 1) : 100000 * (ocd_code - 15);
@@ -329,13 +367,17 @@ static void step(struct board *b, const struct line *l)
     b->ocd_run = ocd_over ? next_run(b->ocd_run, elapsed) : NO_RUN;
     b->scd_run = scd_over ? next_run(b->scd_run, elapsed) : NO_RUN;
 
+    // a host clears these four itself
+    const bool alone = b->kind != HOST, unloaded = alone && !l->load;
     uint8_t latches = b->latches;
-    latches = next_latch(latches, OV, stood != 0, low == (1u << cells) - 1);
-    latches = next_latch(latches, UV, uv_stood, released);
-    latches = next_latch(latches, OCD, b->ocd_run >= ocd_wait, !l->load && !ocd_over);
-    latches = next_latch(latches, SCD, b->scd_run >= scd_wait, !l->load && !scd_over);
+    latches = next_latch(latches, OV, stood != 0, alone && l->largest < ov_low);
+    latches = next_latch(latches, UV, uv_stood, alone && least > uv_release);
+    latches = next_latch(latches, OCD, b->ocd_run >= ocd_wait, unloaded && !ocd_over);
+    latches = next_latch(latches, SCD, b->scd_run >= scd_wait, unloaded && !scd_over);
     const bool hot = l->thermistor < 975;
     latches = next_latch(latches, HOT, hot, !hot);
+    if (!alone)
+        b->control = (uint8_t)forbidden(b->control, latches & ~(unsigned)b->latches);
     b->latches = latches;
 }
 
@@ -392,6 +434,29 @@ static bool allowed_setting(unsigned reg, unsigned value)
     return true;
 }
 
+// The faults that are over on the last sample, by the levels of now.
+static unsigned over_now(const struct board *b)
+{
+    const uint8_t *w = b->working;
+    unsigned over = 0;
+    if (b->high < ov_mv(w))
+        over |= OV;
+    if (b->low > uv_mv(w))
+        over |= UV;
+    if (b->shunt <= ocd_uv(w))
+        over |= OCD;
+    if (b->shunt <= scd_uv(w))
+        over |= SCD;
+    return over;
+}
+
+static void set_control(struct board *b, unsigned value)
+{
+    if (b->control & ~value & CLEAR_BIT)
+        b->latches = (uint8_t)(b->latches & ~over_now(b));
+    b->control = (uint8_t)value;
+}
+
 // Programs the board: 13 for staged levels that are crossed, 11 if it has no cycle left for a real change, or 0.
 static unsigned program(struct board *b)
 {
@@ -410,13 +475,19 @@ static unsigned program(struct board *b)
 // The number of the refusal, or 0 and the value for the reply.
 static unsigned frame_act(struct board *b, bool write, unsigned reg, unsigned *value)
 {
-    const bool setting = reg >= FIRST_SETTING && reg <= LAST_SETTING;
-    if (!setting && reg != CYCLES && (reg != 0 || write))
+    const bool setting = reg >= FIRST_SETTING && reg <= LAST_SETTING, control = reg == CONTROL && b->kind == HOST;
+    if (!setting && reg != CYCLES && !control && (reg != 0 || write))
         return 9;
     if (!write) {
         if (*value != 0)
             return 10;
-        *value = setting ? b->working[reg - FIRST_SETTING] : reg == CYCLES ? b->cycles : status(b);
+        *value = setting ? b->working[reg - FIRST_SETTING] : reg == CYCLES ? b->cycles : control ? b->control : status(b);
+        return 0;
+    }
+    if (control) {
+        if (*value > CONTROL_MAX)
+            return 10;
+        set_control(b, *value);
         return 0;
     }
     if (setting) {
