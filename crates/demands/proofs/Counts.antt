@@ -1,6 +1,6 @@
 -- What the demands say of openings by plans they say of document 01's, whose boards are stand-alone.
 -- Assumes nothing.
-use Prim.Native.Nat.{ℕ, _+_, _*_, _/_, _%_}
+use Prim.Native.Nat.{ℕ}
 use native.Mathlib.Omega.{arith}
 use mathlib.Core.Path.{_≡_, refl, sym, ap, ap₂, _∙_, subst}
 use mathlib.Core.Logic.{_⊎_, inl, inr, _↔_}
@@ -15,6 +15,7 @@ use Rattle.lists.proofs.Split.{split, both}
 use Rattle.board.specs.declared.Board.{Board}
 use Rattle.board.specs.Plan.{Plan, badPlan, planOf, standAlone}
 use Rattle.board.specs.Sample.{fresh}
+use Rattle.board.proofs.Counts.{plan-stands}
 use Rattle.stack.specs.Row.{badCount}
 use Rattle.stack.specs.Open.{goodPlans, countPlans, openRow}
 use Rattle.demands.specs.Acts.{Act, reading, outcome, next, openedRow, final, answers}
@@ -34,21 +35,13 @@ use Rattle.demands.proofs.Mechanic.{mechanic}
 bad-count : (n : ℕ) → badPlan (planOf (standAlone n)) ≡ outside 5 10 n
 bad-count n =
     split (ltb n 256)
-    (λ e.
-    let few = ltb-true n 256 e in
-    let kind : (256 * 0 + n) / 256 ≡ 0 = omega (arith, few) in
-    let cells : (256 * 0 + n) % 256 ≡ n = omega (arith, few) in
-    rw (e, kind, cells))
+    (λ e. ap badPlan (plan-stands 0 n (ltb-true n 256 e)))
     (λ e. let many = ltb-false n 256 e in rw (e, le-ltb n 5 (omega (arith, many)), lt-ltb 10 n (omega (arith, many))))
 
 plan-is : (n : ℕ) → outside 5 10 n ≡ false → planOf (standAlone n) ≡ alone n
 plan-is n e =
     split (ltb n 256)
-    (λ h.
-    let few = ltb-true n 256 h in
-    let kind : (256 * 0 + n) / 256 ≡ 0 = omega (arith, few) in
-    let cells : (256 * 0 + n) % 256 ≡ n = omega (arith, few) in
-    rw h (λ i. record { kind = kind i; cells = cells i }))
+    (λ h. plan-stands 0 n (ltb-true n 256 h))
     (λ h. let many = ltb-false n 256 h in absurd (true≢false (sym (rw (le-ltb n 5 (omega (arith, many)), lt-ltb 10 n (omega (arith, many)))) ∙ e)))
 
 good-counts : (counts : List ℕ) → goodPlans (countPlans counts) ≡ every (λ n. not (outside 5 10 n)) counts

@@ -12,7 +12,7 @@ use Rattle.latches.specs.Control.{clearBit, dsgBit, chgBit}
 use Rattle.board.specs.declared.Readings.{Readings}
 use Rattle.board.specs.Plan.{Plan}
 use Rattle.board.specs.Host.{holdsOn}
-use Rattle.demands.specs.Paper.{Entry, sampled, framed, History, working, sampleOf, stands, letsGo, steers, clearSet, takesDown, lastSample, overBy, latched, rises, dsgSet, chgSet}
+use Rattle.demands.specs.Paper.{Entry, sampled, framed, History, working, sampleOf, stands, letsGo, steers, clearSet, takesDown, lastSample, overBy, clears, latched, rises, dsgSet, chgSet}
 use Rattle.demands.specs.Host.{Hosted, Written, alone, AsBefore}
 
 -- a bit that is kept unless something forbids it
@@ -22,6 +22,19 @@ kept b c e = both b (not c) e .0
 stays : (b c : Bool) → c ≡ false → (b && not c) ≡ b
 stays true c e = ap not e
 stays false c e = refl
+
+goes-off : (b c : Bool) → c ≡ true → (b && not c) ≡ false
+goes-off true c e = ap not e
+goes-off false c e = refl
+
+-- no frame makes a fault rise
+none-rises : (p : Plan) (f : Fault) (address register v : ℕ) (h : History) → rises p f (framed address register v) h ≡ false
+none-rises p f address register v h = by (clears p f (framed address register v) h) (latched p f h)
+  where
+    by : (c was : Bool) → ((not c && was) && not was) ≡ false
+    by true was = refl
+    by false true = refl
+    by false false = refl
 
 -- a latch that is held goes exactly at what clears it
 cleared : (down over was : Bool) → was ≡ true → ((not (down && over) && was) ≡ false) ↔ ((down ≡ true) × (over ≡ true))
@@ -41,6 +54,8 @@ hosted p (sampled x mv) h =
       chg-set = λ n e. kept (chgSet p h) (forbids OV) e;
       dsg-stays = λ n none. stays (dsgSet p h) (forbids UV) none;
       chg-stays = λ n none. stays (chgSet p h) (forbids OV) none;
+      dsg-cleared = λ n some. goes-off (dsgSet p h) (forbids UV) some;
+      chg-cleared = λ n some. goes-off (chgSet p h) (forbids OV) some;
     }
   where
     forbids : Fault → Bool
@@ -53,7 +68,13 @@ hosted p (framed address register v) h =
       chg-set = λ n e. sym (ap (λ (t : Bool). cond t (chgBit v) (chgSet p h)) n) ∙ e;
       dsg-stays = λ n none. ap (λ (t : Bool). cond t (dsgBit v) (dsgSet p h)) n;
       chg-stays = λ n none. ap (λ (t : Bool). cond t (chgBit v) (chgSet p h)) n;
+      dsg-cleared = λ n some. absurd (true≢false (sym some ∙ quiet UV));
+      chg-cleared = λ n some. absurd (true≢false (sym some ∙ quiet OV));
     }
+
+  where
+    quiet : (f : Fault) → (rises p f (framed address register v) h || rises p OCD (framed address register v) h || rises p SCD (framed address register v) h || rises p OT (framed address register v) h) ≡ false
+    quiet f = rw (none-rises p f address register v h, none-rises p OCD address register v h, none-rises p SCD address register v h, none-rises p OT address register v h)
 
 pub written : (p : Plan) (address register v : ℕ) (h : History) → Written p address register v h
 written p address register v h =

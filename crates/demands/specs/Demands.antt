@@ -12,7 +12,7 @@ use Rattle.lists.specs.Marks.{number}
 use Rattle.cells.specs.Bleed.{bled}
 use Rattle.latches.specs.Latches.{anyLatch, chgOn, dsgOn}
 use Rattle.board.specs.declared.Board.{Board}
-use Rattle.board.specs.Plan.{Plan, planOf, standAlone}
+use Rattle.board.specs.Plan.{Plan, planOf}
 use Rattle.frame.specs.Frame.{byte, writes}
 use Rattle.frame.specs.Reply.{replyBytes}
 use Rattle.registers.specs.Map.{Shown, readValue}

@@ -1,4 +1,4 @@
--- The demands of the library for C, over what its acts return and leave (adomvik, Acts): each call is an act of the demands, with its number and its values in the lent place (01, Refusal numbers).
+-- The demands of the library for C, over what its acts return and leave (adomvik, Calls): each call is an act of the demands, with its number and its values in the lent place (01, Refusal numbers).
 -- Assumes nothing.
 use Prim.Native.Nat.{ℕ, suc, _<_}
 use mathlib.Core.Path.{_≡_}

@@ -24,8 +24,10 @@ pub record Hosted (p : Plan) (e : Entry) (h : History) : Type 0 where
   -- nothing but such a write sets b1 or b2
   pub dsg-set : steers p e ≡ false → dsgSet p (e ∷ h) ≡ true → dsgSet p h ≡ true
   pub chg-set : steers p e ≡ false → chgSet p (e ∷ h) ≡ true → chgSet p h ≡ true
-  -- and where there is no such write, one is cleared only if a fault latches that forbids its switch
+  -- and where there is no such write, one is cleared exactly if a fault latches that forbids its switch, overtemperature too
   pub dsg-stays : steers p e ≡ false → (rises p UV e h || rises p OCD e h || rises p SCD e h || rises p OT e h) ≡ false → dsgSet p (e ∷ h) ≡ dsgSet p h
+  pub dsg-cleared : steers p e ≡ false → (rises p UV e h || rises p OCD e h || rises p SCD e h || rises p OT e h) ≡ true → dsgSet p (e ∷ h) ≡ false
+  pub chg-cleared : steers p e ≡ false → (rises p OV e h || rises p OCD e h || rises p SCD e h || rises p OT e h) ≡ true → chgSet p (e ∷ h) ≡ false
   pub chg-stays : steers p e ≡ false → (rises p OV e h || rises p OCD e h || rises p SCD e h || rises p OT e h) ≡ false → chgSet p (e ∷ h) ≡ chgSet p h
 
 -- a write to register 1 stores its three bits, whatever is latched
