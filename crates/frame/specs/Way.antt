@@ -1,11 +1,13 @@
--- On the way to the reply: a frame decoded and then judged, what a board makes of it, and the check that moves with the value. That
--- these come to the table and to the paper's reply is shown in proofs/Laws.antt, proofs/Product.antt and `stack` proofs/Ways.antt; nobody need believe them.
+-- On the way to the reply: the check by halves, a frame decoded and then judged, what a board makes of it, and the check that moves
+-- with the value. That these come to the definitions, to the table of refusals and to the paper's reply is shown in proofs/Halves.antt,
+-- Laws.antt, Sums.antt and `stack` proofs/Ways.antt; nobody need believe them.
 -- Assumes nothing.
-use Prim.Native.Nat.{ℕ}
+use Prim.Native.Nat.{ℕ, _*_, _/_, _%_, _<_}
+use mathlib.Core.Path.{_≡_}
 use mathlib.Core.Bool.{true, false, cond, not}
 use mathlib.Core.List.{List, [], _∷_}
 use lib.Dec.{ltb, eqb}
-use lib.ListN.{length, drop}
+use lib.ListN.{length, getD, drop}
 use lib.Bits.{bitXor}
 use Rattle.refusal.specs.declared.Refusal.{Refusal}
 use Rattle.refusal.specs.declared.Refusal.the-variants.{Malformed}
@@ -19,9 +21,19 @@ use Rattle.frame.specs.declared.Verdict.the-variants as verdict
 use Rattle.frame.specs.declared.Outcome.{Outcome}
 use Rattle.frame.specs.declared.Reply.{Reply}
 use Rattle.frame.specs.declared.Reply.the-variants.{Replied, Refused}
-use Rattle.frame.specs.Check.{checked, checkOf}
+use Rattle.frame.specs.Check.{shifted, times, checked, checkOf}
 use Rattle.frame.specs.Frame.{byte}
 
+-- ---- the check by halves
+-- a table of it: entry k is what four shifts make of 16k
+unfoldable pub FourShifts : List ℕ → Type 0
+FourShifts table = (k : ℕ) → k < 16 → getD table k 0 ≡ times 4 shifted (16 * k)
+
+-- a step by a table: the lower half of the register moves up, and the entry of the upper half is added
+abbrev pub halfNext : List ℕ → ℕ → ℕ
+halfNext table r = bitXor (r % 16 * 16) (getD table (r / 16) 0)
+
+-- ---- a frame taken apart
 -- the four bytes, where there are four
 unfoldable pub decoded : List ℕ → Decoded
 decoded frame = cond (eqb (length frame) 4) (Parts (byte frame 0) (byte frame 1) (byte frame 2) (byte frame 3)) NotFour

@@ -1,56 +1,61 @@
 // One frame: the check byte, taking a frame apart, and putting the reply into the lent buffer (01, Frames and registers).
-ghost use Prim.Native.Nat.{_*_, _/_, _%_, _<_, _≤_};
+ghost use Prim.Native.Nat.{_≤_};
 ghost use mathlib.Core.Path.{_≡_};
 ghost use mathlib.Core.List.{[], _∷_};
-ghost use lib.Bits.{bitXor};
 ghost use lib.ListN.{length};
 ghost use Rattle.frame.specs.Check.{checked, checkOf};
-ghost use Rattle.frame.specs.Way.{decoded, refusedAs, checkMoved, takenApart, replyOf, bufferWith};
+ghost use Rattle.frame.specs.Way.{FourShifts, halfNext, decoded, refusedAs, checkMoved, takenApart, replyOf, bufferWith};
 use refusal::Refusal;
 
-// A product by x^2 + x + 1, that is by 7, without carries.
-fn by_seven(x: u32) -> u32
-    requires { ⌜ x < 4096 ⌝ }
-    ensures { λ o. ⌜ o ≡ bitXor (bitXor x (2 * x)) (4 * x) ⌝ }
+// What four shifts make of each half byte, moved to the upper half of a byte.
+const FOUR_SHIFTS: [u8; 16] = [0, 7, 14, 9, 28, 27, 18, 21, 56, 63, 54, 49, 36, 35, 42, 45];
+
+// The table of the check. A constant is laid out wherever it is named, and an array copied wherever it is taken by value: so it is
+// asked for once and lent from there on.
+fn four_shifts() -> [u8; 16]
+    ensures { λ o. ⌜ FourShifts o ⌝ }
 {
-    x ^ (2 * x) ^ (4 * x)
+    FOUR_SHIFTS
 }
 
-// What is left of a product below x^8: modulo the polynomial, x^8 is x^2 + x + 1.
-fn reduced(x: u32) -> u8
-    requires { ⌜ x < 16384 ⌝ }
-    ensures { λ o. ⌜ o ≡ bitXor (bitXor (bitXor (x / 256) (2 * (x / 256))) (4 * (x / 256))) (x % 256) ⌝ }
+// Four shifts by the table: the lower half of the register moves up, and the upper one is looked up.
+fn half_next(table: &[u8; 16], r: u8) -> u8
+    ensures { λ o. ⌜ o ≡ halfNext (now (table .entry)) r ⌝ }
 {
-    (by_seven(x / 256) ^ (x % 256)) as u8
+    (r % 16 * 16) ^ table[r as usize / 16]
 }
 
-// The check over one byte more: eight shifts are one product.
-fn check_next(r: u8, byte: u8) -> u8
+// The check over one byte more: eight shifts are two halves.
+fn check_next(table: &[u8; 16], r: u8, byte: u8) -> u8
+    requires { ⌜ FourShifts (now table) ⌝ }
     ensures { λ o. ⌜ o ≡ checked r byte ⌝ }
 {
-    reduced(by_seven(r as u32 ^ byte as u32))
+    let half = half_next(table, r ^ byte);
+    half_next(table, half)
 }
 
 // The check byte over the bytes of a list, first to last.
 pub fn check_all(bytes: &[u8]) -> u8
     ensures { λ o. ⌜ o ≡ checkOf (now (bytes .entry)) ⌝ }
 {
+    let table = four_shifts();
     let mut r = 0;
     let mut i = 0;
     while i < bytes.len() {
-        r = check_next(r, bytes[i]);
+        r = check_next(&table, r, bytes[i]);
         i += 1;
     }
     r
 }
 
-// The check byte over the first three bytes of a frame or a reply: one reduction at the end is enough.
+// The check byte over the first three bytes of a frame or a reply.
 pub fn check_byte(address: u8, register: u8, value: u8) -> u8
     ensures { λ o. ⌜ o ≡ checkOf (address ∷ register ∷ value ∷ []) ⌝ }
 {
-    let first = by_seven(address as u32);
-    let second = by_seven(first ^ register as u32);
-    reduced(by_seven(second ^ value as u32))
+    let table = four_shifts();
+    let first = check_next(&table, 0, address);
+    let second = check_next(&table, first, register);
+    check_next(&table, second, value)
 }
 
 // What a frame asks of its board.
@@ -82,9 +87,8 @@ fn decode(frame: &[u8]) -> Decoded
     if frame.len() != 4 {
         return Decoded::NotFour;
     }
-    // the register first: so ordered, the compiled code has one instruction less
-    let register = frame[1];
     let address = frame[0];
+    let register = frame[1];
     let value = frame[2];
     let check = frame[3];
     Decoded::Parts {
@@ -97,10 +101,12 @@ fn decode(frame: &[u8]) -> Decoded
 
 // A frame taken apart: what it asks and its check, or why it was refused as it stands.
 // A refused frame asks nothing, and zeros stand for that; for the why of any other stands Malformed, which no frame is given.
+// The check stands apart from the request: side by side they are compiled to one word, taken without a branch, and all that follows
+// waits for the check to be worked out.
 pub struct Taken {
     pub request: Request,
-    pub check: u8,
     pub refused: bool,
+    pub check: u8,
     pub why: Refusal,
 }
 
@@ -198,7 +204,8 @@ fn check_moved(check: u8, old: u8, new: u8) -> u8
     if old == new {
         return check;
     }
-    check ^ check_next(old, new)
+    let table = four_shifts();
+    check ^ check_next(&table, old, new)
 }
 
 // The reply to a frame, by what its board makes of it: it repeats the first two bytes.

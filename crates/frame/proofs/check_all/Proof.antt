@@ -11,10 +11,13 @@ use Rattle.frame.proofs.check_all.Statement.{statement}
 use Rattle.frame.proofs.check_all.Tie as tie
 
 abbrev Inv-loop : tie.InvT-loop
-Inv-loop bytes r₀ i₀ r i = (i ≤ length bytes) × (checkFrom 0 bytes ≡ checkFrom r (drop i bytes))
+Inv-loop bytes table r₀ i₀ r i = (i ≤ length bytes) × (checkFrom 0 bytes ≡ checkFrom r (drop i bytes))
 
 abbrev μ-loop : tie.MeasureT-loop
-μ-loop bytes r₀ i₀ r i = length bytes - i
+μ-loop bytes table r₀ i₀ r i = length bytes - i
+
+four-shifts-requires : tie.Need-four-shifts-requires Inv-loop μ-loop
+four-shifts-requires c κs = search needs
 
 loop-holds : tie.Need-loop-holds Inv-loop μ-loop
 loop-holds c = (search needs, refl)
@@ -33,14 +36,14 @@ loop-less c = search needs
 
 loop-again : tie.Need-loop-again Inv-loop μ-loop
 loop-again c =
-    let h = c .before .before .before in
-    let bytes = h .before .before .args .bytes .now in
+    let h = c .before .before .before .before in
+    let bytes = h .before .before .before .args .bytes .now in
     let inside : h .loop .i < length bytes = search needs in
     (search needs, h .loop .inv .1 ∙ rw (c .check-next .ensures, add-one, drop-cons bytes (h .loop .i) 0 inside))
 
 returns : tie.Need-returns Inv-loop μ-loop
 returns c =
-    let all : c .before .loop .i ≡ length (c .before .before .before .args .bytes .now) = search needs in
+    let all : c .before .loop .i ≡ length (c .before .before .before .before .args .bytes .now) = search needs in
     sym (c .before .loop .inv .1 ∙ rw (all, drop-length))
 
 pub check-all-spec : {M : Type 1} → statement M
@@ -49,6 +52,7 @@ check-all-spec =
     (tie.spec
     Inv-loop
     μ-loop
+    four-shifts-requires
     loop-holds
     shared-slice-read-check-next
     check-next-requires

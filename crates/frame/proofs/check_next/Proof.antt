@@ -1,29 +1,27 @@
--- `frame::check_next` meets its contract: one product, reduced.
+-- `frame::check_next` meets its contract: two halves are the eight shifts.
 -- Assumes nothing.
-use Prim.Native.Nat.{_<_}
-use native.Mathlib.Omega.{arith}
+use mathlib.Core.Path.{ap, _∙_}
 use lib.Bits.{bitXor, xor-lt}
 use borrow.Author.Needs.{needs}
 use Rattle.frame.specs.Check.{checked}
-use Rattle.frame.proofs.Product.{seven-lt, one-byte}
+use Rattle.frame.specs.Way.{halfNext}
+use Rattle.frame.proofs.Halves.{by-halves}
 use Rattle.frame.proofs.check_next.Statement.{statement}
 use Rattle.frame.proofs.check_next.Tie as tie
 
-by-seven-requires : tie.Need-by-seven-requires
-by-seven-requires c κs = xor-lt 12 (c .args .r) (c .args .byte) (search needs) (search needs)
+half-next-requires : tie.Need-half-next-requires
+half-next-requires c κs = search needs
 
-reduced-requires : tie.Need-reduced-requires
-reduced-requires c κs =
-    let sum = bitXor (c .before .args .r) (c .before .args .byte) in
-    let less : sum < 256 = xor-lt 8 (c .before .args .r) (c .before .args .byte) (search needs) (search needs) in
-    rw (c .by-seven .ensures) (seven-lt 14 sum (omega (arith, less)))
+half-next-requires-2 : tie.Need-half-next-requires-2
+half-next-requires-2 c κs = search needs
 
 returns : tie.Need-returns
 unfolding checked
 returns c =
-    let a = c .before .before .args in
+    let c1 = c .before in
+    let a = c1 .before .args in
     let less = xor-lt 8 (a .r) (a .byte) (search needs) (search needs) in
-    rw (c .reduced .ensures, c .before .by-seven .ensures) (one-byte (bitXor (a .r) (a .byte)) less)
+    c .half-next2 .ensures ∙ ap (halfNext (a .table .now)) (c1 .half-next .ensures) ∙ by-halves (a .table .now) (c1 .before .pre) (bitXor (a .r) (a .byte)) less
 
 pub check-next-spec : {M : Type 1} → statement M
-check-next-spec = tie.close (tie.spec by-seven-requires reduced-requires returns)
+check-next-spec = tie.close (tie.spec half-next-requires half-next-requires-2 returns)

@@ -10,11 +10,11 @@ returns : tie.Need-returns
 unfolding decoded
 returns c = rw (ne-eqb _ _ (c .if1 .taken))
 
-shared-slice-read-register : tie.Need-shared-slice-read-register
-shared-slice-read-register c = search needs
-
 shared-slice-read-address : tie.Need-shared-slice-read-address
 shared-slice-read-address c = search needs
+
+shared-slice-read-register : tie.Need-shared-slice-read-register
+shared-slice-read-register c = search needs
 
 shared-slice-read-value : tie.Need-shared-slice-read-value
 shared-slice-read-value c = search needs
@@ -31,8 +31,8 @@ decode-spec =
     tie.close
     (tie.spec
     returns
-    shared-slice-read-register
     shared-slice-read-address
+    shared-slice-read-register
     shared-slice-read-value
     shared-slice-read-check
     returns-2)

@@ -5,7 +5,7 @@ use mathlib.Core.Path.{ap}
 use Rattle.frame.specs.declared.Reply.the-variants.{Replied}
 use Rattle.frame.specs.Way.{replyOf}
 use borrow.Author.Needs.{needs}
-use Rattle.frame.proofs.Product.{moved-check}
+use Rattle.frame.proofs.Sums.{moved-check}
 use Rattle.frame.proofs.reply_of.Statement.{statement}
 use Rattle.frame.proofs.reply_of.Tie as tie
 
