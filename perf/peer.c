@@ -68,7 +68,7 @@ struct board {
 static struct board stack[BOARDS_MAX];
 static int boards;  // 0 before the first good opening
 
-static uint8_t crc_table[256];
+static uint8_t crc_table[16];  // what four shifts make of each half byte, moved to the upper half of a byte
 
 static char out[BLOCK];
 static size_t out_len;
@@ -412,17 +412,27 @@ static void sample(const struct line *l)
 
 static void make_crc_table(void)
 {
-    for (unsigned i = 0; i < 256; i++) {
-        unsigned crc = i;
-        for (int k = 0; k < 8; k++)
+    for (unsigned i = 0; i < 16; i++) {
+        unsigned crc = i << 4;
+        for (int k = 0; k < 4; k++)
             crc = crc & 0x80 ? crc << 1 ^ 0x07 : crc << 1;
         crc_table[i] = (uint8_t)crc;
     }
 }
 
+static uint8_t next_half(uint8_t crc)
+{
+    return (uint8_t)(crc << 4 ^ crc_table[crc >> 4]);
+}
+
+static uint8_t next_check(uint8_t crc, unsigned byte)
+{
+    return next_half(next_half((uint8_t)(crc ^ byte)));
+}
+
 static unsigned check_byte(unsigned address, unsigned reg, unsigned value)
 {
-    return crc_table[crc_table[crc_table[address] ^ reg] ^ value];
+    return next_check(next_check(next_check(0, address), reg), value);
 }
 
 static bool allowed_setting(unsigned reg, unsigned value)
