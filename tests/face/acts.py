@@ -55,6 +55,10 @@ class Script:
         """A reading of the row."""
         self.put("R", [boards], self.rows.reading(boards))
 
+    def check_bytes(self, tries):
+        """The check byte over every pair of register and byte: no difference, and no record moved."""
+        self.put("K", [tries], self.rows.line(0, []))
+
     def overwrite(self, place, data):
         """Garbage over a record: no act, and no answer."""
         self.rows.overwrite(place, data)

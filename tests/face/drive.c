@@ -8,6 +8,7 @@
  *     F boards room bytes..                              a frame, with a reply buffer of so many bytes
  *     R boards                                           a reading
  *     W place bytes..                                    120 bytes over the record at a place, and no act
+ *     K tries                                            the check byte of every frame of 2^17, that many bytes tried (here alone)
  *
  * An answer: the act's number, what stands in the place for the answer or in the reply buffer, and a checksum of all records.
  * Before an act these places hold PATTERN, so that what a refusal wrote would show. Every list is lent in a block of just its
@@ -237,6 +238,49 @@ static void overwrite(void)
         ((uint8_t *)&row[number[0]])[i] = (uint8_t)number[1 + i];
 }
 
+/* ---- the check byte */
+
+/* By long division: what three bytes with eight zeros behind them leave of x^8 + x^2 + x + 1. */
+static uint32_t divided(uint32_t message)
+{
+    uint32_t left = message << 8;
+    for (int place = 31; place >= 8; place--)
+        if (left >> place & 1)
+            left ^= (uint32_t)0x107 << (place - 8);
+    return left;
+}
+
+/* Whether these bytes get an 8 with every check byte that is tried but the one by long division, and a reply has the one of its own. */
+static int agrees(adomvik_board *board, uint32_t message, uint32_t tries)
+{
+    const uint32_t right = divided(message);
+    for (uint32_t k = 0; k < tries; k++) {
+        const uint8_t sent[4] = {(uint8_t)(message >> 16), (uint8_t)(message >> 8), (uint8_t)message, (uint8_t)(right ^ k)};
+        uint8_t reply[4];
+        const uint8_t result = adomvik_frame(board, 1, sent, 4, reply, 4);
+        if ((result == 8) != (k != 0))
+            return 0;
+        if (result == 0 && reply[3] != divided((uint32_t)reply[0] << 16 | (uint32_t)reply[1] << 8 | reply[2]))
+            return 0;
+    }
+    return 1;
+}
+
+/* A step of the check takes the register so far and a byte. With the first byte fixed, the second takes the register through all its
+ * values, since shifts are one to one, and the third goes with each; and so one step earlier, with the third byte fixed. Answers 0
+ * where all agree. The board is one of its own.
+ */
+static void check_bytes(void)
+{
+    adomvik_board board;
+    const uint32_t cells = 5;
+    int wrong = adomvik_open(&board, 1, &cells, 1);
+    for (uint32_t pair = 0; pair < 1u << 16; pair++)
+        wrong |= !agrees(&board, 2u << 16 | pair, number[0]) || !agrees(&board, pair << 8, number[0]);
+    put_number((uint32_t)wrong);
+    answer_end();
+}
+
 int main(void)
 {
     row = block(RECORDS * sizeof *row);
@@ -252,6 +296,7 @@ int main(void)
         case 'F': frame(); break;
         case 'R': reading(); break;
         case 'W': overwrite(); break;
+        case 'K': check_bytes(); break;
         default: return 2;
         }
     }
