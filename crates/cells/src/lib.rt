@@ -80,7 +80,7 @@ fn mark_next(marked: bool, above: u16) -> u16
 }
 
 // A board has ten cells at most.
-fn cell_count(readings: usize) -> usize
+pub fn cell_count(readings: usize) -> usize
     ensures { λ r. ⌜ r ≡ min readings 10 ⌝ }
 {
     if readings < 10 { readings } else { 10 }

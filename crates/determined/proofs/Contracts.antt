@@ -28,6 +28,8 @@ use Rattle.cells.proofs.sweep.Reads as cells-sweep
 use Rattle.cells.proofs.span_of.Reads as cells-span-of
 use Rattle.cells.proofs.calm.Reads as cells-calm
 use Rattle.cells.proofs.fresh_cells.Reads as cells-fresh-cells
+use Rattle.cells.proofs.cell_count.Reads as cells-cell-count
+use Rattle.garden.proofs.grow.Reads as garden-grow
 use Rattle.latches.proofs.latches_of.Reads as latches-latches-of
 use Rattle.latches.proofs.any_latch.Reads as latches-any-latch
 use Rattle.latches.proofs.chg_on.Reads as latches-chg-on
@@ -149,6 +151,12 @@ cells-calm-one κs a r t s u = agree
 
 pub cells-fresh-cells-one : (κs : _) (a : _) (r t : _) (s u : _) → cells-fresh-cells.Learnt κs a r s → cells-fresh-cells.Learnt κs a t u → r ≡ t
 cells-fresh-cells-one κs a r t s u = agree
+
+pub cells-cell-count-one : (κs : _) (a : _) (r t : _) (s u : _) → cells-cell-count.Learnt κs a r s → cells-cell-count.Learnt κs a t u → r ≡ t
+cells-cell-count-one κs a r t s u = agree
+
+pub garden-grow-one : (κs : _) (a : _) (r t : _) (s u : _) → garden-grow.Learnt κs a r s → garden-grow.Learnt κs a t u → r ≡ t
+garden-grow-one κs a r t s u = agree
 
 -- ---- latches
 pub latches-latches-of-one : (κs : _) (a : _) (r t : _) (s u : _) → latches-latches-of.Learnt κs a r s → latches-latches-of.Learnt κs a t u → r ≡ t
