@@ -71,7 +71,6 @@ hosted p (framed address register v) h =
       dsg-cleared = λ n some. absurd (true≢false (sym some ∙ quiet UV));
       chg-cleared = λ n some. absurd (true≢false (sym some ∙ quiet OV));
     }
-
   where
     quiet : (f : Fault) → (rises p f (framed address register v) h || rises p OCD (framed address register v) h || rises p SCD (framed address register v) h || rises p OT (framed address register v) h) ≡ false
     quiet f = rw (none-rises p f address register v h, none-rises p OCD address register v h, none-rises p SCD address register v h, none-rises p OT address register v h)

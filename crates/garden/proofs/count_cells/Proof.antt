@@ -65,9 +65,11 @@ loop-less c = search needs
 loop-again : tie.Need-loop-again Inv-loop μ-loop
 loop-again c =
     let h = c .before .before .before .before .before .before in
-    let a = h .before .before .before .args in
-    (search needs, h .loop .inv .1,
-    rw (c .count-or-none2 .ensures, c .before .before .count-or-none .ensures) (one-counted (a .d) (a .t2) (a .mv .now) (a .ov-none) (a .uv-none) (cellCount (a .mv .now)) (h .loop .i) (h .loop .next) (search needs) (search needs) (omega (arith, h .loop .inv .1)) (h .loop .inv .2)))
+    let a = h .before .before .before .args in (
+      search needs,
+      h .loop .inv .1,
+      rw (c .count-or-none2 .ensures, c .before .before .count-or-none .ensures) (one-counted (a .d) (a .t2) (a .mv .now) (a .ov-none) (a .uv-none) (cellCount (a .mv .now)) (h .loop .i) (h .loop .next) (search needs) (search needs) (omega (arith, h .loop .inv .1)) (h .loop .inv .2)),
+    )
 
 returns : tie.Need-returns Inv-loop μ-loop
 unfolding cellsAfter

@@ -15,7 +15,7 @@ use Rattle.garden.proofs.reached_of.Statement.{statement}
 use Rattle.garden.proofs.reached_of.Tie as tie
 
 abbrev Inv-loop : tie.InvT-loop
-Inv-loop d trigger mv cells ov₀ uv₀ i₀ ov uv i = 
+Inv-loop d trigger mv cells ov₀ uv₀ i₀ ov uv i =
     (i ≤ cellCount mv) × (length cells ≡ 10) × (ov ≡ lowest (i + 1) (each i (cellCount mv - i) (λ k. reaches trigger (ovCountAt d cells mv k))))
     × (uv ≡ lowest (i + 1) (each i (cellCount mv - i) (λ k. reaches trigger (uvCountAt d cells mv k))))
 
@@ -74,10 +74,12 @@ loop-again c =
     let a = h .before .before .before .args in
     let n = cellCount (a .mv .now) in
     let F : ℕ → Bool = λ k. reaches (a .trigger) (ovCountAt (a .d) (a .t3) (a .mv .now) k) in
-    let G : ℕ → Bool = λ k. reaches (a .trigger) (uvCountAt (a .d) (a .t3) (a .mv .now) k) in
-    (search needs, h .loop .inv .1,
-    rw (c .before .before .before .lower-to .ensures, c .before .before .before .before .count-next .ensures) (lowest-down F (h .loop .i) n (h .loop .ov) (search needs) (search needs) (h .loop .inv .2)),
-    rw (c .lower-to2 .ensures, c .before .count-next2 .ensures) (lowest-down G (h .loop .i) n (h .loop .uv) (search needs) (search needs) (h .loop .inv .3)))
+    let G : ℕ → Bool = λ k. reaches (a .trigger) (uvCountAt (a .d) (a .t3) (a .mv .now) k) in (
+      search needs,
+      h .loop .inv .1,
+      rw (c .before .before .before .lower-to .ensures, c .before .before .before .before .count-next .ensures) (lowest-down F (h .loop .i) n (h .loop .ov) (search needs) (search needs) (h .loop .inv .2)),
+      rw (c .lower-to2 .ensures, c .before .count-next2 .ensures) (lowest-down G (h .loop .i) n (h .loop .uv) (search needs) (search needs) (h .loop .inv .3)),
+    )
 
 returns : tie.Need-returns Inv-loop μ-loop
 returns c =
