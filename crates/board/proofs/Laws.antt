@@ -16,7 +16,7 @@ use Rattle.board.specs.declared.Readings.{Readings}
 use Rattle.board.specs.declared.Answer.{Answer}
 use Rattle.board.specs.declared.Answer.the-variants.{Sampled, Refused}
 use Rattle.latches.specs.Latches.{latch, latches, latchNext, latchesOf}
-use Rattle.board.specs.Sample.{answerSaid, answerSaying, sweptAt, latchesAfter, latchesNext, boardWith, boardNext, currentsNext, stands, letsGo, outOfRange}
+use Rattle.board.specs.Sample.{answerSaid, answerSaying, sweptAt, latchesAfter, latchesNext, boardWith, runsNext, currentsNext, stands, letsGo, outOfRange}
 use Rattle.board.specs.Host.{holdsOn}
 use Rattle.board.specs.Way.{outOfRangeBy, latchesBy, latchesLeft}
 use Rattle.latches.proofs.Packed.{latches-kept}
@@ -35,9 +35,9 @@ latch-of UV on = refl
 latch-of OT on = refl
 
 -- at an accepted sample an unlatched fault latches exactly if its condition has stood its delay, and a latched one unlatches exactly if it lets go,
--- and on a host board only overtemperature by itself
+-- and on a host board only overtemperature by itself; a garden board has no delays
 pub latch-after : (f : Fault) (b : Board) (x : Readings) (mv : List ℕ)
-    → latch f (latchesOf (boardNext b x mv .latches))
+    → latch f (latchesOf (runsNext b x mv .latches))
     ≡ latchNext (latch f (latchesOf (b .latches))) (stands (b .working) (sweptAt b x mv) (currentsNext (b .working) (b .currents) x) x f)
     (not (holdsOn (b .kind) f) && letsGo (b .working) (sweptAt b x mv) (currentsNext (b .working) (b .currents) x) x mv f)
 unfolding boardWith latchesNext

@@ -6,7 +6,6 @@ use mathlib.Core.Path.{_≡_, sym, ap, _∙_}
 use mathlib.Core.Bool.{Bool, true, false, not, _&&_}
 use mathlib.Core.List.{List}
 use lib.Dec.{ltb, eqb}
-use lib.ListN.{length}
 use borrow.Author.Tests.{le-ltb, eqb-true}
 use Rattle.lists.proofs.Split.{split, both, not-yes}
 use Rattle.refusal.specs.Said.{accepts}
@@ -18,14 +17,14 @@ use Rattle.cells.specs.declared.Swept.{Swept}
 use Rattle.cells.specs.Cells.{spanOf}
 use Rattle.cells.specs.Way.{calmOf}
 use Rattle.cells.proofs.Stays.{calm-readable, calm-sweep}
-use Rattle.latches.specs.Latches.{latches, latchesByte, latchesOf, risen, register0}
+use Rattle.latches.specs.Latches.{latches, latchesByte}
 use Rattle.latches.specs.Control.{controlNext}
 use Rattle.board.specs.declared.Board.{Board}
 use Rattle.board.specs.declared.Readings.{Readings}
 use Rattle.board.specs.Shunt.{shuntAbove, shuntOutside}
-use Rattle.board.specs.Plan.{isHost}
-use Rattle.board.specs.Host.{statusBy, lastOf}
-use Rattle.board.specs.Sample.{currentsNext, latchesNext, hot, sweptAt, latchesAfter, controlWith, boardWith, boardNext, sampleValues, answerSaying, outOfRange}
+use Rattle.board.specs.Plan.{isHost, isGarden}
+use Rattle.board.specs.Host.{lastOf}
+use Rattle.board.specs.Sample.{currentsNext, latchesNext, hot, sweptAt, latchesAfter, controlWith, boardWith, runsNext, boardNext, sampleValues, answerSaying, outOfRange}
 use Rattle.board.specs.Way.{clear, idle, currentsBelow, warm, quietOf, keeping, restedOf}
 
 module _ (b : Board) (x : Readings) (mv : List ℕ) (q : quietOf b x (spanOf mv) ≡ true) where
@@ -44,6 +43,9 @@ module _ (b : Board) (x : Readings) (mv : List ℕ) (q : quietOf b x (spanOf mv)
 
   abbrev after₁ : Bool
   after₁ = calmly && after₂
+
+  abbrev noLatchFlag : Bool
+  noLatchFlag = eqb (b .latches) 0 && eqb (b .flags) 0
 
   nothing-kept : (clear b && idle b) ≡ true
   unfolding quietOf
@@ -65,11 +67,20 @@ module _ (b : Board) (x : Readings) (mv : List ℕ) (q : quietOf b x (spanOf mv)
   rest₄ : after₄ ≡ true
   rest₄ = both (warm x) after₄ rest₃ .1
 
+  is-clear : clear b ≡ true
+  is-clear = both (clear b) (idle b) nothing-kept .0
+
+  no-garden : isGarden (b .kind) ≡ false
+  no-garden = not-yes (isGarden (b .kind)) (both (not (isGarden (b .kind))) noLatchFlag is-clear .0)
+
+  nothing-up : noLatchFlag ≡ true
+  nothing-up = both (not (isGarden (b .kind))) noLatchFlag is-clear .1
+
   no-latch : b .latches ≡ 0
-  no-latch = eqb-true (b .latches) 0 (both (eqb (b .latches) 0) (eqb (b .flags) 0) (both (clear b) (idle b) nothing-kept .0) .0)
+  no-latch = eqb-true (b .latches) 0 (both (eqb (b .latches) 0) (eqb (b .flags) 0) nothing-up .0)
 
   no-flag : b .flags ≡ 0
-  no-flag = eqb-true (b .flags) 0 (both (eqb (b .latches) 0) (eqb (b .flags) 0) (both (clear b) (idle b) nothing-kept .0) .1)
+  no-flag = eqb-true (b .flags) 0 (both (eqb (b .latches) 0) (eqb (b .flags) 0) nothing-up .1)
 
   no-ocd-run : b .currents .ocd ≡ 0
   no-ocd-run = eqb-true (b .currents .ocd) 0 (both (eqb (b .currents .ocd) 0) (eqb (b .currents .scd) 0) (both (clear b) (idle b) nothing-kept .1) .0)
@@ -118,7 +129,7 @@ module _ (b : Board) (x : Readings) (mv : List ℕ) (q : quietOf b x (spanOf mv)
   unfolding controlNext
   same-control = rw unlatched (split (isHost (b .kind)) (λ e. rw e) (λ e. rw e))
 
-  kept-board : boardNext b x mv ≡ keeping b (lastOf x mv)
+  kept-board : runsNext b x mv ≡ keeping b (lastOf x mv)
   unfolding boardWith latchesByte number
   kept-board =
       let byte = ap latchesByte unlatched ∙ sym no-latch in
@@ -136,6 +147,7 @@ module _ (b : Board) (x : Readings) (mv : List ℕ) (q : quietOf b x (spanOf mv)
         cells = cells i;
         last = lastOf x mv;
         control = same-control i;
+        garden = b .garden;
       }
 
   pub in-range : outOfRange x mv ≡ false
@@ -144,4 +156,4 @@ module _ (b : Board) (x : Readings) (mv : List ℕ) (q : quietOf b x (spanOf mv)
   -- so it is answered from the record
   pub rested : (restedOf b x (spanOf mv) .answer ≡ answerSaying (accepts (sampleValues b x mv))) × (restedOf b x (spanOf mv) .board ≡ boardNext b x mv)
   unfolding restedOf
-  rested = (rw (same-control, unlatched, no-latch, ap (λ (w : Swept). w .bled) swept), sym kept-board)
+  rested = (rw (no-garden, same-control, unlatched, no-latch, ap (λ (w : Swept). w .bled) swept), rw no-garden (sym kept-board))

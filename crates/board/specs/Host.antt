@@ -17,7 +17,7 @@ use Rattle.board.specs.declared.Readings.{Readings}
 use Rattle.board.specs.Plan.{isHost}
 use Rattle.board.specs.Shunt.{shuntAbove}
 
--- DSG and CHG may be on where their bits of register 1 are set; a stand-alone board has no such bits
+-- DSG and CHG may be on where their bits of register 1 are set; no other board has such bits
 abbrev pub mayDsg : ℕ → ℕ → Bool
 mayDsg kind control = not (isHost kind) || dsgBit control
 

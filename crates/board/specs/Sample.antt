@@ -1,7 +1,7 @@
--- A sample of one board (01, The stack and its readings; Refusal numbers 1, 3, 4, 5; When a fault latches and lets go; 02, ticket 3).
+-- A sample of one board (01, The stack and its readings; Refusal numbers 1, 3, 4, 5; When a fault latches and lets go; 02, tickets 3 and 5).
 -- Assumes nothing.
 use Prim.Native.Nat.{ℕ}
-use mathlib.Core.Bool.{Bool, cond, not, _&&_, _||_}
+use mathlib.Core.Bool.{Bool, false, cond, not, _&&_, _||_}
 use mathlib.Core.List.{List, [], _∷_}
 use lib.Dec.{eqb}
 use lib.ListN.{length}
@@ -15,6 +15,8 @@ use Rattle.settings.specs.Faults.{Fault, SCD, OCD, OV, UV, OT, delay}
 use Rattle.runs.specs.Stored.{runNext, stood}
 use Rattle.cells.specs.declared.Swept.{Swept}
 use Rattle.cells.specs.Cells.{sweepOf, noCells, readable}
+use Rattle.garden.specs.declared.Grown.{Grown}
+use Rattle.garden.specs.Filter.{growOf}
 use Rattle.board.specs.declared.Board.{Board}
 use Rattle.board.specs.declared.Currents.{Currents}
 use Rattle.board.specs.declared.Last.{Last}
@@ -23,18 +25,22 @@ use Rattle.board.specs.declared.Readings.{Readings}
 use Rattle.board.specs.declared.Answer.{Answer}
 use Rattle.board.specs.declared.Answer.the-variants.{Sampled, Refused}
 use Rattle.board.specs.declared.Stepped.{Stepped}
-use Rattle.board.specs.Plan.{Plan, isHost, badPlan, planOf}
+use Rattle.board.specs.Plan.{Plan, isHost, isGarden, badPlan, planOf}
 use Rattle.board.specs.Shunt.{shuntAbove, shuntOutside}
 use Rattle.board.specs.Host.{statusBy, holdsOn, lastOf, noLast}
 use Rattle.latches.specs.Latches.{latch, latches, latchNext, risen, latchesOf, latchesByte}
 use Rattle.latches.specs.Control.{controlNext}
 
--- a board starts from the factory settings, with no latch, no flagged cell, no cycle spent, staged equal to working; register 1 starts with 0
+-- a garden board starts with OV latched, b2 of register 0; any other with no latch
+abbrev pub firstLatches : ℕ → ℕ
+firstLatches kind = cond (isGarden kind) 4 0
+
+-- a board starts from the factory settings, with no flagged cell, no cycle spent, staged equal to working; register 1 starts with 0
 unfoldable pub fresh : ℕ → Board
 fresh plan =
     record {
       count = planOf plan .cells;
-      latches = 0;
+      latches = firstLatches (planOf plan .kind);
       cycles = 0;
       kind = planOf plan .kind;
       flags = 0;
@@ -44,6 +50,7 @@ fresh plan =
       cells = noCells;
       last = noLast;
       control = 0;
+      garden = record { row = planOf plan .row; trigger = planOf plan .trigger; «ov_back» = 0; «uv_back» = 0 };
     }
 
 -- OCD and SCD: the shunt above the level
@@ -110,14 +117,56 @@ boardWith b x mv left last =
       cells = sweptAt b x mv .cells;
       last = last;
       control = controlWith b left;
+      garden = b .garden;
     }
 
-abbrev pub boardNext : Board → Readings → List ℕ → Board
-boardNext b x mv = boardWith b x mv (latchesAfter b x mv) (lastOf x mv)
+abbrev pub runsNext : Board → Readings → List ℕ → Board
+runsNext b x mv = boardWith b x mv (latchesAfter b x mv) (lastOf x mv)
 
--- an accepted sample answers with register 0's value and the bled cells
+-- ---- a garden board: counts in place of runs, and of the faults OV and UV alone
+abbrev pub grownAt : Board → Readings → List ℕ → Grown
+grownAt b x mv = growOf (b .garden) (b .cells) (latch OV (latchesOf (b .latches))) (latch UV (latchesOf (b .latches))) (attached x) mv
+
+abbrev pub grownLatches : Grown → Latches
+grownLatches w = record { scd = false; ocd = false; ov = w .ov; uv = w .uv; ot = false }
+
+-- the counts lie where another board has its runs; of the rest only what is kept of the sample changes
+unfoldable pub gardenWith : Board → Grown → Last → Board
+gardenWith b w last =
+    record {
+      count = b .count;
+      latches = latchesByte (grownLatches w);
+      cycles = b .cycles;
+      kind = b .kind;
+      flags = b .flags;
+      working = b .working;
+      staged = b .staged;
+      currents = b .currents;
+      cells = w .cells;
+      last = last;
+      control = b .control;
+      garden = w .garden;
+    }
+
+abbrev pub gardenNext : Board → Readings → List ℕ → Board
+gardenNext b x mv = gardenWith b (grownAt b x mv) (lastOf x mv)
+
+-- ---- by the kind
+abbrev pub boardNext : Board → Readings → List ℕ → Board
+boardNext b x mv = cond (isGarden (b .kind)) (gardenNext b x mv) (runsNext b x mv)
+
+-- an accepted sample answers with register 0's value and the bled cells; a garden board bleeds none
+abbrev pub runsStatus : Board → Readings → List ℕ → ℕ
+runsStatus b x mv = statusBy (b .kind) (controlWith b (latchesAfter b x mv)) (latchesAfter b x mv)
+
+abbrev pub gardenStatus : Board → Readings → List ℕ → ℕ
+gardenStatus b x mv = statusBy (b .kind) (b .control) (grownLatches (grownAt b x mv))
+
 abbrev pub sampleValues : Board → Readings → List ℕ → List ℕ
-sampleValues b x mv = statusBy (b .kind) (controlWith b (latchesAfter b x mv)) (latchesAfter b x mv) ∷ sweptAt b x mv .bled ∷ []
+sampleValues b x mv =
+    cond (isGarden (b .kind)) (gardenStatus b x mv) (runsStatus b x mv)
+    ∷ cond (isGarden (b .kind)) 0 (sweptAt b x mv .bled)
+    ∷ []
 
 -- the paper's number and values of each case
 abbrev pub answerSaid : Answer → Said
@@ -131,9 +180,13 @@ answerSaying s = cond (eqb (s .number) 0) (Sampled (value 0 s) (value 1 s)) (Ref
 abbrev pub outOfRange : Readings → List ℕ → Bool
 outOfRange x mv = not (readable mv) || x .thermistor above 5000 || shuntOutside (x .shunt) || x .load above 1
 
+-- what a record says that its board is
+abbrev pub planIn : Board → Plan
+planIn b = record { kind = b .kind; cells = b .count; row = b .garden .row; trigger = b .garden .trigger }
+
 -- a record that no good plan gives
 abbrev pub badBoard : Board → Bool
-badBoard b = badPlan (record { kind = b .kind; cells = b .count })
+badBoard b = badPlan (planIn b)
 
 -- refusals 3, 4, 5 in order
 abbrev pub readingBars : Board → Readings → List ℕ → List Bar

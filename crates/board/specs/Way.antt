@@ -1,4 +1,4 @@
--- On the way: a sample is looked at before the board is changed. What the look finds, and what comes of each finding, together are the sample (the laws look-refused, look-quiet, look-changes).
+-- On the way: a sample is looked at before the board is changed. What the look finds, and what comes of each finding, together are the sample (the laws look-refused, look-quiet, look-grows, look-changes).
 -- Assumes nothing.
 use Prim.Native.Nat.{ℕ}
 use mathlib.Core.Bool.{Bool, true, false, cond, not, _&&_, _||_}
@@ -14,6 +14,8 @@ use Rattle.cells.specs.declared.Span.{Span}
 use Rattle.cells.specs.declared.Swept.{Swept}
 use Rattle.cells.specs.Cells.{spanOf}
 use Rattle.cells.specs.Way.{calmOf}
+use Rattle.garden.specs.declared.Grown.{Grown}
+use Rattle.garden.specs.Way.{growBy}
 use Rattle.latches.specs.declared.Latches.{Latches}
 use Rattle.latches.specs.Latches.{latch, latches, latchNext, latchesOf}
 use Rattle.board.specs.declared.Board.{Board}
@@ -24,23 +26,20 @@ use Rattle.board.specs.declared.Answer.{Answer}
 use Rattle.board.specs.declared.Answer.the-variants as answer
 use Rattle.board.specs.declared.Stepped.{Stepped}
 use Rattle.board.specs.declared.Found.{Found}
-use Rattle.board.specs.declared.Found.the-variants.{Refused, Quiet, Changes}
+use Rattle.board.specs.declared.Found.the-variants.{Refused, Quiet, Grows, Changes}
 use Rattle.board.specs.Shunt.{shuntAbove, shuntOutside}
+use Rattle.board.specs.Plan.{isGarden}
 use Rattle.board.specs.Host.{statusBy, holdsOn}
-use Rattle.board.specs.Sample.{fresh, currentsNext, hot, stands, letsGo, sweptAt, controlWith, boardWith, sampleBars}
-
--- a board by its plan: one whose kind fits no byte is none
-abbrev pub plannedOf : ℕ → Board
-plannedOf plan = fresh (cond (ltb plan 65536) plan 0)
+use Rattle.board.specs.Sample.{currentsNext, hot, attached, stands, letsGo, sweptAt, controlWith, boardWith, grownLatches, gardenWith, sampleBars}
 
 -- refusal 5 by the highest cell (the law range-by)
 abbrev pub outOfRangeBy : Readings → Span → Bool
 outOfRangeBy x span = ltb 5000 (span .high) || ltb 5000 (x .thermistor) || shuntOutside (x .shunt) || ltb 1 (x .load)
 
 -- ---- a quiet sample: it finds nothing, on a board that has nothing on record
--- no latch and no flag
+-- no latch and no flag; a garden board counts at every sample
 abbrev pub clear : Board → Bool
-clear b = eqb (b .latches) 0 && eqb (b .flags) 0
+clear b = not (isGarden (b .kind)) && (eqb (b .latches) 0 && eqb (b .flags) 0)
 
 -- no run of a current condition
 abbrev pub idle : Board → Bool
@@ -58,33 +57,43 @@ warm x = not (hot x) && not (ltb 5000 (x .thermistor))
 unfoldable pub quietOf : Board → Readings → Span → Bool
 quietOf b x span = (clear b && idle b) && (calmOf (b .working) (b .cells) span && (currentsBelow b x && (warm x && (not (shuntOutside (x .shunt)) && not (ltb 1 (x .load))))))
 
--- ---- what the look finds: refused, or else quiet or not
+-- ---- what the look finds: refused, or else quiet, or a garden board's, or none of these
 unfoldable pub lookOf : Board → Readings → List ℕ → Found
 lookOf b x mv =
     cond (eqb (first (sampleBars b x mv)) 0)
-    (cond (quietOf b x (spanOf mv)) (Quiet (spanOf mv)) (Changes (spanOf mv)))
+    (cond (quietOf b x (spanOf mv)) (Quiet (spanOf mv)) (cond (isGarden (b .kind)) (Grows (spanOf mv)) (Changes (spanOf mv))))
     (Refused (numbered (first (sampleBars b x mv))))
 
 abbrev pub isRefused : Found → Bool
 isRefused (Refused why) = true
 isRefused (Quiet span) = false
+isRefused (Grows span) = false
 isRefused (Changes span) = false
 
 abbrev pub isQuiet : Found → Bool
 isQuiet (Refused why) = false
 isQuiet (Quiet span) = true
+isQuiet (Grows span) = false
 isQuiet (Changes span) = false
+
+abbrev pub isGrowing : Found → Bool
+isGrowing (Refused why) = false
+isGrowing (Quiet span) = false
+isGrowing (Grows span) = true
+isGrowing (Changes span) = false
 
 -- the answer of a refused sample; no sample is Malformed, which stands for having no answer yet
 abbrev pub answerOf : Found → Answer
 answerOf (Refused why) = answer.Refused why
 answerOf (Quiet span) = answer.Refused Malformed
+answerOf (Grows span) = answer.Refused Malformed
 answerOf (Changes span) = answer.Refused Malformed
 
 -- the lowest and the highest cell; of a refused sample none are handed on
 abbrev pub spanFound : Found → Span
 spanFound (Refused why) = record { low = 0; high = 0 }
 spanFound (Quiet span) = span
+spanFound (Grows span) = span
 spanFound (Changes span) = span
 
 -- ---- what comes of it: a quiet sample answers with register 0 of the record and no cell bled, and only itself is kept; any other is stepped
@@ -105,6 +114,7 @@ keeping b last =
       cells = b .cells;
       last = last;
       control = b .control;
+      garden = b .garden;
     }
 
 unfoldable pub restedOf : Board → Readings → Span → Stepped
@@ -132,3 +142,12 @@ acceptedBy b x span mv =
       board = boardWith b x mv (latchesLeft b x span mv) (lastBy x span);
       answer = answer.Sampled (statusBy (b .kind) (controlWith b (latchesLeft b x span mv)) (latchesLeft b x span mv)) (sweptAt b x mv .bled);
     }
+
+-- a garden board's, by the lowest and the highest cell (the law garden's grow-by)
+abbrev pub grownBy : Board → Readings → Span → List ℕ → Grown
+grownBy b x span mv = growBy (b .garden) (b .cells) (latch OV (latchesOf (b .latches))) (latch UV (latchesOf (b .latches))) (attached x) span mv
+
+unfoldable pub grownOf : Board → Readings → Span → List ℕ → Stepped
+grownOf b x span mv =
+    let w = grownBy b x span mv in
+    record { board = gardenWith b w (lastBy x span); answer = answer.Sampled (statusBy (b .kind) (b .control) (grownLatches w)) 0 }

@@ -1,14 +1,15 @@
-// One board: its record, and a sample of it, by value and then where the record lies (01, The stack and its readings; When a fault latches and lets go; 02, ticket 3).
+// One board: its record, and a sample of it, by value and then where the record lies (01, The stack and its readings; When a fault latches and lets go; 02, tickets 3 and 5).
 ghost use mathlib.Core.Path.{_≡_};
 ghost use Rattle.latches.specs.Latches.{latchesOf, latchesByte};
 ghost use Rattle.board.specs.Shunt.{shuntAbove, shuntOutside};
-ghost use Rattle.board.specs.Plan.{planOf, badPlan, standAlone, host, isHost};
+ghost use Rattle.board.specs.Plan.{planOf, badPlan, standAlone, host, gardenPlan, isHost, isGarden};
 ghost use Rattle.board.specs.Host.{mayDsg, mayChg, statusBy, clearedOf};
-ghost use Rattle.board.specs.Sample.{fresh, currentsNext, badBoard, controlWith, sampleOf};
-ghost use Rattle.board.specs.Way.{plannedOf, outOfRangeBy, quietOf, lookOf, isRefused, isQuiet, answerOf, spanFound, lastBy, restedOf, latchesBy, acceptedBy};
+ghost use Rattle.board.specs.Sample.{firstLatches, fresh, currentsNext, badBoard, controlWith, sampleOf};
+ghost use Rattle.board.specs.Way.{outOfRangeBy, quietOf, lookOf, isRefused, isQuiet, isGrowing, answerOf, spanFound, lastBy, restedOf, latchesBy, acceptedBy, grownOf};
 use cells::Cell;
 use cells::Span;
 use cells::Swept;
+use garden::Garden;
 use latches::Latches;
 use refusal::Refusal;
 use settings::Settings;
@@ -42,6 +43,7 @@ pub struct Board {
     pub cells: [Cell; 10],
     pub last: Last,
     pub control: u8,
+    pub garden: Garden,
 }
 
 // What a sample reads beside the cells.
@@ -58,10 +60,12 @@ pub enum Answer {
     Refused(Refusal),
 }
 
-// What a look at a sample finds: it is refused, or it is quiet, or it may change the board. The lowest and the highest cell are handed on.
+// What a look at a sample finds: it is refused, or it is quiet, or a garden board's, or it may change the board. The lowest and the highest cell
+// are handed on.
 enum Found {
     Refused(Refusal),
     Quiet(Span),
+    Grows(Span),
     Changes(Span),
 }
 
@@ -70,7 +74,24 @@ pub struct Stepped {
     pub answer: Answer,
 }
 
-// ---- a plan, as one number: the cells, and 256 for a host board
+// ---- a plan, as one number: a byte each for cells, kind, row and trigger
+
+// The kinds of board beside the stand-alone one, which is 0.
+const HOST: u8 = 1;
+
+const GARDEN: u8 = 2;
+
+pub fn is_host(kind: u8) -> bool
+    ensures { λ r. ⌜ r ≡ isHost kind ⌝ }
+{
+    kind == HOST
+}
+
+pub fn is_garden(kind: u8) -> bool
+    ensures { λ r. ⌜ r ≡ isGarden kind ⌝ }
+{
+    kind == GARDEN
+}
 
 // A plan of so many cells fits its byte, or it is 0, which nothing can open.
 pub fn stand_alone(cells: u32) -> u32
@@ -85,10 +106,29 @@ pub fn host(cells: u32) -> u32
     if cells < 256 { 256 + cells } else { 0 }
 }
 
-// A board as it starts by a plan whose kind fits a byte.
-pub fn fresh_board(plan: u16) -> Board
+// A garden board by its row of the device table and its trigger, which fit their bytes too.
+pub fn garden_plan(cells: u32, row: u32, trigger: u32) -> u32
+    ensures { λ r. ⌜ r ≡ gardenPlan cells row trigger ⌝ }
+{
+    if (cells < 256) & (row < 256) & (trigger < 256) {
+        return cells + 512 + 65536 * row + 16777216 * trigger;
+    }
+    0
+}
+
+// A garden board starts with OV latched.
+fn first_latches(kind: u8) -> u8
+    ensures { λ r. ⌜ r ≡ firstLatches kind ⌝ }
+{
+    if is_garden(kind) { 4 } else { 0 }
+}
+
+// A board as it starts by its plan.
+pub fn fresh_board(plan: u32) -> Board
     ensures { λ r. ⌜ r ≡ fresh plan ⌝ }
 {
+    let kind = (plan / 256 % 256) as u8;
+    let latches = first_latches(kind);
     let cells = cells::fresh_cells();
     let currents = Currents { ocd: 0, scd: 0 };
     let working = Settings::FACTORY;
@@ -98,11 +138,17 @@ pub fn fresh_board(plan: u16) -> Board
         high: 4294967295,
         shunt: 2147483647,
     };
+    let garden = Garden {
+        row: (plan / 65536 % 256) as u8,
+        trigger: (plan / 16777216) as u8,
+        ov_back: 0,
+        uv_back: 0,
+    };
     Board {
         count: (plan % 256) as u8,
-        latches: 0,
+        latches: latches,
         cycles: 0,
-        kind: (plan / 256) as u8,
+        kind: kind,
         flags: 0,
         working: working,
         staged: staged,
@@ -110,13 +156,17 @@ pub fn fresh_board(plan: u16) -> Board
         cells: cells,
         last: last,
         control: 0,
+        garden: garden,
     }
 }
 
-// No board has such a kind or so many cells.
-fn bad_make(kind: u32, cells: u32) -> bool
-    ensures { λ r. ⌜ r ≡ badPlan (record { kind = kind; cells = cells }) ⌝ }
+// No board is so made: each kind has its own range of cells, and a garden board a row and a trigger.
+fn bad_make(kind: u8, cells: u8, row: u8, trigger: u8) -> bool
+    ensures { λ r. ⌜ r ≡ badPlan (record { kind = kind; cells = cells; row = row; trigger = trigger }) ⌝ }
 {
+    if is_garden(kind) {
+        return ((cells < 3) | (5 < cells)) | (2 < row) | (trigger < 1);
+    }
     (1 < kind) | ((cells < 5) | (10 < cells))
 }
 
@@ -124,36 +174,20 @@ fn bad_make(kind: u32, cells: u32) -> bool
 pub fn bad_board(b: Board) -> bool
     ensures { λ r. ⌜ r ≡ badBoard b ⌝ }
 {
-    bad_make(b.kind as u32, b.count as u32)
+    bad_make(b.kind, b.count, b.garden.row, b.garden.trigger)
 }
 
 // Which plan is bad. A plan says what a board is to be.
 pub fn bad_plan(plan: u32) -> bool
     ensures { λ r. ⌜ r ≡ badPlan (planOf plan) ⌝ }
 {
-    bad_make(plan / 256, plan % 256)
-}
-
-// A board as it starts by its plan; the kind of a good one fits a byte.
-pub fn planned_board(plan: u32) -> Board
-    ensures { λ r. ⌜ r ≡ plannedOf plan ⌝ }
-{
-    if plan < 65536 {
-        return fresh_board(plan as u16);
-    }
-    fresh_board(0)
+    let kind = (plan / 256 % 256) as u8;
+    let row = (plan / 65536 % 256) as u8;
+    let trigger = (plan / 16777216) as u8;
+    bad_make(kind, (plan % 256) as u8, row, trigger)
 }
 
 // ---- what a host board has beside a stand-alone one
-
-// The kind of a host board; a stand-alone one is 0.
-const HOST: u8 = 1;
-
-pub fn is_host(kind: u8) -> bool
-    ensures { λ r. ⌜ r ≡ isHost kind ⌝ }
-{
-    kind == HOST
-}
 
 // DSG and CHG may be on.
 pub fn may_dsg(kind: u8, control: u8) -> bool
@@ -323,6 +357,37 @@ fn accept(b: Board, x: Readings, span: Span, mv: &[u32]) -> Stepped
     }
 }
 
+// An accepted sample of a garden board.
+fn grow(b: Board, x: Readings, span: Span, mv: &[u32]) -> Stepped
+    ensures { λ r. ⌜ r ≡ grownOf b x span (now (mv .entry)) ⌝ }
+{
+    let old = latches::latches_of(b.latches);
+    let before = b.cells;
+    let grown = garden::grow(b.garden, before, old.ov, old.uv, x.load == 1, span, mv);
+    let latched = latches::byte_of(Latches {
+        scd: false,
+        ocd: false,
+        ov: grown.ov,
+        uv: grown.uv,
+        ot: false,
+    });
+    let counts = grown.cells;
+    let garden = grown.garden;
+    let last = last_by(x, span);
+    let mut next = b;
+    next.latches = latched;
+    next.cells = counts;
+    next.last = last;
+    next.garden = garden;
+    Stepped {
+        board: next,
+        answer: Answer::Sampled {
+            status: status_by(b.kind, b.control, latched),
+            bled: 0,
+        },
+    }
+}
+
 fn out_of_range(x: Readings, span: Span) -> bool
     ensures { λ r. ⌜ r ≡ outOfRangeBy x span ⌝ }
 {
@@ -334,7 +399,7 @@ fn out_of_range(x: Readings, span: Span) -> bool
 fn quiet(b: Board, x: Readings, span: Span) -> bool
     ensures { λ r. ⌜ r ≡ quietOf b x span ⌝ }
 {
-    let clear = (b.latches == 0) & (b.flags == 0);
+    let clear = !is_garden(b.kind) & ((b.latches == 0) & (b.flags == 0));
     let idle = (b.currents.ocd == 0) & (b.currents.scd == 0);
     if clear & idle {
         let cells = b.cells;
@@ -369,6 +434,9 @@ fn look(b: Board, x: Readings, mv: &[u32]) -> Found
     if out_of_range(x, span) {
         return Found::Refused(Refusal::OutOfRange);
     }
+    if is_garden(b.kind) {
+        return Found::Grows(span);
+    }
     Found::Changes(span)
 }
 
@@ -378,6 +446,7 @@ fn is_refused(found: Found) -> bool
     match found {
         Found::Refused(_) => true,
         Found::Quiet(_) => false,
+        Found::Grows(_) => false,
         Found::Changes(_) => false,
     }
 }
@@ -388,6 +457,18 @@ fn is_quiet(found: Found) -> bool
     match found {
         Found::Refused(_) => false,
         Found::Quiet(_) => true,
+        Found::Grows(_) => false,
+        Found::Changes(_) => false,
+    }
+}
+
+fn is_growing(found: Found) -> bool
+    ensures { λ r. ⌜ r ≡ isGrowing found ⌝ }
+{
+    match found {
+        Found::Refused(_) => false,
+        Found::Quiet(_) => false,
+        Found::Grows(_) => true,
         Found::Changes(_) => false,
     }
 }
@@ -399,6 +480,7 @@ fn answer_of(found: Found) -> Answer
     match found {
         Found::Refused(why) => Answer::Refused(why),
         Found::Quiet(_) => Answer::Refused(Refusal::Malformed),
+        Found::Grows(_) => Answer::Refused(Refusal::Malformed),
         Found::Changes(_) => Answer::Refused(Refusal::Malformed),
     }
 }
@@ -410,6 +492,7 @@ fn span_found(found: Found) -> Span
     match found {
         Found::Refused(_) => Span { low: 0, high: 0 },
         Found::Quiet(span) => span,
+        Found::Grows(span) => span,
         Found::Changes(span) => span,
     }
 }
@@ -433,7 +516,15 @@ fn accept_board(b: &mut Board, x: Readings, span: Span, mv: &[u32]) -> Answer
     s.answer
 }
 
-// A sample of one board: refused, with its answer; quiet; or it may change the board.
+fn grow_board(b: &mut Board, x: Readings, span: Span, mv: &[u32]) -> Answer
+    ensures { λ r. ⌜ (r ≡ grownOf (now (b .entry)) x span (now (mv .entry)) .answer) × (now (b .exit) ≡ grownOf (now (b .entry)) x span (now (mv .entry)) .board) ⌝ }
+{
+    let s = grow(*b, x, span, mv);
+    *b = s.board;
+    s.answer
+}
+
+// A sample of one board: refused, with its answer; quiet; a garden board's; or it may change the board.
 pub fn sample_board(b: &mut Board, x: Readings, mv: &[u32]) -> Answer
     ensures { λ r. ⌜ (r ≡ sampleOf (now (b .entry)) x (now (mv .entry)) .answer) × (now (b .exit) ≡ sampleOf (now (b .entry)) x (now (mv .entry)) .board) ⌝ }
 {
@@ -444,6 +535,9 @@ pub fn sample_board(b: &mut Board, x: Readings, mv: &[u32]) -> Answer
     let span = span_found(found);
     if is_quiet(found) {
         return rest_board(b, x, span, mv);
+    }
+    if is_growing(found) {
+        return grow_board(b, x, span, mv);
     }
     accept_board(b, x, span, mv)
 }

@@ -49,7 +49,7 @@ flags-set stands low flags n hs hl =
     ap₂ bitOr (own-each stands n hs) kept ∙ or-each (marked stands) (λ k. marked flags k && not (marked low k)) 0 n
 
 -- a number is not 0 exactly if it has some cell
-some-lowest : (k : ℕ) (bs : List Bool) → not (eqb (lowest (k + 1) bs) 0) ≡ some bs
+pub some-lowest : (k : ℕ) (bs : List Bool) → not (eqb (lowest (k + 1) bs) 0) ≡ some bs
 unfolding lowest
 some-lowest k [] = refl
 some-lowest k (true ∷ bs) = rw (ne-eqb (k + 1) 0 (λ e. omega arith))

@@ -32,12 +32,12 @@ each-getD {A} xs d i (suc n) h =
     let there : i + suc n ≡ suc i + n = omega arith in
     rw (there, drop-cons xs i d (omega arith)) (ap (λ (l : List A). getD xs i d ∷ l) (each-getD xs d (suc i) n (omega arith)))
 
-none-number : (i n : ℕ) → number (each i n (λ _. false)) ≡ 0
+pub none-number : (i n : ℕ) → number (each i n (λ _. false)) ≡ 0
 unfolding each number
 none-number i zero = refl
 none-number i (suc n) = rw (none-number (suc i) n)
 
-none-bled : (i n : ℕ) → bled (each i n (λ _. false)) ≡ each i n (λ _. false)
+pub none-bled : (i n : ℕ) → bled (each i n (λ _. false)) ≡ each i n (λ _. false)
 unfolding each bled
 none-bled i zero = refl
 none-bled i (suc n) = rw (none-bled (suc i) n)

@@ -3,9 +3,9 @@
 use Prim.Native.Nat.{ℕ}
 use native.Mathlib.Omega.{arith}
 use mathlib.Core.Path.{_≡_, refl, sym, ap, ap₂, _∙_, subst}
-use mathlib.Core.Logic.{_⊎_, inl, inr, _↔_}
+use mathlib.Core.Logic.{_⊎_}
 use mathlib.Core.Bool.{Bool, true, false, true≢false, cond, not, _&&_, _||_}
-use mathlib.Core.List.{List, [], _∷_, map}
+use mathlib.Core.List.{List, [], _∷_}
 use lib.Dec.{ltb, eqb}
 use lib.ListN.{length, replicate, length-map}
 use borrow.Author.Tests.{ltb-true, ltb-false, lt-ltb, le-ltb, eq-eqb}
@@ -18,7 +18,7 @@ use Rattle.board.specs.Sample.{fresh}
 use Rattle.board.proofs.Counts.{plan-stands}
 use Rattle.stack.specs.Row.{badCount}
 use Rattle.stack.specs.Open.{goodPlans, countPlans, openRow}
-use Rattle.demands.specs.Acts.{Act, reading, outcome, next, openedRow, final, answers}
+use Rattle.demands.specs.Acts.{reading, outcome, next, openedRow, final, answers}
 use Rattle.demands.specs.Shuffle.{picked, Shuffle}
 use Rattle.demands.specs.Tied.{tied}
 use Rattle.demands.specs.Demands.{Log, log, begun, rowGiven, taken, told, nothing}
@@ -26,7 +26,7 @@ use Rattle.demands.specs.Refused.{Outside, Some}
 use Rattle.demands.specs.Mechanic.{Answers}
 use Rattle.demands.specs.Host.{alone}
 use Rattle.demands.specs.Counts.{opensCounts, countsRow, begunCounts, ByCounts}
-use Rattle.demands.proofs.Asked.{Asks, asks-no, asks-so, asks-same, asks-or, asks-not, asks-twice, asks-outside, asks-some}
+use Rattle.demands.proofs.Asked.{Asks, asks-same, asks-or, asks-not, asks-twice, asks-outside, asks-some}
 use Rattle.demands.proofs.Demanded.{demand2, opens-good}
 use Rattle.demands.proofs.Order.{demand3}
 use Rattle.demands.proofs.Mechanic.{mechanic}
@@ -35,13 +35,13 @@ use Rattle.demands.proofs.Mechanic.{mechanic}
 bad-count : (n : ℕ) → badPlan (planOf (standAlone n)) ≡ outside 5 10 n
 bad-count n =
     split (ltb n 256)
-    (λ e. ap badPlan (plan-stands 0 n (ltb-true n 256 e)))
+    (λ e. ap badPlan (plan-stands 0 n 0 0 (omega arith) (ltb-true n 256 e) (omega arith) (omega arith)))
     (λ e. let many = ltb-false n 256 e in rw (e, le-ltb n 5 (omega (arith, many)), lt-ltb 10 n (omega (arith, many))))
 
 plan-is : (n : ℕ) → outside 5 10 n ≡ false → planOf (standAlone n) ≡ alone n
 plan-is n e =
     split (ltb n 256)
-    (λ h. plan-stands 0 n (ltb-true n 256 h))
+    (λ h. plan-stands 0 n 0 0 (omega arith) (ltb-true n 256 h) (omega arith) (omega arith))
     (λ h. let many = ltb-false n 256 h in absurd (true≢false (sym (rw (le-ltb n 5 (omega (arith, many)), lt-ltb 10 n (omega (arith, many)))) ∙ e)))
 
 good-counts : (counts : List ℕ) → goodPlans (countPlans counts) ≡ every (λ n. not (outside 5 10 n)) counts

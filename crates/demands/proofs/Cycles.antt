@@ -35,7 +35,7 @@ module _ (l : Log) (bytes : List ℕ) (obeys : Obeys l bytes) where
       let w = writes (byte bytes 0) in
       let r = byte bytes 1 in
       let b9 = bar 9 (noRegister k w r) in
-      let b10 = bar 10 (not (fits k w r (byte bytes 2))) in
+      let b10 = bar 10 (not (fits w r (byte bytes 2))) in
       let b13 = bar 13 (is-programming && crossed (staged (l .acts))) in
       let b11 = bar 11 (is-programming && lacksCycle (boardGiven l)) in
       let c9 = clear b9 (b10 ∷ b13 ∷ b11 ∷ []) refl obeys in

@@ -78,7 +78,7 @@ unfolding every
 fresh-given [] e = refl
 fresh-given (n ∷ plans) e =
     let good = both (not (badPlan (planOf n))) (goodPlans plans) e in
-    ap₂ (λ (b : Board) (row : List Board). b ∷ row) (sym (given-start n (good-plan (planOf n) (good .0) .2))) (fresh-given plans (good .1))
+    ap₂ (λ (b : Board) (row : List Board). b ∷ row) (sym (given-start n (good-plan (planOf n) (good .0)))) (fresh-given plans (good .1))
 
 -- whatever stood in the records
 pub opened-given : (row : List Board) (plans : List ℕ) → length row ≡ length plans → opens plans ≡ true → openRow row plans ≡ rowGiven (begun plans)

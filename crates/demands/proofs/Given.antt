@@ -1,4 +1,4 @@
--- What a board keeps is what the paper gives of its accepted acts: at the start, and one act on.
+-- What a board keeps is what the paper gives of its accepted acts: at the start, and one act on, of a board that keeps runs (a garden board's is in Grown).
 -- Assumes nothing.
 use Prim.Native.Nat.{ℕ, _+_, _<_, _≤_}
 use native.Mathlib.Omega.{arith}
@@ -24,6 +24,7 @@ use Rattle.cells.specs.declared.Cell.{Cell}
 use Rattle.cells.specs.declared.Swept.{Swept}
 use Rattle.lists.specs.Each.{each, some as someOf}
 use Rattle.lists.proofs.Each.{all-places}
+use Rattle.cells.proofs.Stays.{none-number}
 use Rattle.cells.proofs.Sets.{some-number, set-at}
 use Rattle.cells.proofs.Ends.{all-below-level, all-above-level}
 use Rattle.cells.specs.Bleed.{bled}
@@ -35,27 +36,38 @@ use Rattle.latches.proofs.Packed.{latches-kept}
 use Rattle.board.specs.declared.Board.{Board}
 use Rattle.board.specs.declared.Currents.{Currents}
 use Rattle.board.specs.declared.Readings.{Readings}
-use Rattle.board.specs.Plan.{Plan, isHost, planOf}
+use Rattle.board.specs.Plan.{Plan, isHost, isGarden, planOf}
 use Rattle.board.specs.Shunt.{shuntAbove}
 use Rattle.board.specs.Host as host
 use Rattle.board.specs.Host.{statusBy, holdsOn, lastOf, clearedOf}
 use Rattle.board.specs.Sample as board
-use Rattle.board.specs.Sample.{fresh, hot, currentsNext, latchesNext, sweptAt, latchesAfter, controlWith, boardWith, boardNext}
+use Rattle.board.specs.Sample.{fresh, hot, currentsNext, latchesNext, sweptAt, latchesAfter, controlWith, boardWith, runsNext}
 use Rattle.frame.specs.Frame.{writes}
 use Rattle.registers.specs.Registers as registers
 use Rattle.registers.specs.Registers.{staging, boardAfter}
-use Rattle.demands.specs.Paper.{Entry, sampled, framed, History, staged, working, spends, spent, Sample, sampleOf, since, holds, runOf, stoodDelay, stands, letsGo, steers, clearSet, lastSample, overBy, latched, latchesAt, rises, dsgSet, chgSet, control, mayDsg, mayChg, flagged, flagsAt, lastGiven, cellGiven, given}
+use Rattle.demands.specs.Paper.{Entry, sampled, framed, History, staged, working, spends, spent, Sample, sampleOf, since, holds, runOf, stoodDelay, stands, letsGo, steers, clearSet, lastSample, overBy, counted, filter, latched, latchesAt, rises, dsgSet, chgSet, control, mayDsg, mayChg, flagged, flagsAt, lastGiven, kept, cellGiven, currentGiven, gardenGiven, given}
 use Rattle.demands.proofs.Runs.{working-stays, runs}
-use Rattle.demands.proofs.Lists.{each-same, each-behind, each-before, each-one, number-none}
+use Rattle.demands.proofs.Lists.{each-same, each-behind, each-before, each-one}
 
 -- ---- the start
 
 abbrev noCell : Cell
 noCell = record { ov = 0; uv = 0 }
 
+none-kept : (p : Plan) (f : Fault) (k : ℕ) → kept p f k [] ≡ 0
+none-kept p f k = split (isGarden (p .kind)) (λ g. rw g) (λ g. rw g)
+
+cells-start : (p : Plan) → p .cells ≤ 10 → each 0 (p .cells) (cellGiven p []) ++ drop (p .cells) noCells ≡ noCells
+cells-start p few =
+    ap (λ (l : List Cell). l ++ drop (p .cells) noCells) (each-same (p .cells) (cellGiven p []) (λ k. noCell) (λ k q i. record { ov = none-kept p OV k i; uv = none-kept p UV k i }))
+    ∙ each-one 0 (p .cells) 10 noCell few
+
 pub given-start : (n : ℕ) → planOf n .cells ≤ 10 → given (planOf n) [] ≡ fresh n
 unfolding fresh latchesByte number
-given-start n few = rw (number-none 0 (planOf n .cells), each-one 0 (planOf n .cells) 10 noCell few)
+given-start n few =
+    split (isGarden (planOf n .kind))
+    (λ g. rw (cells-start (planOf n) few, none-number 0 (planOf n .cells), g))
+    (λ g. rw (cells-start (planOf n) few, none-number 0 (planOf n .cells), g))
 
 -- ---- register 1
 
@@ -84,7 +96,7 @@ pub status-is : (p : Plan) (h : History) (t : Latches) → statusBy (p .kind) (c
 status-is p h t = ap₂ (λ (d c : Bool). register0 d c t) (may-dsg-is p h) (may-chg-is p h)
 
 -- a board that is not a host has no bit set
-no-bits : (p : Plan) → isHost (p .kind) ≡ false → (h : History) → (dsgSet p h ≡ false) × (chgSet p h ≡ false)
+pub no-bits : (p : Plan) → isHost (p .kind) ≡ false → (h : History) → (dsgSet p h ≡ false) × (chgSet p h ≡ false)
 no-bits p alone [] = (refl, refl)
 no-bits p alone (sampled x mv ∷ h) = let before = no-bits p alone h in (rw (before .0), rw (before .1))
 no-bits p alone (framed address register v ∷ h) = let before = no-bits p alone h in (rw (alone, before .0), rw (alone, before .1))
@@ -109,7 +121,7 @@ no-delay : (b : Bool) (x : Sample) (older : List Sample) → b ≡ past 0 (lasti
 no-delay false x older = refl
 no-delay true x older = sym (leb·zero (total (λ y. y .readings .elapsed) (dropLast (x ∷ older))))
 
-module _ (p : Plan) (few : p .cells ≤ 10) (h : History) (x : Readings) (mv : List ℕ) (long : length mv ≡ p .cells) where
+module _ (p : Plan) (settled : isGarden (p .kind) ≡ false) (few : p .cells ≤ 10) (h : History) (x : Readings) (mv : List ℕ) (long : length mv ≡ p .cells) where
   abbrev n : ℕ
   n = p .cells
 
@@ -126,40 +138,58 @@ module _ (p : Plan) (few : p .cells ≤ 10) (h : History) (x : Readings) (mv : L
   stood-after : (f : Fault) (k : ℕ) → stood (delay f (working h)) (runNext (stored (runOf f k h)) (holds f (working h) k (sampleOf x mv)) (x .elapsed)) ≡ stoodDelay f k after
   stood-after f k = ap (stood (delay f (working h))) (run-after f k) ∙ stood-delay f (working h) (runOf f k after)
 
+  -- what was kept are runs
+  run-kept : (f : Fault) (k : ℕ) (h : History) → kept p f k h ≡ stored (runOf f k h)
+  run-kept f k h = ap (λ (t : Bool). cond t (filter p f h .count k) (stored (runOf f k h))) settled
+
+  current-kept : (f : Fault) (h : History) → currentGiven p f h ≡ stored (runOf f 0 h)
+  current-kept f h = ap (λ (t : Bool). cond t 0 (stored (runOf f 0 h))) settled
+
+  current-after : (f : Fault) → runNext (currentGiven p f h) (holds f (working h) 0 (sampleOf x mv)) (x .elapsed) ≡ currentGiven p f after
+  current-after f = ap (λ (run : ℕ). runNext run (holds f (working h) 0 (sampleOf x mv)) (x .elapsed)) (current-kept f h) ∙ run-after f 0 ∙ sym (current-kept f after)
+
+  current-stood : (f : Fault) → stood (delay f (working h)) (runNext (currentGiven p f h) (holds f (working h) 0 (sampleOf x mv)) (x .elapsed)) ≡ stoodDelay f 0 after
+  current-stood f = ap (λ (run : ℕ). stood (delay f (working h)) (runNext run (holds f (working h) 0 (sampleOf x mv)) (x .elapsed))) (current-kept f h) ∙ stood-after f 0
+
   -- the cell at a place
   abbrev nexts : ℕ → Cell
   nexts = nextAt (limitsOf (working h)) (x .elapsed) (given p h .cells) (given p h .flags) mv
 
-  cell-is : (k : ℕ) → k < n → cellAt (given p h .cells) k ≡ cellGiven h k
-  cell-is k p = each-before n (cellGiven h) (drop n noCells) k noCell p
+  cell-is : (k : ℕ) → k < n → cellAt (given p h .cells) k ≡ cellGiven p h k
+  cell-is k q = each-before n (cellGiven p h) (drop n noCells) k noCell q
 
-  next-is : (k : ℕ) → k < n → nexts k ≡ cellGiven after k
+  next-run : (f : Fault) (k : ℕ) → runNext (kept p f k h) (holds f (working h) k (sampleOf x mv)) (x .elapsed) ≡ kept p f k after
+  next-run f k = ap (λ (run : ℕ). runNext run (holds f (working h) k (sampleOf x mv)) (x .elapsed)) (run-kept f k h) ∙ run-after f k ∙ sym (run-kept f k after)
+
+  next-is : (k : ℕ) → k < n → nexts k ≡ cellGiven p after k
   unfolding cellBy
-  next-is k p = rw (cell-is k p) (λ i. record { ov = run-after OV k i; uv = run-after UV k i })
+  next-is k q = rw (cell-is k q) (λ i. record { ov = next-run OV k i; uv = next-run UV k i })
 
   cells-are : sweptAt (given p h) x mv .cells ≡ given p after .cells
   unfolding sweepBy
-  cells-are = rw (count-is, each-behind 0 n (cellGiven h) (drop n noCells), each-same n nexts (cellGiven after) next-is)
+  cells-are = rw (count-is, each-behind 0 n (cellGiven p h) (drop n noCells), each-same n nexts (cellGiven p after) next-is)
 
   -- OV and UV have stood at a place
   ov-is : (k : ℕ) → k < n → stood (delay OV (working h)) (nexts k .ov) ≡ stoodDelay OV k after
-  ov-is k p = ap (λ (c : Cell). stood (delay OV (working h)) (c .ov)) (next-is k p) ∙ stood-delay OV (working h) (runOf OV k after)
+  ov-is k q = ap (λ (c : Cell). stood (delay OV (working h)) (c .ov)) (next-is k q) ∙ ap (stood (delay OV (working h))) (run-kept OV k after) ∙ stood-delay OV (working h) (runOf OV k after)
 
   uv-is : (k : ℕ) → k < n → stood (delay UV (working h)) (nexts k .uv) ≡ stoodDelay UV k after
-  uv-is k p = ap (λ (c : Cell). stood (delay UV (working h)) (c .uv)) (next-is k p) ∙ stood-delay UV (working h) (runOf UV k after)
+  uv-is k q = ap (λ (c : Cell). stood (delay UV (working h)) (c .uv)) (next-is k q) ∙ ap (stood (delay UV (working h))) (run-kept UV k after) ∙ stood-delay UV (working h) (runOf UV k after)
 
   -- the flag at a place
-  flag-was : (k : ℕ) → k < n → marked (given p h .flags) k ≡ flagged k h
-  flag-was k p = set-at (λ k. flagged k h) n k p
+  flag-was : (k : ℕ) → k < n → marked (given p h .flags) k ≡ flagged p k h
+  flag-was k q = set-at (λ k. flagged p k h) n k q
 
   abbrev flags : ℕ → Bool
   flags = flaggedAt (limitsOf (working h)) (x .elapsed) (given p h .cells) (given p h .flags) mv
 
-  flag-is : (k : ℕ) → k < n → flags k ≡ flagged k after
-  flag-is k p = ap₂ (λ stands was. flagBy (ovRelease (working h)) stands was (readingAt mv k)) (ov-is k p) (flag-was k p)
+  flag-is : (k : ℕ) → k < n → flags k ≡ flagged p k after
+  flag-is k q =
+      let next : Bool → Bool → Bool = λ stands was. flagBy (ovRelease (working h)) stands was (readingAt mv k) in
+      ap₂ next (ov-is k q) (flag-was k q) ∙ sym (ap (λ (t : Bool). not t && next (stoodDelay OV k after) (flagged p k h)) settled)
 
-  flags-are : each 0 n flags ≡ flagsAt n after
-  flags-are = each-same n flags (λ k. flagged k after) flag-is
+  flags-are : each 0 n flags ≡ flagsAt p after
+  flags-are = each-same n flags (λ k. flagged p k after) flag-is
 
   -- the latches: what stands, what lets go, and what was
   abbrev swept : Swept
@@ -170,8 +200,8 @@ module _ (p : Plan) (few : p .cells ≤ 10) (h : History) (x : Readings) (mv : L
 
   stands-is : (f : Fault) → board.stands (working h) swept currents x f ≡ stands n f after
   unfolding sweepBy currentsNext each
-  stands-is SCD = stood-after SCD 0 ∙ sym (or-false (stoodDelay SCD 0 after))
-  stands-is OCD = stood-after OCD 0 ∙ sym (or-false (stoodDelay OCD 0 after))
+  stands-is SCD = current-stood SCD ∙ sym (or-false (stoodDelay SCD 0 after))
+  stands-is OCD = current-stood OCD ∙ sym (or-false (stoodDelay OCD 0 after))
   stands-is OV = some-number (each 0 (cellCount mv) (λ k. stood (delay OV (working h)) (nexts k .ov))) ∙ rw count-is (ap someOf (each-same n _ _ ov-is))
   stands-is UV = some-number (each 0 (cellCount mv) (λ k. stood (delay UV (working h)) (nexts k .uv))) ∙ rw count-is (ap someOf (each-same n _ _ uv-is))
   stands-is OT = no-delay (hot x) (sampleOf x mv) (stretch (holds OT (working h) 0) (since h)) ∙ sym (or-false (stoodDelay OT 0 after))
@@ -184,7 +214,9 @@ module _ (p : Plan) (few : p .cells ≤ 10) (h : History) (x : Readings) (mv : L
   lets-is OT = refl
 
   latch-is : (f : Fault) → latchNext (latched p f h) (board.stands (working h) swept currents x f) (not (holdsOn (p .kind) f) && board.letsGo (working h) swept currents x mv f) ≡ latched p f after
-  latch-is f = ap₂ (λ (stands goes : Bool). latchNext (latched p f h) stands (not (holdsOn (p .kind) f) && goes)) (stands-is f) (lets-is f)
+  latch-is f =
+      ap₂ (λ (stands goes : Bool). latchNext (latched p f h) stands (not (holdsOn (p .kind) f) && goes)) (stands-is f) (lets-is f)
+      ∙ sym (ap (λ (t : Bool). cond t (counted f && filter p f after .latched) (latchNext (latched p f h) (stands n f after) (not (holdsOn (p .kind) f) && letsGo n f (working h) (sampleOf x mv)))) settled)
 
   latches-next : latchesNext (working h) swept currents x (p .kind) mv (latchesAt p h) ≡ latchesAt p after
   unfolding latchesNext
@@ -193,7 +225,7 @@ module _ (p : Plan) (few : p .cells ≤ 10) (h : History) (x : Readings) (mv : L
   pub latches-are : latchesAfter (given p h) x mv ≡ latchesAt p after
   latches-are = ap (latchesNext (working h) swept currents x (p .kind) mv) (latches-kept (latchesAt p h)) ∙ latches-next
 
-  pub bled-are : sweptAt (given p h) x mv .bled ≡ number (bled (flagsAt n after))
+  pub bled-are : sweptAt (given p h) x mv .bled ≡ number (bled (flagsAt p after))
   unfolding sweepBy
   bled-are = rw (count-is, flags-are)
 
@@ -227,9 +259,12 @@ module _ (p : Plan) (few : p .cells ≤ 10) (h : History) (x : Readings) (mv : L
       let is = no-bits p e after in
       ap by e ∙ ap₂ (λ (d c : Bool). number (clearSet p h ∷ d ∷ c ∷ [])) (was .0 ∙ sym (is .0)) (was .1 ∙ sym (is .1)))
 
-  pub given-sampled : boardNext (given p h) x mv ≡ given p after
+  no-garden : gardenGiven p h ≡ gardenGiven p after
+  no-garden = rw settled
+
+  pub runs-sampled : runsNext (given p h) x mv ≡ given p after
   unfolding boardWith currentsNext
-  given-sampled = λ i. record {
+  runs-sampled = λ i. record {
     count = n;
     latches = latchesByte (latches-are i);
     cycles = spent h;
@@ -237,10 +272,11 @@ module _ (p : Plan) (few : p .cells ≤ 10) (h : History) (x : Readings) (mv : L
     flags = marks-are i;
     working = working h;
     staged = staged h;
-    currents = record { ocd = run-after OCD 0 i; scd = run-after SCD 0 i };
+    currents = record { ocd = current-after OCD i; scd = current-after SCD i };
     cells = cells-are i;
     last = lastOf x mv;
     control = control-is i;
+    garden = no-garden i;
   }
 
 -- ---- a frame
@@ -288,7 +324,7 @@ module _ (p : Plan) (h : History) (address register v : ℕ) where
   abbrev then : History
   then = e ∷ h
 
-  -- the record after it: flags and the last sample stay
+  -- the record after it: flags, the last sample and what a garden board has of its own stay
   abbrev boardLeft : ℕ → ℕ → ℕ → Settings → Settings → Currents → List Cell → Board
   boardLeft byte q c w s currents cells =
       record {
@@ -296,32 +332,34 @@ module _ (p : Plan) (h : History) (address register v : ℕ) where
         latches = byte;
         cycles = c;
         kind = p .kind;
-        flags = number (flagsAt (p .cells) h);
+        flags = number (flagsAt p h);
         working = w;
         staged = s;
         currents = currents;
         cells = cells;
         last = lastGiven (lastSample h);
         control = q;
+        garden = gardenGiven p h;
       }
 
-  abbrev currentsWith : (Fault → ℕ → ℕ) → Currents
-  currentsWith r = record { ocd = r OCD 0; scd = r SCD 0 }
+  abbrev currentsWith : (Fault → ℕ) → Currents
+  currentsWith u = record { ocd = u OCD; scd = u SCD }
 
   abbrev cellsWith : (Fault → ℕ → ℕ) → List Cell
   cellsWith r = each 0 (p .cells) (λ k. record { ov = r OV k; uv = r UV k }) ++ drop (p .cells) noCells
 
-  with-these : (byte q c : ℕ) (w s : Settings) (r : Fault → ℕ → ℕ) → byte ≡ latchesByte (latchesAt p then) → q ≡ control p then → c ≡ spent then → w ≡ working then → s ≡ staged then
-      → ((f : Fault) (k : ℕ) → r f k ≡ stored (runOf f k then)) → boardLeft byte q c w s (currentsWith r) (cellsWith r) ≡ given p then
-  with-these byte q c w s r byte-is q-is c-is w-is s-is r-is =
-      λ i. boardLeft (byte-is i) (q-is i) (c-is i) (w-is i) (s-is i) (currentsWith (λ f k. r-is f k i)) (cellsWith (λ f k. r-is f k i))
+  with-these : (byte q c : ℕ) (w s : Settings) (u : Fault → ℕ) (r : Fault → ℕ → ℕ) → byte ≡ latchesByte (latchesAt p then) → q ≡ control p then → c ≡ spent then → w ≡ working then → s ≡ staged then
+      → ((f : Fault) → u f ≡ currentGiven p f then) → ((f : Fault) (k : ℕ) → r f k ≡ kept p f k then) → boardLeft byte q c w s (currentsWith u) (cellsWith r) ≡ given p then
+  with-these byte q c w s u r byte-is q-is c-is w-is s-is u-is r-is =
+      λ i. boardLeft (byte-is i) (q-is i) (c-is i) (w-is i) (s-is i) (currentsWith (λ f. u-is f i)) (cellsWith (λ f k. r-is f k i))
 
   -- where it spends no cycle, no more than the latches, register 1 and the staged settings change
   unspent : (byte q : ℕ) (s : Settings) → byte ≡ latchesByte (latchesAt p then) → q ≡ control p then → s ≡ staged then → spends e h ≡ false
       → boardLeft byte q (spent h) (working h) s (given p h .currents) (given p h .cells) ≡ given p then
   unspent byte q s byte-is q-is s-is c =
-      with-these byte q (spent h) (working h) s (λ f k. stored (runOf f k h)) byte-is q-is (rw c) (sym (working-stays e h c)) s-is
-      (λ f k. sym (ap stored (runs f k h .else-stays address register v c)))
+      with-these byte q (spent h) (working h) s (λ f. currentGiven p f h) (λ f k. kept p f k h) byte-is q-is (rw c) (sym (working-stays e h c)) s-is
+      (λ f. sym (ap (λ (run : Option ℕ). cond (isGarden (p .kind)) 0 (stored run)) (runs f 0 h .else-stays address register v c)))
+      (λ f k. sym (ap (λ (run : Option ℕ). cond (isGarden (p .kind)) (filter p f h .count k) (stored run)) (runs f k h .else-stays address register v c)))
 
   -- ---- a write to register 1
 
@@ -358,23 +396,25 @@ module _ (p : Plan) (h : History) (address register v : ℕ) where
   control-stays : steers p e ≡ false → control p h ≡ control p then
   control-stays is-other = ap (λ (t : Bool). number (cond t (clearBit v) (clearSet p h) ∷ cond t (dsgBit v) (dsgSet p h) ∷ cond t (chgBit v) (chgSet p h) ∷ [])) (sym is-other)
 
-  -- where it spends a cycle, staged becomes working and every run starts over
-  spent-by : p .cells ≤ 10 → steers p e ≡ false → spends e h ≡ true → staged h ≡ working then → staged h ≡ staged then → registers.spent (given p h) ≡ given p then
+  -- where it spends a cycle, staged becomes working and every run starts over; no such frame of a garden board is accepted
+  spent-by : isGarden (p .kind) ≡ false → p .cells ≤ 10 → steers p e ≡ false → spends e h ≡ true → staged h ≡ working then → staged h ≡ staged then → registers.spent (given p h) ≡ given p then
   unfolding registers.spent
-  spent-by few is-other c w-is s-is =
+  spent-by settled few is-other c w-is s-is =
       let byte = latchesByte (latchesAt p h) in
       let q = control p h in
-      ap (boardLeft byte q (spent h + 1) (staged h) (staged h) (currentsWith (λ f k. 0))) (sym (each-one 0 (p .cells) 10 noCell few))
-      ∙ with-these byte q (spent h + 1) (staged h) (staged h) (λ f k. 0) (latches-stay is-other) (control-stays is-other) (rw c) w-is s-is (λ f k. sym (ap stored (runs f k h .starts-over e c)))
+      ap (boardLeft byte q (spent h + 1) (staged h) (staged h) (currentsWith (λ f. 0))) (sym (each-one 0 (p .cells) 10 noCell few))
+      ∙ with-these byte q (spent h + 1) (staged h) (staged h) (λ f. 0) (λ f k. 0) (latches-stay is-other) (control-stays is-other) (rw c) w-is s-is
+      (λ f. sym (ap (λ (t : Bool). cond t 0 (stored (runOf f 0 then))) settled ∙ ap stored (runs f 0 h .starts-over e c)))
+      (λ f k. sym (ap (λ (t : Bool). cond t (filter p f h .count k) (stored (runOf f k then))) settled ∙ ap stored (runs f k h .starts-over e c)))
 
   others : (s : Settings) → steers p e ≡ false → s ≡ staged then → spends e h ≡ false
       → boardLeft (latchesByte (latchesAt p h)) (control p h) (spent h) (working h) s (given p h .currents) (given p h .cells) ≡ given p then
   others s is-other s-is c = unspent (latchesByte (latchesAt p h)) (control p h) s (latches-stay is-other) (control-stays is-other) s-is c
 
   -- a read changes nothing; a write to register 11 programs; one to register 1 of a host board steers it; any other stages, where there is a byte
-  pub given-framed : p .cells ≤ 10 → (steers p e ≡ true → v < 8) → boardAfter (given p h) (writes address) register v ≡ given p then
+  pub given-framed : p .cells ≤ 10 → (writes address ≡ true → isGarden (p .kind) ≡ false) → (steers p e ≡ true → v < 8) → boardAfter (given p h) (writes address) register v ≡ given p then
   unfolding boardAfter
-  given-framed few fits =
+  given-framed few settled fits =
       split (writes address)
       (λ w. split (eqb register 11)
       (λ q. ap₂ (λ (t u : Bool). by t u one) w q ∙ programs w q)
@@ -401,7 +441,7 @@ module _ (p : Plan) (h : History) (address register v : ℕ) where
           let either : Bool → Board = λ equal. cond equal (given p h) (registers.spent (given p h)) in
           split (same (staged h) (working h))
           (λ s. ap either s ∙ others (staged h) is-other stays (rw (w, q, s)))
-          (λ u. ap either u ∙ spent-by few is-other (rw (w, q, u)) becomes stays)
+          (λ u. ap either u ∙ spent-by (settled w) few is-other (rw (w, q, u)) becomes stays)
 
       steering : writes address ≡ true → eqb register 11 ≡ false → one ≡ true → registers.steered (given p h) v ≡ given p then
       steering w o s =

@@ -5,14 +5,15 @@ use mathlib.Core.Path.{_≡_, refl, sym, ap, _∙_}
 use mathlib.Core.Logic.{_↔_}
 use mathlib.Core.Bool.{Bool, true, false, true≢false, cond, not, _&&_, _||_}
 use mathlib.Core.List.{List, _∷_}
+use borrow.Author.Tests.{eqb-true}
 use Rattle.lists.proofs.Split.{both}
 use Rattle.settings.specs.Faults.{Fault, SCD, OCD, OV, UV, OT}
 use Rattle.latches.specs.Latches.{latchNext}
 use Rattle.latches.specs.Control.{clearBit, dsgBit, chgBit}
 use Rattle.board.specs.declared.Readings.{Readings}
-use Rattle.board.specs.Plan.{Plan}
+use Rattle.board.specs.Plan.{Plan, isGarden}
 use Rattle.board.specs.Host.{holdsOn}
-use Rattle.demands.specs.Paper.{Entry, sampled, framed, History, working, sampleOf, stands, letsGo, steers, clearSet, takesDown, lastSample, overBy, clears, latched, rises, dsgSet, chgSet}
+use Rattle.demands.specs.Paper.{Entry, sampled, framed, History, working, sampleOf, stands, letsGo, clearSet, takesDown, lastSample, overBy, clears, latched, rises, dsgSet, chgSet}
 use Rattle.demands.specs.Host.{Hosted, Written, alone, AsBefore}
 
 -- a bit that is kept unless something forbids it
@@ -42,8 +43,16 @@ cleared true true was on = (λ e. (refl, refl), λ so. refl)
 cleared true false was on = (λ e. absurd (true≢false (sym on ∙ e)), λ (d, o). absurd (true≢false (sym o)))
 cleared false over was on = (λ e. absurd (true≢false (sym on ∙ e)), λ (d, o). absurd (true≢false (sym d)))
 
+-- only a host board's latch is held, and it is no garden board
+no-garden : (f : Fault) (kind : ℕ) → holdsOn kind f ≡ true → isGarden kind ≡ false
+no-garden SCD kind e = rw (eqb-true kind 1 e)
+no-garden OCD kind e = rw (eqb-true kind 1 e)
+no-garden OV kind e = rw (eqb-true kind 1 e)
+no-garden UV kind e = rw (eqb-true kind 1 e)
+no-garden OT kind e = absurd (true≢false (sym e))
+
 held : (p : Plan) (f : Fault) (x : Readings) (mv : List ℕ) (h : History) → holdsOn (p .kind) f ≡ true → latched p f h ≡ true → latched p f (sampled x mv ∷ h) ≡ true
-held p f x mv h holds on = rw (on, holds)
+held p f x mv h holds on = rw (on, holds, no-garden f (p .kind) holds)
 
 pub hosted : (p : Plan) (e : Entry) (h : History) → Hosted p e h
 hosted p (sampled x mv) h =

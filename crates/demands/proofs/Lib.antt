@@ -1,6 +1,8 @@
 pub mod Lists
 pub mod Runs
+pub mod Filtered
 pub mod Given
+pub mod Grown
 pub mod Clear
 pub mod Table
 pub mod Tells

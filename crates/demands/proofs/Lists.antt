@@ -4,10 +4,9 @@ use Prim.Native.Nat.{ℕ, zero, suc, _+_, _<_, _≤_}
 use native.Mathlib.Nat.{not-suc-le-zero, le-of-suc-le-suc}
 use native.Mathlib.Omega.{arith}
 use mathlib.Core.Path.{_≡_, refl, sym, ap, ap₂, _∙_}
-use mathlib.Core.Bool.{Bool, true, false, true≢false}
+use mathlib.Core.Bool.{Bool, true, true≢false}
 use mathlib.Core.List.{List, _∷_, _++_}
 use lib.ListN.{length, getD, drop, replicate, List·getD-append}
-use Rattle.lists.specs.Marks.{number}
 use Rattle.lists.proofs.Split.{split, both}
 use Rattle.lists.specs.Each.{each, some, all}
 use Rattle.lists.proofs.Each.{each-length, each-place}
@@ -80,7 +79,3 @@ pub some-yes : (n : ℕ) (f : ℕ → Bool) (k : ℕ) → k < n → f k ≡ true
 some-yes n f k p h = some-on 0 n f k p (ap f (omega arith) ∙ h)
 
 -- no cell at all is 0
-pub number-none : (i n : ℕ) → number (each i n (λ k. false)) ≡ 0
-unfolding each number
-number-none i zero = refl
-number-none i (suc n) = let none = number-none (suc i) n in omega arith

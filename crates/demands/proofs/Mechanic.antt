@@ -5,9 +5,9 @@ use native.Mathlib.Omega.{arith}
 use mathlib.Core.Path.{_≡_, refl, sym, ap, _∙_, subst}
 use mathlib.Core.Logic.{_↔_}
 use mathlib.Core.Bool.{Bool, true, false, true≢false, cond, not, _&&_, _||_}
-use mathlib.Core.List.{List, [], _∷_, map}
+use mathlib.Core.List.{List, [], _∷_}
 use mathlib.Core.Option.{Option, some, none}
-use lib.Dec.{ltb, eqb}
+use lib.Dec.{leb, ltb, eqb}
 use lib.ListN.{length, set, length-set, List·getD-eq-default}
 use lib.Seq.{set-getD, getD-set-same, getD-set-other}
 use borrow.Author.Tests.{leb-true, le-leb, eq-eqb, ne-eqb, eqb-true, eqb-false, ltb-true, ltb-false}
@@ -22,13 +22,14 @@ use Rattle.latches.specs.Latches.{latch, latches, latchesOf, latchNext}
 use Rattle.latches.proofs.Packed.{latches-kept}
 use Rattle.board.specs.declared.Board.{Board}
 use Rattle.board.specs.declared.Readings.{Readings}
+use Rattle.board.specs.Plan.{isGarden}
 use Rattle.board.specs.Host.{holdsOn}
 use Rattle.board.specs.Sample.{fresh}
 use Rattle.frame.specs.Frame.{byte, writes}
 use Rattle.registers.specs.Registers.{boardAfter}
 use Rattle.stack.specs.Row.{goodRow, placeOf}
 use Rattle.stack.specs.Frame.{framePlace, frameRow}
-use Rattle.demands.specs.Paper.{sampled, History, staged, working, sampleOf, runOf, stoodDelay, places, stands, letsGo, clears, latched, latchesAt}
+use Rattle.demands.specs.Paper.{sampled, History, staged, working, sampleOf, runOf, stoodDelay, places, stands, letsGo, clears, counted, Filter, countAt, trips, counting, backAt, recovers, recovering, filter, latched, latchesAt}
 use Rattle.demands.specs.Acts.{Act, sample, frame, reading, Outcome, bars, outcome, next, final}
 use Rattle.demands.specs.Demands.{Log, noLog, begun, logAt, joined, rowGiven, frameEntry, joins, taken, frameSays}
 use Rattle.demands.specs.Mechanic.{Stood, isLatched, Accepted, Answers, Mechanic}
@@ -37,6 +38,7 @@ use Rattle.demands.proofs.Table.{judged-number, stays, values, act-judg
 use Rattle.demands.proofs.Tells.{board-at, sample-joins, tells, gives}
 use Rattle.demands.proofs.Demanded.{demand2, final-good}
 use Rattle.demands.proofs.Cycles.{uncrossed}
+use Rattle.demands.proofs.Filtered.{garden-latched}
 use Rattle.demands.proofs.Turns.{never-latched, calm-never}
 
 -- ---- a condition that has stood its delay
@@ -117,29 +119,72 @@ module _ (logs : List Log) (good : goodRow (rowGiven logs) ≡ true) (fine : (at
     abbrev goesNow : Bool
     goesNow = not (holdsOn (l .plan .kind) f) && letsGo (l .plan .cells) f (working (l .acts)) (sampleOf x mv)
 
-    after : isLatched f (next row (sample n x mv)) (placeOf n) ≡ latchNext (latchedOf f l) stoodNow goesNow
+    after : isLatched f (next row (sample n x mv)) (placeOf n) ≡ latched (l .plan) f (sampled x mv ∷ l .acts)
     after =
         ap (λ (r : List Board). isLatched f r (placeOf n)) (gives logs (sample n x mv))
         ∙ latched-in f (taken logs (sample n x mv)) (placeOf n)
         ∙ ap (latchedOf f) (sample-joins logs n x mv (clear-of (sample n x mv) taken-in))
 
-    was : (t : Bool) → isLatched f row (placeOf n) ≡ t → isLatched f (next row (sample n x mv)) (placeOf n) ≡ latchNext t stoodNow goesNow
-    was t e = after ∙ ap (λ (b : Bool). latchNext b stoodNow goesNow) (sym (latched-in f logs (placeOf n)) ∙ e)
+    -- ---- a garden board, by its counts
 
-    latches-when : isLatched f row (placeOf n) ≡ false → (isLatched f (next row (sample n x mv)) (placeOf n) ≡ true) ↔ Stood (l .plan .cells) f (sampled x mv ∷ l .acts)
-    latches-when e =
-        let both = stood (l .plan .cells) f (sampled x mv ∷ l .acts) in
-        (λ h. both .0 (sym (was false e) ∙ h), λ s. was false e ∙ both .1 s)
+    module _ (g : isGarden (l .plan .kind) ≡ true) (c : counted f ≡ true) where
+      abbrev held : Filter
+      held = filter (l .plan) f (l .acts)
 
-    lets-go-when : isLatched f row (placeOf n) ≡ true → (isLatched f (next row (sample n x mv)) (placeOf n) ≡ false)
-        ↔ ((holdsOn (l .plan .kind) f ≡ false) × (letsGo (l .plan .cells) f (working (l .acts)) (sampleOf x mv) ≡ true))
-    lets-go-when e =
-        let goes = not-true goesNow in
-        let holds = holdsOn (l .plan .kind) f in
-        let freed = letsGo (l .plan .cells) f (working (l .acts)) (sampleOf x mv) in (
-          λ h. let so = both (not holds) freed (goes .0 (sym (was true e) ∙ h)) in (not-yes holds (so .0), so .1),
-          λ (loose, free). was true e ∙ goes .1 (rw (loose, free)),
-        )
+      by-filter : (h : History) → latched (l .plan) f h ≡ filter (l .plan) f h .latched
+      by-filter h = garden-latched (l .plan) g f h ∙ ap (λ (t : Bool). t && filter (l .plan) f h .latched) c
+
+      held-was : (t : Bool) → isLatched f row (placeOf n) ≡ t → held .latched ≡ t
+      held-was t e = sym (by-filter (l .acts)) ∙ sym (latched-in f logs (placeOf n)) ∙ e
+
+      held-after : (t : Bool) → isLatched f row (placeOf n) ≡ t → isLatched f (next row (sample n x mv)) (placeOf n)
+          ≡ cond t (not (recovers (l .plan) f held (sampleOf x mv))) (trips (l .plan) f held (sampleOf x mv))
+      held-after t e = after ∙ by-filter (sampled x mv ∷ l .acts) ∙ rw (held-was t e) (either t)
+        where
+          either : (t : Bool) → cond t (recovering (l .plan) f held (sampleOf x mv)) (counting (l .plan) f held (sampleOf x mv)) .latched
+              ≡ cond t (not (recovers (l .plan) f held (sampleOf x mv))) (trips (l .plan) f held (sampleOf x mv))
+          either true = refl
+          either false = refl
+
+      counts-when : isLatched f row (placeOf n) ≡ false → (isLatched f (next row (sample n x mv)) (placeOf n) ≡ true)
+          ↔ ((k : ℕ) × (k < l .plan .cells) × (l .plan .trigger ≤ countAt (l .plan) f held (sampleOf x mv) k))
+      counts-when e =
+          let at : ℕ → Bool = λ k. leb (l .plan .trigger) (countAt (l .plan) f held (sampleOf x mv) k) in (
+            λ h. let there = some-at (l .plan .cells) at (sym (held-after false e) ∙ h) in (there .0, there .1, leb-true (l .plan .trigger) _ (there .2)),
+            λ (k, q, long). held-after false e ∙ some-yes (l .plan .cells) at k q (le-leb (l .plan .trigger) _ long),
+          )
+
+      counts-free : isLatched f row (placeOf n) ≡ true → (isLatched f (next row (sample n x mv)) (placeOf n) ≡ false)
+          ↔ (l .plan .trigger ≤ backAt (l .plan) f held (sampleOf x mv))
+      counts-free e =
+          let goes = not-true (recovers (l .plan) f held (sampleOf x mv)) in (
+            λ h. leb-true (l .plan .trigger) _ (goes .0 (sym (held-after true e) ∙ h)),
+            λ long. held-after true e ∙ goes .1 (le-leb (l .plan .trigger) _ long),
+          )
+
+    -- ---- any other, by its runs
+
+    module _ (g : isGarden (l .plan .kind) ≡ false) where
+      was : (t : Bool) → isLatched f row (placeOf n) ≡ t → isLatched f (next row (sample n x mv)) (placeOf n) ≡ latchNext t stoodNow goesNow
+      was t e =
+          after
+          ∙ ap (λ (b : Bool). cond b (counted f && filter (l .plan) f (sampled x mv ∷ l .acts) .latched) (latchNext (latchedOf f l) stoodNow goesNow)) g
+          ∙ ap (λ (b : Bool). latchNext b stoodNow goesNow) (sym (latched-in f logs (placeOf n)) ∙ e)
+
+      latches-when : isLatched f row (placeOf n) ≡ false → (isLatched f (next row (sample n x mv)) (placeOf n) ≡ true) ↔ Stood (l .plan .cells) f (sampled x mv ∷ l .acts)
+      latches-when e =
+          let both = stood (l .plan .cells) f (sampled x mv ∷ l .acts) in
+          (λ h. both .0 (sym (was false e) ∙ h), λ s. was false e ∙ both .1 s)
+
+      lets-go-when : isLatched f row (placeOf n) ≡ true → (isLatched f (next row (sample n x mv)) (placeOf n) ≡ false)
+          ↔ ((holdsOn (l .plan .kind) f ≡ false) × (letsGo (l .plan .cells) f (working (l .acts)) (sampleOf x mv) ≡ true))
+      lets-go-when e =
+          let goes = not-true goesNow in
+          let holds = holdsOn (l .plan .kind) f in
+          let freed = letsGo (l .plan .cells) f (working (l .acts)) (sampleOf x mv) in (
+            λ h. let so = both (not holds) freed (goes .0 (sym (was true e) ∙ h)) in (not-yes holds (so .0), so .1),
+            λ (loose, free). was true e ∙ goes .1 (rw (loose, free)),
+          )
 
   accepted-of : (a : Act) → eqb (first (bars row a)) 0 ≡ true → Accepted row a
   accepted-of a e = ap (λ (s : Said). s .number) (act-judged row a) ∙ judged-number (bars row a) (values row a) ∙ eqb-true (first (bars row a)) 0 e
@@ -278,13 +323,16 @@ module _ (logs : List Log) (good : goodRow (rowGiven logs) ≡ true) (fine : (at
   answered : Answers row logs
   answered =
       record {
-        latches = latches-when;
-        lets-go = lets-go-when;
+        latches = λ f n x mv g a. latches-when f n x mv a g;
+        lets-go = λ f n x mv g a. lets-go-when f n x mv a g;
+        counts-latch = λ f n x mv g c a. counts-when f n x mv a g c;
+        counts-let-go = λ f n x mv g c a. counts-free f n x mv a g c;
+        counts-no-other = λ f at g c. let l = logAt logs at in latched-in f logs at ∙ garden-latched (l .plan) g f (l .acts) ∙ ap (λ (t : Bool). t && filter (l .plan) f (l .acts) .latched) c;
         frames-latch-none = latches-none;
         frames-clear = clears-when;
         frames-leave = leaves-alone;
-        no-pooling = λ f at u. let l = logAt logs at in latched-in f logs at ∙ never-latched (l .plan) f (l .acts) u;
-        calm = λ f at c. let l = logAt logs at in latched-in f logs at ∙ calm-never (l .plan) f (l .acts) c;
+        no-pooling = λ f at g u. let l = logAt logs at in latched-in f logs at ∙ never-latched (l .plan) g f (l .acts) u;
+        calm = λ f at g c. let l = logAt logs at in latched-in f logs at ∙ calm-never (l .plan) g f (l .acts) c;
         reads-working = λ bytes buffer a w low high.
             replied bytes buffer a ∙ rw (w, ne-eqb (byte bytes 1) 0 (λ z. omega arith), ne-eqb (byte bytes 1) 1 (λ z. omega arith), ne-eqb (byte bytes 1) 11 (λ z. omega arith));
         reads-cycles = λ bytes buffer a w is. replied bytes buffer a ∙ rw (w, is);

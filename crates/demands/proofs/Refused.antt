@@ -22,13 +22,13 @@ use Rattle.board.specs.declared.Board.{Board}
 use Rattle.board.specs.declared.Readings.{Readings}
 use Rattle.board.specs.Shunt.{shuntOutside}
 use Rattle.lists.specs.Compare.{outside}
-use Rattle.board.specs.Plan.{Plan, isHost, badPlan, planOf}
-use Rattle.board.specs.Sample.{badBoard, outOfRange, readingBars}
+use Rattle.board.specs.Plan.{Plan, isHost, isGarden, badGarden, badPlan, planOf}
+use Rattle.board.specs.Sample.{planIn, badBoard, outOfRange, readingBars}
 use Rattle.frame.specs.Frame.{byte, boardOf, writes, frameBars}
 use Rattle.frame.specs.Check.{checkOf}
 use Rattle.registers.specs.Map.{Register, registerMap, inMap, noRegister, fits}
 use Rattle.registers.specs.Registers.{programs, lacksCycle, accessBars}
-use Rattle.registers.proofs.Map.{below, above, between, control-there, takes-setting, takes-control}
+use Rattle.registers.proofs.Map.{below, above, between, control-there, takes-setting}
 use Rattle.stack.specs.Row.{badCount, goodRow, noBoard, pastEnd, placeOf, boardAt}
 use Rattle.stack.specs.Open.{goodPlans, openBars, openingSaid, openAnswer}
 use Rattle.stack.specs.Sample.{sampleRowBars}
@@ -37,7 +37,7 @@ use Rattle.demands.specs.Paper.{Entry, History, staged, working, spent}
 use Rattle.demands.specs.Acts.{Act, sample, frame, reading, bars, outcome, next, openedRow, final}
 use Rattle.demands.specs.Table.{FirstIs, NoneHolds, ByTable}
 use Rattle.demands.specs.Demands.{Log, noLog, begun, logAt, joined, boardGiven, rowGiven, joins, taken, opens}
-use Rattle.demands.specs.Refused.{Rule, Some, NoPlan, NoStack, plansBy, plansOf, plansIn, logOf, NoBoard, WrongCells, WrongShunt, WrongReading, ReadOf, WriteOf, Reads, Writes, NoBoardNamed, Named, Known, WrongRegister, MayCarry, WrongValue, Programs, Crossed, Worn, openingRules, sampleRules, frameRules, rules, SameRows, SameTable, FirstOf, NoneOf, ByRules, ActOf, entered, RefusedByPaper}
+use Rattle.demands.specs.Refused.{Rule, Some, NoGarden, NoPlan, NoStack, plansBy, plansOf, plansIn, logOf, NoBoard, WrongCells, WrongShunt, WrongReading, ReadOf, WriteOf, Reads, Writes, NoBoardNamed, Named, Known, WrongRegister, MayCarry, WrongValue, Programs, Crossed, Worn, openingRules, sampleRules, frameRules, rules, SameRows, SameTable, FirstOf, NoneOf, ByRules, ActOf, entered, RefusedByPaper}
 use Rattle.demands.proofs.Asked.{Asks, asks-no, asks-so, asks-same, asks-lt, asks-le, asks-eq, asks-above, asks-or, asks-and, asks-not, asks-twice, asks-or3, asks-outside, asks-some, every-of}
 use Rattle.demands.proofs.Table.{is-first, is-none, kept-old, demand1, demand1-opening}
 use Rattle.demands.proofs.Tells.{board-at}
@@ -48,8 +48,28 @@ use Rattle.demands.proofs.Demanded.{begun-plans, demand2, final-plans}
 abbrev good : List Plan → Bool
 good plans = every (λ p. not (badPlan p)) plans
 
+garden-ask : (p : Plan) → Asks (badGarden p) (NoGarden p)
+garden-ask p =
+    let a = outside 3 5 (p .cells) in
+    let b = ltb 2 (p .row) in
+    let c = outside 1 255 (p .trigger) in
+    asks-or3 a b c (asks-or a (b || c) (asks-outside 3 5 (p .cells)) (asks-or b c (asks-lt 2 (p .row)) (asks-outside 1 255 (p .trigger))))
+
 plan-ask : (p : Plan) → Asks (badPlan p) (NoPlan p)
-plan-ask p = asks-or (ltb 1 (p .kind)) (outside 5 10 (p .cells)) (asks-lt 1 (p .kind)) (asks-outside 5 10 (p .cells))
+plan-ask p =
+    let g = isGarden (p .kind) in
+    let a = badGarden p in
+    let b = outside 5 10 (p .cells) in
+    asks-or (ltb 2 (p .kind)) (cond g a b) (asks-lt 2 (p .kind))
+    (asks-same (cond g a b) ((g && a) || (not g && b)) (either g a b)
+    (asks-or (g && a) (not g && b)
+    (asks-and g a (asks-eq (p .kind) 2) (garden-ask p))
+    (asks-and (not g) b (asks-not g (asks-eq (p .kind) 2)) (asks-outside 5 10 (p .cells)))))
+  where
+    either : (g a b : Bool) → cond g a b ≡ ((g && a) || (not g && b))
+    either true true b = refl
+    either true false b = refl
+    either false a b = refl
 
 plans-ask : (plans : List Plan) → Asks (badCount (length plans) || not (good plans)) (NoStack plans)
 plans-ask plans =
@@ -70,11 +90,10 @@ opening-ask records plans =
 row-ask : (row : List Board) → Asks (not (goodRow row)) (NoStack (plansIn row))
 unfolding goodRow
 row-ask row =
-    let by : Board → Plan = λ b. record { kind = b .kind; cells = b .count } in
     let plans = plansIn row in
-    let good-is : every (λ b. not (badBoard b)) row ≡ good plans = every-of (λ p. not (badPlan p)) by row in
+    let good-is : every (λ b. not (badBoard b)) row ≡ good plans = every-of (λ p. not (badPlan p)) planIn row in
     asks-same (not (goodRow row)) (badCount (length plans) || not (good plans))
-    (rw (good-is, length-map row by) (not-both (badCount (length row)) (good plans)))
+    (rw (good-is, length-map row planIn) (not-both (badCount (length row)) (good plans)))
     (plans-ask plans)
   where
     not-both : (a b : Bool) → not (not a && b) ≡ (a || not b)
@@ -166,10 +185,7 @@ of-named So logs address = (
   λ (n, is, so). subst (λ (k : ℕ). So (logOf logs k)) (sym (named n address is)) so,
 )
 
-host-ask : (l : Log) → Asks (isHost (l .plan .kind)) (l .plan .kind ≡ 1)
-host-ask l = asks-eq (l .plan .kind) 1
-
--- 9, by the ranges of the map: register 0 is refused to a write, 1 to a board that is no host, 6 to 11 to nobody, any other to everybody
+-- 9, by the ranges of the map: register 0 is refused to a write, 1 to a board that is no host, 6 to 11 to a garden board, any other to everybody
 module _ (logs : List Log) (address r : ℕ) where
   abbrev l : Log
   l = logOf logs (boardOf address)
@@ -207,17 +223,22 @@ module _ (logs : List Log) (address r : ℕ) where
       other : isHost k ≡ false → ¬ Known r l
       other h (inl z) = omega arith
       other h (inr (inl (z, is))) = eqb-false k 1 h is
-      other h (inr (inr (low, high))) = omega arith
+      other h (inr (inr (low, high, kind))) = omega arith
 
   no-more : 11 < r → ¬ Known r l
   no-more high (inl z) = omega arith
   no-more high (inr (inl (z, is))) = omega arith
-  no-more high (inr (inr (low, under))) = omega arith
+  no-more high (inr (inr (low, under, kind))) = omega arith
 
   no-less : r ≢ 0 → r ≢ 1 → r < 6 → ¬ Known r l
   no-less n0 n1 low (inl z) = n0 z
   no-less n0 n1 low (inr (inl (z, is))) = n1 z
-  no-less n0 n1 low (inr (inr (from, high))) = omega arith
+  no-less n0 n1 low (inr (inr (from, high, kind))) = omega arith
+
+  no-settings : r ≢ 0 → r ≢ 1 → isGarden k ≡ true → ¬ Known r l
+  no-settings n0 n1 g (inl z) = n0 z
+  no-settings n0 n1 g (inr (inl (z, is))) = n1 z
+  no-settings n0 n1 g (inr (inr (from, high, kind))) = kind (eqb-true k 2 g)
 
   register-ask : RegisterAsk
   register-ask =
@@ -226,38 +247,42 @@ module _ (logs : List Log) (address r : ℕ) where
       (λ n0. split (eqb r 1) (λ e. control (eqb-true r 1 e))
       (λ n1. split (leb 6 r)
       (λ low. split (leb r 11)
-      (λ high. let from = leb-true 6 r low in let to = leb-true r 11 high in here-known (inr (inr (from, to))) (λ z. omega arith) (between k w r from to))
+      (λ high.
+      let from = leb-true 6 r low in
+      let to = leb-true r 11 high in
+      split (isGarden k)
+      (λ g. here-unknown (no-settings (eqb-false r 0 n0) (eqb-false r 1 n1) g) (between k w r from to ∙ g))
+      (λ g. here-known (inr (inr (from, to, eqb-false k 2 g))) (λ z. omega arith) (between k w r from to ∙ g)))
       (λ high. here-unknown (no-more (leb-false r 11 high)) (above k w r (leb-false r 11 high))))
       (λ low. let under = leb-false 6 r low in here-unknown (no-less (eqb-false r 0 n0) (eqb-false r 1 n1) under) (below k w r (eqb-false r 0 n0) (eqb-false r 1 n1) under))))
 
 -- 10, by what a register takes
-abbrev takes : ℕ → ℕ → ℕ → Bool
-takes k r v = inMap k registerMap r false (λ (x : Register). x .takes v)
+abbrev takes : ℕ → ℕ → Bool
+takes r v = inMap registerMap r false (λ (x : Register). x .takes v)
 
-takes-is : (k r v : ℕ) → takes k r v ≡ ((eqb r 1 && (isHost k && ltb v 8)) || (allowed r v || (eqb r 11 && eqb v 0x41)))
-takes-is k r v =
+takes-is : (r v : ℕ) → takes r v ≡ ((eqb r 1 && ltb v 8) || (allowed r v || (eqb r 11 && eqb v 0x41)))
+takes-is r v =
     split (eqb r 1)
-    (λ e. rw (eqb-true r 1 e) (takes-control k v ∙ sym (or-no (isHost k && ltb v 8))))
+    (λ e. rw (eqb-true r 1 e) (sym (or-no (ltb v 8))))
     (λ n. split (eqb r 11)
     (λ e. rw (eqb-true r 11 e))
-    (λ e. takes-setting k r v n e ∙ sym (rw (n, e) (or-no (allowed r v)))))
+    (λ e. takes-setting r v n e ∙ sym (rw (n, e) (or-no (allowed r v)))))
   where
     or-no : (b : Bool) → (b || false) ≡ b
     or-no true = refl
     or-no false = refl
 
-takes-ask : (l : Log) (r v : ℕ) → Asks (takes (l .plan .kind) r v) (MayCarry r v l)
-takes-ask l r v =
-    let k = l .plan .kind in
-    let z = eqb r 1 && (isHost k && ltb v 8) in
+takes-ask : (r v : ℕ) → Asks (takes r v) (MayCarry r v)
+takes-ask r v =
+    let z = eqb r 1 && ltb v 8 in
     let a = eqb r 6 in
     let b = eqb r 7 && ltb v 64 in
     let c = eqb r 8 && ltb v 32 in
     let d = eqb r 9 in
     let e = eqb r 10 in
     let f = eqb r 11 && eqb v 0x41 in
-    asks-same (takes k r v) (z || (allowed r v || f)) (takes-is k r v)
-    (asks-or z (allowed r v || f) (asks-so z (asks-and (eqb r 1) (isHost k && ltb v 8) (asks-eq r 1) (asks-and (isHost k) (ltb v 8) (host-ask l) (asks-lt v 8))) (λ (one, (host, few)). (one, host, few)) (λ (one, host, few). (one, (host, few))))
+    asks-same (takes r v) (z || (allowed r v || f)) (takes-is r v)
+    (asks-or z (allowed r v || f) (asks-and (eqb r 1) (ltb v 8) (asks-eq r 1) (asks-lt v 8))
     (asks-or3 (a || b || c || d) e f (asks-or3 (a || b || c) d (e || f) (asks-or3 (a || b) c (d || (e || f)) (asks-or3 a b (c || (d || (e || f)))
     (asks-or a (b || (c || (d || (e || f)))) (asks-eq r 6)
     (asks-or b (c || (d || (e || f))) (asks-and (eqb r 7) (ltb v 64) (asks-eq r 7) (asks-lt v 64))
@@ -266,16 +291,14 @@ takes-ask l r v =
     (asks-or e f (asks-eq r 10)
     (asks-and (eqb r 11) (eqb v 0x41) (asks-eq r 11) (asks-eq v 0x41))))))))))))
 
-value-ask : (logs : List Log) (address r v : ℕ) → Asks (not (fits (logOf logs (boardOf address) .plan .kind) (writes address) r v)) (WrongValue logs address r v)
-value-ask logs address r v =
-    let l = logOf logs (boardOf address) in
+value-ask : (address r v : ℕ) → Asks (not (fits (writes address) r v)) (WrongValue address r v)
+value-ask address r v =
     let w = writes address in
-    let t = takes (l .plan .kind) r v in
-    let both-ways = of-named (λ l. ¬ MayCarry r v l) logs address in
-    asks-same (not (fits (l .plan .kind) w r v)) ((not w && not (eqb v 0)) || (w && not t)) (either w t (eqb v 0))
+    let t = takes r v in
+    asks-same (not (fits w r v)) ((not w && not (eqb v 0)) || (w && not t)) (either w t (eqb v 0))
     (asks-or (not w && not (eqb v 0)) (w && not t)
     (asks-and (not w) (not (eqb v 0)) (reads-ask address) (asks-not (eqb v 0) (asks-eq v 0)))
-    (asks-and w (not t) (writes-ask address) (asks-so (not t) (asks-not t (takes-ask l r v)) (both-ways .0) (both-ways .1))))
+    (asks-and w (not t) (writes-ask address) (asks-not t (takes-ask r v))))
   where
     either : (w t z : Bool) → not (cond w t z) ≡ ((not w && not z) || (w && not t))
     either true t z = refl
@@ -349,7 +372,7 @@ module _ (logs : List Log) (few : length logs ≤ 16) where
       (also 8 (asks-not (eqb (byte bytes 3) check) (asks-eq (byte bytes 3) check))
       (also 2 (named-ask logs address)
       (also 9 (register-ask logs address r)
-      (also 10 (value-ask logs address r v)
+      (also 10 (value-ask address r v)
       (also 13 (program-ask Crossed (λ l. crossed (staged (l .acts))) crossed-ask logs address r)
       (also 11 (program-ask Worn (λ l. lacksCycle (boardGiven l)) worn-ask logs address r) tt)))))))))
 

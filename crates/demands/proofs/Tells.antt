@@ -1,6 +1,6 @@
 -- One act on a row that the paper gives: the library's outcome is the one told, and its row the one given after it.
 -- Assumes nothing.
-use Prim.Native.Nat.{ℕ, zero, suc, _<_, _≤_}
+use Prim.Native.Nat.{ℕ, zero, suc, _<_}
 use native.Mathlib.Omega.{arith}
 use mathlib.Core.Path.{_≡_, refl, ap, ap₂, sym, _∙_, subst}
 use mathlib.Core.Bool.{Bool, true, false, true≢false, cond, not, _&&_}
@@ -18,9 +18,10 @@ use Rattle.latches.proofs.Packed.{latches-kept}
 use Rattle.board.specs.declared.Board.{Board}
 use Rattle.board.specs.declared.Readings.{Readings}
 use Rattle.lists.specs.Compare.{outside}
-use Rattle.board.specs.Plan.{isHost}
+use Rattle.board.specs.Plan.{isHost, isGarden, badPlan}
 use Rattle.board.specs.Host.{statusBy}
-use Rattle.board.specs.Sample.{outOfRange, readingBars, controlWith, boardNext, sampleValues}
+use Rattle.board.specs.Sample.{badBoard, outOfRange, readingBars, boardNext, sampleValues}
+use Rattle.board.proofs.Counts.{good-plan}
 use Rattle.frame.specs.Frame.{byte, boardOf, writes}
 use Rattle.frame.specs.Reply.{replyBytes}
 use Rattle.frame.specs.Check.{checkOf}
@@ -32,12 +33,14 @@ use Rattle.stack.specs.Row.{goodRow, noBoard, placeOf, boardAt}
 use Rattle.stack.specs.Sample.{sampleRowBars, sampleRow}
 use Rattle.stack.specs.Frame.{framePlace, frameBoard, boardFramed, frameReply, frameRowBars, frameRow, frameBuffer}
 use Rattle.stack.specs.Read.{readBars}
-use Rattle.stack.proofs.Ways.{board-few, has-none}
+use Rattle.registers.proofs.Map.{no-writes}
+use Rattle.stack.proofs.Ways.{board-good, has-none}
 use Rattle.stack.proofs.Laws.{sample-said, frame-said}
 use Rattle.demands.specs.Paper.{sampled, staged, working, spent, steers, latchesAt, control, mayDsg, mayChg}
 use Rattle.demands.specs.Acts.{Act, sample, frame, reading, outcome, next}
 use Rattle.demands.specs.Demands.{Log, noLog, logAt, joined, boardGiven, rowGiven, frameEntry, joins, taken, sampleSays, readSays, frameSays, summaryGiven, told}
-use Rattle.demands.proofs.Given.{given-start, may-dsg-is, may-chg-is, status-is, latches-are, bled-are, control-is, given-sampled, given-framed}
+use Rattle.demands.proofs.Given.{given-start, may-dsg-is, may-chg-is, status-is, given-framed}
+use Rattle.demands.proofs.Grown.{given-sampled, values-are}
 use Rattle.demands.proofs.Table.{reading-judged}
 use Rattle.demands.proofs.Clear.{clear, judged-same, kept-same}
 
@@ -51,7 +54,7 @@ row-set [] at l = refl
 row-set (m ∷ logs) zero l = refl
 row-set (m ∷ logs) (suc at) l = ap (λ (row : List Board). boardGiven m ∷ row) (row-set logs at l)
 
--- a board that a good row has is in its place, and one of at most ten cells
+-- a board that a good row has is in its place, and by a good plan
 module _ (logs : List Log) (n : ℕ) (g : not (goodRow (rowGiven logs)) ≡ false) (b : noBoard (rowGiven logs) n ≡ false) where
   good-row : goodRow (rowGiven logs) ≡ true
   good-row = not-false (goodRow (rowGiven logs)) g
@@ -66,8 +69,8 @@ module _ (logs : List Log) (n : ℕ) (g : not (goodRow (rowGiven logs)) ≡ fals
   in-logs : placeOf n < length logs
   in-logs = subst (λ (k : ℕ). placeOf n < k) (length-map logs boardGiven) in-row
 
-  few-cells : logAt logs (placeOf n) .plan .cells ≤ 10
-  few-cells = subst (λ (b : Board). b .count ≤ 10) (board-at logs (placeOf n)) (board-few (rowGiven logs) good-row (placeOf n) in-row)
+  well-planned : not (badPlan (logAt logs (placeOf n) .plan)) ≡ true
+  well-planned = subst (λ (b : Board). not (badBoard b) ≡ true) (board-at logs (placeOf n)) (ap not (board-good (rowGiven logs) good-row (placeOf n) in-row))
 
 -- ---- a sample
 
@@ -87,14 +90,14 @@ module _ (logs : List Log) (n : ℕ) (x : Readings) (mv : List ℕ) where
       let c2 = clear (bar 2 (noBoard row n)) (readingBars (boardAt row (placeOf n)) x mv) refl (c1 .1) in
       (c1 .0, c2 .0, c2 .1)
 
-  -- it has as many cells as its board, which has at most ten
-  sample-fits : eqb (first sample-row) 0 ≡ true → (of-sample .plan .cells ≤ 10) × (length mv ≡ of-sample .plan .cells)
+  -- it has as many cells as its board, whose plan is good
+  sample-fits : eqb (first sample-row) 0 ≡ true → (not (badPlan (of-sample .plan)) ≡ true) × (length mv ≡ of-sample .plan .cells)
   sample-fits accepted =
       let b = boardAt (rowGiven logs) (placeOf n) in
       let c = sample-clear accepted in
       let c3 = clear (bar 3 (not (eqb (length mv) (b .count)))) (bar 4 (outside 1 100000 (x .elapsed)) ∷ bar 5 (outOfRange x mv) ∷ []) refl (c .2) in
       let long : length mv ≡ b .count = eqb-true (length mv) (b .count) (not-false (eqb (length mv) (b .count)) (c3 .0)) in
-      (few-cells logs n (c .0) (c .1), long ∙ ap (λ (r : Board). r .count) (board-at logs (placeOf n)))
+      (well-planned logs n (c .0) (c .1), long ∙ ap (λ (r : Board). r .count) (board-at logs (placeOf n)))
 
   -- and joins its board's log
   pub sample-joins : eqb (first sample-row) 0 ≡ true → logAt (taken logs (sample n x mv)) (placeOf n) ≡ joined of-sample (sampled x mv)
@@ -110,12 +113,7 @@ module _ (logs : List Log) (n : ℕ) (x : Readings) (mv : List ℕ) where
   sample-values : eqb (first sample-row) 0 ≡ true → sampleValues (boardAt (rowGiven logs) (placeOf n)) x mv ≡ sampleSays (joined of-sample (sampled x mv))
   sample-values accepted =
       let fits = sample-fits accepted in
-      let p = of-sample .plan in
-      let h = of-sample .acts in
-      ap (λ (b : Board). sampleValues b x mv) (board-at logs (placeOf n))
-      ∙ ap₂ (λ (s v : ℕ). s ∷ v ∷ [])
-      (ap₂ (statusBy (p .kind)) (control-is p (fits .0) h x mv (fits .1)) (latches-are p (fits .0) h x mv (fits .1)) ∙ status-is p (sampled x mv ∷ h) (latchesAt p (sampled x mv ∷ h)))
-      (bled-are p (fits .0) h x mv (fits .1))
+      ap (λ (b : Board). sampleValues b x mv) (board-at logs (placeOf n)) ∙ values-are (of-sample .plan) (fits .0) (of-sample .acts) x mv (fits .1)
 
   sample-told : outcome (rowGiven logs) (sample n x mv) ≡ told logs (sample n x mv)
   sample-told =
@@ -138,7 +136,7 @@ reply-is : (l : Log) (write : Bool) (register v : ℕ)
 reply-is l write register v =
     let p = l .plan in
     let h = l .acts in
-    let shown : ℕ → Shown = λ status. record { kind = p .kind; status = status; control = control p h; working = working h; cycles = spent h } in
+    let shown : ℕ → Shown = λ status. record { status = status; control = control p h; working = working h; cycles = spent h } in
     ap (λ (status : ℕ). cond (programs write register) (spent h) (cond write v (readValue (shown status) register)))
     (ap (statusBy (p .kind) (control p h)) (latches-kept (latchesAt p h)) ∙ status-is p h (latchesAt p h))
 
@@ -154,9 +152,19 @@ steers-fits l bytes obeys is =
     let write = both w (eqb r 1) (host .1) in
     let one = eqb-true r 1 (write .1) in
     let late = bar 13 (programs w r && crossed (staged (l .acts))) ∷ bar 11 (programs w r && lacksCycle (boardGiven l)) ∷ [] in
-    let c9 = clear (bar 9 (noRegister k w r)) (bar 10 (not (fits k w r v)) ∷ late) refl obeys in
-    let c10 = clear (bar 10 (not (fits k w r v))) late refl (c9 .1) in
-    ltb-true v 8 (rw (write .0, one, host .0) at (not-false (fits k w r v) (c10 .0)))
+    let c9 = clear (bar 9 (noRegister k w r)) (bar 10 (not (fits w r v)) ∷ late) refl obeys in
+    let c10 = clear (bar 10 (not (fits w r v))) late refl (c9 .1) in
+    ltb-true v 8 (rw (write .0, one) at (not-false (fits w r v) (c10 .0)))
+
+-- a write that its board does not refuse is to no garden board
+writes-settled : (l : Log) (bytes : List ℕ) → eqb (first (accessBars (boardGiven l) (writes (byte bytes 0)) (byte bytes 1) (byte bytes 2))) 0 ≡ true
+    → writes (byte bytes 0) ≡ true → isGarden (l .plan .kind) ≡ false
+writes-settled l bytes obeys w =
+    let k = l .plan .kind in
+    let r = byte bytes 1 in
+    let late = bar 13 (programs (writes (byte bytes 0)) r && crossed (staged (l .acts))) ∷ bar 11 (programs (writes (byte bytes 0)) r && lacksCycle (boardGiven l)) ∷ [] in
+    let there : noRegister k (writes (byte bytes 0)) r ≡ false = clear (bar 9 (noRegister k (writes (byte bytes 0)) r)) (bar 10 (not (fits (writes (byte bytes 0)) r (byte bytes 2))) ∷ late) refl obeys .0 in
+    split (isGarden k) (λ g. absurd (true≢false (sym (no-writes k r g) ∙ ap (λ (t : Bool). noRegister k t r) (sym w) ∙ there))) (λ g. g)
 
 module _ (logs : List Log) (bytes buffer : List ℕ) where
   abbrev of-frame : Log
@@ -165,9 +173,9 @@ module _ (logs : List Log) (bytes buffer : List ℕ) where
   abbrev frame-row : List Bar
   frame-row = frameRowBars (rowGiven logs) bytes buffer
 
-  -- an accepted frame is to a board of at most ten cells, whose record gives no refusal
+  -- an accepted frame is to a board of a good plan, whose record gives no refusal
   pub frame-fits : eqb (first frame-row) 0 ≡ true
-      → (of-frame .plan .cells ≤ 10) × (eqb (first (accessBars (boardGiven of-frame) (writes (byte bytes 0)) (byte bytes 1) (byte bytes 2))) 0 ≡ true)
+      → (not (badPlan (of-frame .plan)) ≡ true) × (eqb (first (accessBars (boardGiven of-frame) (writes (byte bytes 0)) (byte bytes 1) (byte bytes 2))) 0 ≡ true)
   frame-fits accepted =
       let row = rowGiven logs in
       let n = boardOf (byte bytes 0) in
@@ -182,12 +190,13 @@ module _ (logs : List Log) (bytes buffer : List ℕ) where
       let c8 = clear b8 (b2 ∷ late) refl (c7 .1) in
       let c2 = clear b2 late refl (c8 .1) in
       let here = ap (λ (b : Board). first (accessBars b (writes (byte bytes 0)) (byte bytes 1) (byte bytes 2))) (board-at logs (framePlace bytes)) in
-      (few-cells logs n (c1 .0) (c2 .0), ap (λ (k : ℕ). eqb k 0) (sym here) ∙ c2 .1)
+      (well-planned logs n (c1 .0) (c2 .0), ap (λ (k : ℕ). eqb k 0) (sym here) ∙ c2 .1)
 
   frame-leaves : eqb (first frame-row) 0 ≡ true → boardFramed (rowGiven logs) bytes ≡ boardGiven (joined of-frame (frameEntry bytes))
   frame-leaves accepted =
       ap (λ (b : Board). boardAfter b (writes (byte bytes 0)) (byte bytes 1) (byte bytes 2)) (board-at logs (framePlace bytes))
-      ∙ given-framed (of-frame .plan) (of-frame .acts) (byte bytes 0) (byte bytes 1) (byte bytes 2) (frame-fits accepted .0) (steers-fits of-frame bytes (frame-fits accepted .1))
+      ∙ given-framed (of-frame .plan) (of-frame .acts) (byte bytes 0) (byte bytes 1) (byte bytes 2) (good-plan (of-frame .plan) (frame-fits accepted .0))
+      (writes-settled of-frame bytes (frame-fits accepted .1)) (steers-fits of-frame bytes (frame-fits accepted .1))
 
   frame-values : eqb (first frame-row) 0 ≡ true → frameReply (rowGiven logs) bytes ≡ frameSays (joined of-frame (frameEntry bytes)) bytes
   frame-values accepted =

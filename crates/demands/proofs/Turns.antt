@@ -17,12 +17,13 @@ use Rattle.runs.specs.Run.{run, stretch, lasting, past}
 use Rattle.lists.specs.Each.{each, some}
 use Rattle.cells.specs.Cells.{readingAt}
 use Rattle.board.specs.declared.Readings.{Readings}
-use Rattle.board.specs.Plan.{Plan}
+use Rattle.board.specs.Plan.{Plan, isGarden}
 use Rattle.board.proofs.Signed.{above-none}
 use Rattle.demands.specs.Paper.{sampled, framed, History, working, spends, Sample, sampleOf, since, holds, stoodDelay, places, clears, latched}
 use Rattle.demands.specs.Marked.{more, one}
 use Rattle.demands.specs.Turns.{Under, EverySample, Calm, Charging, byTurns, alternate}
 use Rattle.demands.proofs.Lists.{each-same}
+use Rattle.demands.proofs.Filtered.{garden-latched}
 
 none-of : (i n : ℕ) → some (each i n (λ k. false)) ≡ false
 unfolding each
@@ -33,12 +34,12 @@ and-no : (b : Bool) → (b && false) ≡ false
 and-no true = refl
 and-no false = refl
 
-pub never-latched : (p : Plan) (f : Fault) (h : History) → Under (p .cells) f h → latched p f h ≡ false
-never-latched p f [] u = refl
-never-latched p f (sampled x mv ∷ h) u =
+pub never-latched : (p : Plan) → isGarden (p .kind) ≡ false → (f : Fault) (h : History) → Under (p .cells) f h → latched p f h ≡ false
+never-latched p g f [] u = rw g
+never-latched p g f (sampled x mv ∷ h) u =
     let n = p .cells in
-    rw (never-latched p f h (u .1)) (ap some (each-same (places f n) (λ k. stoodDelay f k (sampled x mv ∷ h)) (λ k. false) (u .0)) ∙ none-of 0 (places f n))
-never-latched p f (framed address register v ∷ h) u = rw (never-latched p f h (u .1)) (and-no (not (clears p f (framed address register v) h)))
+    rw (g, never-latched p g f h (u .1)) (ap some (each-same (places f n) (λ k. stoodDelay f k (sampled x mv ∷ h)) (λ k. false) (u .0)) ∙ none-of 0 (places f n))
+never-latched p g f (framed address register v ∷ h) u = rw (never-latched p g f h (u .1)) (and-no (not (clears p f (framed address register v) h)))
 
 -- ---- a condition that never holds has no run, so its fault is not latched
 
@@ -55,20 +56,23 @@ calm-under n f (framed address register v ∷ h) c =
     let then = framed address register v ∷ h in
     (λ k p. ap (past (delay f (working then))) (calm-run f k (working then) then c), calm-under n f h c)
 
-pub calm-never : (p : Plan) (f : Fault) (h : History) → Calm f h → latched p f h ≡ false
-calm-never p f h c = never-latched p f h (calm-under (p .cells) f h c)
+pub calm-never : (p : Plan) → isGarden (p .kind) ≡ false → (f : Fault) (h : History) → Calm f h → latched p f h ≡ false
+calm-never p g f h c = never-latched p g f h (calm-under (p .cells) f h c)
 
--- no charge current trips a discharge fault
+-- no charge current trips a discharge fault; a garden board has none
 every-so : (So To : Readings → List ℕ → Type 0) → ((x : Readings) (mv : List ℕ) → So x mv → To x mv) → (h : History) → EverySample So h → EverySample To h
 every-so So To so [] c = tt
 every-so So To so (sampled x mv ∷ h) c = (so x mv (c .0), every-so So To so h (c .1))
 every-so So To so (framed address register v ∷ h) c = every-so So To so h c
 
 pub charge-never-trips : (p : Plan) (h : History) → Charging h → (latched p SCD h ≡ false) × (latched p OCD h ≡ false)
-charge-never-trips p h c = (
-  calm-never p SCD h (every-so _ _ (λ x mv charge s k. sym (above-none (scdLevel s) (x .shunt) charge)) h c),
-  calm-never p OCD h (every-so _ _ (λ x mv charge s k. sym (above-none (ocdLevel s) (x .shunt) charge)) h c),
-)
+charge-never-trips p h c =
+    split (isGarden (p .kind))
+    (λ g. (garden-latched p g SCD h, garden-latched p g OCD h))
+    (λ g. (
+      calm-never p g SCD h (every-so _ _ (λ x mv charge s k. sym (above-none (scdLevel s) (x .shunt) charge)) h c),
+      calm-never p g OCD h (every-so _ _ (λ x mv charge s k. sym (above-none (ocdLevel s) (x .shunt) charge)) h c),
+    ))
 
 -- M2, of any number of samples: a cell at 4,150 never latches OV
 not-above : (s : Settings) (reading : ℕ) → reading ≤ 4150 → ltb (ovLevel s) reading ≡ false
@@ -86,8 +90,8 @@ level-calm : (r : ℕ) → Calm OV (more r (one 4150) [])
 level-calm zero = tt
 level-calm (suc r) = (λ s k. not-above s (readingAt (4150 ∷ 4000 ∷ 4000 ∷ 4000 ∷ 4000 ∷ []) k) (at-level k), level-calm r)
 
-pub level-never-latches : (p : Plan) (r : ℕ) → latched p OV (more r (one 4150) []) ≡ false
-level-never-latches p r = calm-never p OV (more r (one 4150) []) (level-calm r)
+pub level-never-latches : (p : Plan) → isGarden (p .kind) ≡ false → (r : ℕ) → latched p OV (more r (one 4150) []) ≡ false
+level-never-latches p g r = calm-never p g OV (more r (one 4150) []) (level-calm r)
 
 -- ---- two cells by turns
 
@@ -133,5 +137,5 @@ module _ (x : Readings) (v low : ℕ) (below : low ≤ 4150) where
   under n zero first = tt
   under n (suc r) first = (λ k p. under-at r first k, under n r (not first))
 
-  pub turns-never-latch : (p : Plan) (r : ℕ) (first : Bool) → latched p OV (alternate x v low r first) ≡ false
-  turns-never-latch p r first = never-latched p OV (alternate x v low r first) (under (p .cells) r first)
+  pub turns-never-latch : (p : Plan) → isGarden (p .kind) ≡ false → (r : ℕ) (first : Bool) → latched p OV (alternate x v low r first) ≡ false
+  turns-never-latch p g r first = never-latched p g OV (alternate x v low r first) (under (p .cells) r first)

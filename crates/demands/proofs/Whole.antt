@@ -189,20 +189,20 @@ lowest-at f i (suc n) =
 
 -- of one board: no cell is flagged, or the lowest that is
 abbrev Cell : Log → ℕ → Type 0
-Cell l c = (1 ≤ c) × (c ≤ l .plan .cells) × (flagged (c - 1) (l .acts) ≡ true)
+Cell l c = (1 ≤ c) × (c ≤ l .plan .cells) × (flagged (l .plan) (c - 1) (l .acts) ≡ true)
 
 abbrev LowestOn : Log → ℕ → Type 0
 LowestOn l c = ((c ≡ 0) × ((d : ℕ) → ¬ Cell l d)) ⊎ (Cell l c × ((d : ℕ) → d < c → ¬ Cell l d))
 
 lowest-on : (l : Log) → LowestOn l (lowestFlagged (summaryGiven l))
-lowest-on l = subst (LowestOn l) (sym flags-are) (by (lowest 1 (flagsAt (l .plan .cells) (l .acts))) (lowest-at f 0 (l .plan .cells)))
+lowest-on l = subst (LowestOn l) (sym flags-are) (by (lowest 1 (flagsAt (l .plan) (l .acts))) (lowest-at f 0 (l .plan .cells)))
   where
     f : ℕ → Bool
-    f k = flagged k (l .acts)
+    f k = flagged (l .plan) k (l .acts)
 
-    flags-are : lowestFlagged (summaryGiven l) ≡ lowest 1 (flagsAt (l .plan .cells) (l .acts))
+    flags-are : lowestFlagged (summaryGiven l) ≡ lowest 1 (flagsAt (l .plan) (l .acts))
     flags-are =
-        let bs = flagsAt (l .plan .cells) (l .acts) in
+        let bs = flagsAt (l .plan) (l .acts) in
         ap (λ (n : ℕ). lowest 1 (marks n (number bs))) (sym (each-length f 0 (l .plan .cells))) ∙ ap (lowest 1) (marks-number bs)
 
     by : (c : ℕ) → LowestAt f 0 (l .plan .cells) c → LowestOn l c

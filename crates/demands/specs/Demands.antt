@@ -7,7 +7,6 @@ use mathlib.Core.List.{List, [], _∷_, _++_, map}
 use lib.Dec.{eqb}
 use lib.ListN.{length, getD, set, drop}
 use Rattle.refusal.specs.Said.{accepts, first, judged, unlessRefused}
-use Rattle.settings.specs.Bytes.{byteOf}
 use Rattle.lists.specs.Marks.{number}
 use Rattle.cells.specs.Bleed.{bled}
 use Rattle.latches.specs.Latches.{anyLatch, chgOn, dsgOn}
@@ -73,13 +72,12 @@ taken logs reading = logs
 
 -- a sample: register 0's value and the bled cells
 abbrev pub sampleSays : Log → List ℕ
-sampleSays l = status (l .plan) (l .acts) ∷ number (bled (flagsAt (l .plan .cells) (l .acts))) ∷ []
+sampleSays l = status (l .plan) (l .acts) ∷ number (bled (flagsAt (l .plan) (l .acts))) ∷ []
 
 -- a read: what its row of the map gives of the status, register 1, the working settings and the cycles spent
 abbrev pub shownGiven : Log → Shown
 shownGiven l =
     record {
-      kind = l .plan .kind;
       status = status (l .plan) (l .acts);
       control = control (l .plan) (l .acts);
       working = working (l .acts);
@@ -108,7 +106,7 @@ summaryGiven l =
       chg = chgOn (mayChg p h) latches;
       dsg = dsgOn (mayDsg p h) latches;
       count = p .cells;
-      flags = number (flagsAt (p .cells) h);
+      flags = number (flagsAt p h);
     }
 
 abbrev pub readingSays : List Log → List ℕ

@@ -3,7 +3,7 @@
 use Prim.Native.Nat.{ℕ}
 use mathlib.Core.Path.{_≡_}
 use mathlib.Core.Logic.{_↔_}
-use mathlib.Core.Bool.{Bool, true, false, not, _||_}
+use mathlib.Core.Bool.{true, false, _||_}
 use mathlib.Core.List.{List, _∷_}
 use Rattle.settings.specs.Faults.{Fault, SCD, OCD, OV, UV, OT}
 use Rattle.latches.specs.Latches.{latchNext}
@@ -38,7 +38,7 @@ pub record Written (p : Plan) (address register v : ℕ) (h : History) : Type 0 
 
 -- a stand-alone board of n cells
 abbrev pub alone : ℕ → Plan
-alone n = record { kind = 0; cells = n }
+alone n = record { kind = 0; cells = n; row = 0; trigger = 0 }
 
 pub record AsBefore (n : ℕ) (h : History) : Type 0 where
   -- a latch lets go at a sample by the table's last column alone, and every frame leaves it

@@ -13,4 +13,5 @@ pub mod Refused
 pub mod Whole
 pub mod Face
 pub mod Host
+pub mod Garden
 pub mod Counts

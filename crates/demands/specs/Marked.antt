@@ -16,6 +16,7 @@ use Rattle.latches.specs.Latches.{register0}
 use Rattle.board.specs.Plan.{Plan}
 use Rattle.board.specs.Shunt.{shuntAbove}
 use Rattle.demands.specs.Paper.{Entry, sampled, framed, History, working, latched, status, flagsAt}
+use Rattle.demands.specs.Host.{alone}
 
 -- ---- histories, newest act first
 
@@ -64,7 +65,7 @@ is m gives says = record { m = m; gives = gives; says = says }
 
 -- a stand-alone board of five cells, and a fault of it: 1 if it is latched
 abbrev pub board : Plan
-board = record { kind = 0; cells = 5 }
+board = alone 5
 
 abbrev pub latch : Fault → History → ℕ
 latch f h = bit (latched board f h)
@@ -83,8 +84,8 @@ marked =
     ∷ is 9 (ocdDelay (with 8 31)) 1600000
     ∷ is 10 (status board (more 20 (shunt (negsuc 60000)) [])) 192
     ∷ is 11 (latch SCD (more 20 (shunt (pos 60000)) [])) 0
-    ∷ is 12 (number (bled (flagsAt 8 (more 6 three [])))) 132
-    ∷ is 12 (number (bled (flagsAt 8 (more 6 apart [])))) 144
+    ∷ is 12 (number (bled (flagsAt (alone 8) (more 6 three [])))) 132
+    ∷ is 12 (number (bled (flagsAt (alone 8) (more 6 apart [])))) 144
     ∷ []
 
 abbrev pub right : List Case → Bool

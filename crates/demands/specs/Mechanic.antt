@@ -1,4 +1,4 @@
--- What a mechanic would ask (01, When a fault latches and lets go; Frames and registers; Errors a good mechanic would make; 02, ticket 3): of the runs in a history, and of the library on any stack that came from an opening, after any acts.
+-- What a mechanic would ask (01, When a fault latches and lets go; Frames and registers; Errors a good mechanic would make; 02, tickets 3 and 5): of the runs in a history, and of the library on any stack that came from an opening, after any acts.
 -- Assumes nothing.
 use Prim.Native.Nat.{ℕ, _+_, _<_, _≤_}
 use mathlib.Core.Path.{_≡_}
@@ -13,12 +13,13 @@ use Rattle.settings.specs.Faults.{Fault, delay}
 use Rattle.latches.specs.Latches.{latch, latchesOf}
 use Rattle.board.specs.declared.Board.{Board}
 use Rattle.board.specs.declared.Readings.{Readings}
+use Rattle.board.specs.Plan.{isGarden}
 use Rattle.board.specs.Host.{holdsOn}
 use Rattle.frame.specs.Frame.{byte, writes}
 use Rattle.frame.specs.Reply.{replyBytes}
 use Rattle.stack.specs.Row.{placeOf, boardAt}
 use Rattle.stack.specs.Frame.{framePlace}
-use Rattle.demands.specs.Paper.{Entry, sampled, framed, History, programming, staged, working, spends, howMany, spent, sampleOf, holds, runOf, places, letsGo, clears, control}
+use Rattle.demands.specs.Paper.{Entry, sampled, framed, History, programming, staged, working, spends, howMany, spent, sampleOf, holds, runOf, places, letsGo, clears, counted, countAt, backAt, filter, control}
 use Rattle.demands.specs.Acts.{Act, sample, frame, reading, outcome, next, openedRow, final}
 use Rattle.demands.specs.Table.{lent}
 use Rattle.demands.specs.Turns.{Under, Calm}
@@ -60,15 +61,26 @@ Accepted row a = outcome row a .said .number ≡ 0
 
 -- of a row, and of what is known of each of its boards: its plan and its accepted acts
 pub record Answers (row : List Board) (logs : List Log) : Type 0 where
-  -- an unlatched fault latches at an accepted sample exactly if its condition has stood its delay, for some one cell with OV and UV
+  -- an unlatched fault latches at an accepted sample exactly if its condition has stood its delay, for some one cell with OV and UV; of a garden
+  -- board, below
   pub latches : (f : Fault) (n : ℕ) (x : Readings) (mv : List ℕ) → let l = logAt logs (placeOf n) in
-      Accepted row (sample n x mv) → isLatched f row (placeOf n) ≡ false
+      isGarden (l .plan .kind) ≡ false → Accepted row (sample n x mv) → isLatched f row (placeOf n) ≡ false
       → (isLatched f (next row (sample n x mv)) (placeOf n) ≡ true) ↔ Stood (l .plan .cells) f (sampled x mv ∷ l .acts)
   -- a latched one lets go exactly if its recovery is met, and on a host board only overtemperature does by itself
   pub lets-go : (f : Fault) (n : ℕ) (x : Readings) (mv : List ℕ) → let l = logAt logs (placeOf n) in
-      Accepted row (sample n x mv) → isLatched f row (placeOf n) ≡ true
+      isGarden (l .plan .kind) ≡ false → Accepted row (sample n x mv) → isLatched f row (placeOf n) ≡ true
       → (isLatched f (next row (sample n x mv)) (placeOf n) ≡ false)
       ↔ ((holdsOn (l .plan .kind) f ≡ false) × (letsGo (l .plan .cells) f (working (l .acts)) (sampleOf x mv) ≡ true))
+  -- a garden board's OV and UV latch exactly if the count of some one cell reaches the trigger at the sample, and let go exactly if the recovery count
+  -- does; no other fault of it is ever latched
+  pub counts-latch : (f : Fault) (n : ℕ) (x : Readings) (mv : List ℕ) → let l = logAt logs (placeOf n) in
+      isGarden (l .plan .kind) ≡ true → counted f ≡ true → Accepted row (sample n x mv) → isLatched f row (placeOf n) ≡ false
+      → (isLatched f (next row (sample n x mv)) (placeOf n) ≡ true)
+      ↔ ((k : ℕ) × (k < l .plan .cells) × (l .plan .trigger ≤ countAt (l .plan) f (filter (l .plan) f (l .acts)) (sampleOf x mv) k))
+  pub counts-let-go : (f : Fault) (n : ℕ) (x : Readings) (mv : List ℕ) → let l = logAt logs (placeOf n) in
+      isGarden (l .plan .kind) ≡ true → counted f ≡ true → Accepted row (sample n x mv) → isLatched f row (placeOf n) ≡ true
+      → (isLatched f (next row (sample n x mv)) (placeOf n) ≡ false) ↔ (l .plan .trigger ≤ backAt (l .plan) f (filter (l .plan) f (l .acts)) (sampleOf x mv))
+  pub counts-no-other : (f : Fault) (at : ℕ) → isGarden (logAt logs at .plan .kind) ≡ true → counted f ≡ false → isLatched f row at ≡ false
   -- no frame latches a fault, programmings among them
   pub frames-latch-none : (f : Fault) (bytes buffer : List ℕ) (at : ℕ) → isLatched f row at ≡ false → isLatched f (next row (frame bytes buffer)) at ≡ false
   -- and one lets it go exactly if it is accepted, its board has the fault, and it clears it there: a write that takes b0 of a host board's register 1
@@ -80,9 +92,9 @@ pub record Answers (row : List Board) (logs : List Log) : Type 0 where
   -- so a stand-alone board's faults are left by every frame
   pub frames-leave : (f : Fault) (bytes buffer : List ℕ) (at : ℕ) → logAt logs at .plan .kind ≡ 0 → isLatched f (next row (frame bytes buffer)) at ≡ isLatched f row at
   -- a fault that no one cell has stood at any time is not latched, however the cells take turns
-  pub no-pooling : (f : Fault) (at : ℕ) → let l = logAt logs at in Under (l .plan .cells) f (l .acts) → isLatched f row at ≡ false
+  pub no-pooling : (f : Fault) (at : ℕ) → let l = logAt logs at in isGarden (l .plan .kind) ≡ false → Under (l .plan .cells) f (l .acts) → isLatched f row at ≡ false
   -- nor is one whose condition never held, whatever was programmed
-  pub calm : (f : Fault) (at : ℕ) → let l = logAt logs at in Calm f (l .acts) → isLatched f row at ≡ false
+  pub calm : (f : Fault) (at : ℕ) → let l = logAt logs at in isGarden (l .plan .kind) ≡ false → Calm f (l .acts) → isLatched f row at ≡ false
   -- a read of registers 6 to 10 gives the working byte
   pub reads-working : (bytes buffer : List ℕ) → let l = logAt logs (framePlace bytes) in
       Accepted row (frame bytes buffer) → writes (byte bytes 0) ≡ false → 6 ≤ byte bytes 1 → byte bytes 1 ≤ 10

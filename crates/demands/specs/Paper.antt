@@ -1,7 +1,7 @@
--- A board from its plan and its accepted acts alone, newest first, with no state (01, Frames and registers; When a fault latches and lets go; Bleeding; 02, ticket 3).
+-- A board from its plan and its accepted acts alone, newest first, with no state (01, Frames and registers; When a fault latches and lets go; Bleeding; 02, tickets 3 and 5).
 -- Assumes nothing.
-use Prim.Native.Nat.{ℕ, _+_}
-use mathlib.Core.Bool.{Bool, false, cond, not, _&&_, _||_}
+use Prim.Native.Nat.{ℕ, _+_, _-_}
+use mathlib.Core.Bool.{Bool, true, false, cond, not, _&&_, _||_}
 use mathlib.Core.List.{List, [], _∷_, _++_}
 use mathlib.Core.Option.{Option, some as just, none}
 use lib.Dec.{eqb}
@@ -18,13 +18,16 @@ use Rattle.runs.specs.Stored.{stored}
 use Rattle.cells.specs.declared.Cell.{Cell}
 use Rattle.lists.specs.Each.{each, some, all}
 use Rattle.cells.specs.Cells.{flagNext, readingAt, noCells}
+use Rattle.garden.specs.declared.Device.{Device}
+use Rattle.garden.specs.declared.Garden.{Garden}
+use Rattle.garden.specs.Device.{deviceOf, ovInner, uvInner}
 use Rattle.latches.specs.declared.Latches.{Latches}
 use Rattle.latches.specs.Latches.{latches, latchNext, latchesByte, chgOn, dsgOn, register0}
 use Rattle.latches.specs.Control.{clearBit, dsgBit, chgBit}
 use Rattle.board.specs.declared.Board.{Board}
 use Rattle.board.specs.declared.Readings.{Readings}
 use Rattle.board.specs.declared.Last.{Last}
-use Rattle.board.specs.Plan.{Plan, isHost}
+use Rattle.board.specs.Plan.{Plan, isHost, isGarden}
 use Rattle.board.specs.Host.{holdsOn, lastOf, noLast}
 use Rattle.board.specs.Shunt.{shuntAbove}
 use Rattle.board.specs.Sample.{hot, attached}
@@ -167,14 +170,91 @@ overBy f s (just x) = isOver f s x
 abbrev pub clears : Plan → Fault → Entry → History → Bool
 clears p f e h = takesDown p e h && overBy f (working h) (lastSample h)
 
+-- ---- how a garden board counts (02, ticket 5): each fault by itself, by its own level and hysteresis, and no delay
+
+-- it has two of the faults, and starts with OV latched
+abbrev pub counted : Fault → Bool
+counted SCD = false
+counted OCD = false
+counted OV = true
+counted UV = true
+counted OT = false
+
+abbrev pub startsLatched : Fault → Bool
+startsLatched SCD = false
+startsLatched OCD = false
+startsLatched OV = true
+startsLatched UV = false
+startsLatched OT = false
+
+-- the reading of one cell is strictly past the level
+abbrev pub pastLevel : Device → Fault → ℕ → Bool
+pastLevel d SCD v = false
+pastLevel d OCD v = false
+pastLevel d OV v = v above d .ov
+pastLevel d UV v = v below d .uv
+pastLevel d OT v = false
+
+-- every one of n cells is strictly inside level and hysteresis, and for UV with load removal the load is off
+abbrev pub inside : ℕ → Device → Fault → Sample → Bool
+inside n d SCD x = false
+inside n d OCD x = false
+inside n d OV x = all (each 0 n (λ k. readingAt (x .cells) k below ovInner d))
+inside n d UV x = all (each 0 n (λ k. readingAt (x .cells) k above uvInner d)) && not (d .«load_removal» && attached (x .readings))
+inside n d OT x = false
+
+-- a count goes up by one, or down by one and never below zero
+abbrev pub counts : Bool → ℕ → ℕ
+counts up count = cond up (count + 1) (count - 1)
+
+-- one fault: whether it is latched, the count of the cell at each place, and the recovery count
+pub record Filter : Type 0 where
+  pub latched : Bool
+  pub count : ℕ → ℕ
+  pub back : ℕ
+
+module _ (p : Plan) (f : Fault) where
+  abbrev pub device : Device
+  device = deviceOf (p .row)
+
+  abbrev pub started : Filter
+  started = record { latched = startsLatched f; count = λ k. 0; back = 0 }
+
+  -- while it is unlatched each cell counts; where one count reaches the trigger the fault latches, and all its counts return to zero
+  abbrev pub countAt : Filter → Sample → ℕ → ℕ
+  countAt was x k = counts (pastLevel device f (readingAt (x .cells) k)) (was .count k)
+
+  abbrev pub trips : Filter → Sample → Bool
+  trips was x = some (each 0 (p .cells) (λ k. countAt was x k atOrAbove p .trigger))
+
+  abbrev pub counting : Filter → Sample → Filter
+  counting was x = record { latched = trips was x; count = λ k. cond (trips was x) 0 (countAt was x k); back = 0 }
+
+  -- while it is latched the recovery counts; at the trigger the fault lets go and that count returns to zero
+  abbrev pub backAt : Filter → Sample → ℕ
+  backAt was x = counts (inside (p .cells) device f x) (was .back)
+
+  abbrev pub recovers : Filter → Sample → Bool
+  recovers was x = backAt was x atOrAbove p .trigger
+
+  abbrev pub recovering : Filter → Sample → Filter
+  recovering was x = record { latched = not (recovers was x); count = λ k. 0; back = cond (recovers was x) 0 (backAt was x) }
+
+  -- latched or not is as before the sample; frames leave it all
+  abbrev pub filter : History → Filter
+  filter [] = started
+  filter (sampled x mv ∷ h) = cond (filter h .latched) (recovering (filter h) (sampleOf x mv)) (counting (filter h) (sampleOf x mv))
+  filter (framed address register v ∷ h) = filter h
+
 -- ---- the latches
 
 -- at each accepted sample an unlatched fault latches exactly if it stands, and a latched one unlatches exactly if it lets go, which on a host board
--- only overtemperature does by itself; a frame leaves it, unless it clears it
+-- only overtemperature does by itself; a garden board goes by its counts; a frame leaves it, unless it clears it
 abbrev pub latched : Plan → Fault → History → Bool
-latched p f [] = false
+latched p f [] = isGarden (p .kind) && startsLatched f
 latched p f (sampled x mv ∷ h) =
-    latchNext (latched p f h) (stands (p .cells) f (sampled x mv ∷ h)) (not (holdsOn (p .kind) f) && letsGo (p .cells) f (working h) (sampleOf x mv))
+    cond (isGarden (p .kind)) (counted f && filter p f (sampled x mv ∷ h) .latched)
+    (latchNext (latched p f h) (stands (p .cells) f (sampled x mv ∷ h)) (not (holdsOn (p .kind) f) && letsGo (p .cells) f (working h) (sampleOf x mv)))
 latched p f (framed address register v ∷ h) = not (clears p f (framed address register v) h) && latched p f h
 
 abbrev pub latchesAt : Plan → History → Latches
@@ -214,19 +294,33 @@ status p h = register0 (mayDsg p h) (mayChg p h) (latchesAt p h)
 
 -- ---- Bleeding
 
--- a cell is flagged when its OV run has stood the delay, and loses its flag when it reads low; frames leave it
-abbrev pub flagged : ℕ → History → Bool
-flagged k [] = false
-flagged k (sampled x mv ∷ h) = flagNext (working h) (stoodDelay OV k (sampled x mv ∷ h)) (flagged k h) (readingAt mv k)
-flagged k (framed address register v ∷ h) = flagged k h
+-- a cell is flagged when its OV run has stood the delay, and loses its flag when it reads low; frames leave it; a garden board flags none
+abbrev pub flagged : Plan → ℕ → History → Bool
+flagged p k [] = false
+flagged p k (sampled x mv ∷ h) = not (isGarden (p .kind)) && flagNext (working h) (stoodDelay OV k (sampled x mv ∷ h)) (flagged p k h) (readingAt mv k)
+flagged p k (framed address register v ∷ h) = flagged p k h
 
-abbrev pub flagsAt : ℕ → History → List Bool
-flagsAt n h = each 0 n (λ k. flagged k h)
+abbrev pub flagsAt : Plan → History → List Bool
+flagsAt p h = each 0 (p .cells) (λ k. flagged p k h)
 
 -- ---- the declared record of a board of this plan with these accepted acts; past its cells it is as it started
 
-abbrev pub cellGiven : History → ℕ → Cell
-cellGiven h k = record { ov = stored (runOf OV k h); uv = stored (runOf UV k h) }
+-- of a fault and a place, a run, or a garden board's count
+abbrev pub kept : Plan → Fault → ℕ → History → ℕ
+kept p f k h = cond (isGarden (p .kind)) (filter p f h .count k) (stored (runOf f k h))
+
+abbrev pub cellGiven : Plan → History → ℕ → Cell
+cellGiven p h k = record { ov = kept p OV k h; uv = kept p UV k h }
+
+-- a garden board has no current faults, and any other no recovery counts
+abbrev pub currentGiven : Plan → Fault → History → ℕ
+currentGiven p f h = cond (isGarden (p .kind)) 0 (stored (runOf f 0 h))
+
+abbrev pub backGiven : Plan → Fault → History → ℕ
+backGiven p f h = cond (isGarden (p .kind)) (filter p f h .back) 0
+
+abbrev pub gardenGiven : Plan → History → Garden
+gardenGiven p h = record { row = p .row; trigger = p .trigger; «ov_back» = backGiven p OV h; «uv_back» = backGiven p UV h }
 
 abbrev pub lastGiven : Option Sample → Last
 lastGiven none = noLast
@@ -239,11 +333,12 @@ given p h =
       latches = latchesByte (latchesAt p h);
       cycles = spent h;
       kind = p .kind;
-      flags = number (flagsAt (p .cells) h);
+      flags = number (flagsAt p h);
       working = working h;
       staged = staged h;
-      currents = record { ocd = stored (runOf OCD 0 h); scd = stored (runOf SCD 0 h) };
-      cells = each 0 (p .cells) (cellGiven h) ++ drop (p .cells) noCells;
+      currents = record { ocd = currentGiven p OCD h; scd = currentGiven p SCD h };
+      cells = each 0 (p .cells) (cellGiven p h) ++ drop (p .cells) noCells;
       last = lastGiven (lastSample h);
       control = control p h;
+      garden = gardenGiven p h;
     }

@@ -1,5 +1,5 @@
--- The table of refusals a second time, from what is known of each board and the act alone: for each act its rows in order, each a number and a proposition (01, Refusal numbers; Frames and registers; 02, tickets 1 and 3).
--- None of the library's conditions is used: beside the history (Paper) it rests on the two current levels (settings, Levels) and the check byte, which is bit by bit (frame, Check).
+-- The table of refusals a second time, from what is known of each board and the act alone: for each act its rows in order, each a number and a proposition (01, Refusal numbers; Frames and registers; 02, tickets 1, 3 and 5).
+-- None of the library's conditions is used: beside the history (Paper) it rests on what a record says that its board is (board, planIn), the two current levels (settings, Levels) and the check byte, which is bit by bit (frame, Check).
 -- Assumes nothing.
 use Prim.Native.Nat.{ℕ, zero, suc, _+_, _-_, _*_, _<_, _≤_}
 use mathlib.Core.Path.{_≡_}
@@ -12,6 +12,7 @@ use Rattle.refusal.specs.Said.{Said, refuses, Bar}
 use Rattle.board.specs.declared.Board.{Board}
 use Rattle.board.specs.declared.Readings.{Readings}
 use Rattle.board.specs.Plan.{Plan, planOf}
+use Rattle.board.specs.Sample.{planIn}
 use Rattle.settings.specs.Levels.{ocdLevel, scdLevel}
 use Rattle.frame.specs.Check.{checkOf}
 use Rattle.stack.specs.Open.{openBars, openingSaid, openAnswer}
@@ -37,9 +38,13 @@ Some none P l = (i : ℕ) × (i < length l) × P (getD l i none)
 
 -- ---- the stack and its boards
 
--- 1: a stack has 1 to 16 boards, stand-alone or host, of 5 to 10 cells each; by these plans there is none
+-- 1: a stack has 1 to 16 boards: stand-alone or host with 5 to 10 cells each, or garden with 3 to 5 and one of the three rows, by a trigger of 1 to 255;
+-- by these plans there is none
+abbrev pub NoGarden : Plan → Type 0
+NoGarden p = Outside 3 5 (p .cells) ⊎ (2 < p .row) ⊎ Outside 1 255 (p .trigger)
+
 abbrev pub NoPlan : Plan → Type 0
-NoPlan p = (1 < p .kind) ⊎ Outside 5 10 (p .cells)
+NoPlan p = (2 < p .kind) ⊎ ((p .kind ≡ 2) × NoGarden p) ⊎ ((p .kind ≢ 2) × Outside 5 10 (p .cells))
 
 abbrev pub NoStack : List Plan → Type 0
 NoStack plans = Outside 1 16 (length plans) ⊎ Some (planOf 0) NoPlan plans
@@ -52,7 +57,7 @@ abbrev pub plansOf : List Log → List Plan
 plansOf logs = map (λ l. l .plan) logs
 
 abbrev pub plansIn : List Board → List Plan
-plansIn row = map (λ b. record { kind = b .kind; cells = b .count }) row
+plansIn row = map planIn row
 
 -- boards are numbered from 1; of a number that no board has nothing is known
 abbrev pub logOf : List Log → ℕ → Log
@@ -109,17 +114,17 @@ NoBoardNamed logs address = (n : ℕ) × (ReadOf n address ⊎ WriteOf n address
 abbrev pub Named : (Log → Type 0) → List Log → ℕ → Type 0
 Named So logs address = (n : ℕ) × (ReadOf n address ⊎ WriteOf n address) × So (logOf logs n)
 
--- 9: there are registers 0 and 6 to 11, and 0 is only read; a host board has register 1 too
+-- 9: there are registers 0 and 6 to 11, and 0 is only read; a host board has register 1 too, and a garden board 0 alone
 abbrev pub Known : ℕ → Log → Type 0
-Known register l = (register ≡ 0) ⊎ ((register ≡ 1) × (l .plan .kind ≡ 1)) ⊎ ((6 ≤ register) × (register ≤ 11))
+Known register l = (register ≡ 0) ⊎ ((register ≡ 1) × (l .plan .kind ≡ 1)) ⊎ ((6 ≤ register) × (register ≤ 11) × (l .plan .kind ≢ 2))
 
 abbrev pub WrongRegister : List Log → ℕ → ℕ → Type 0
 WrongRegister logs address register = Named (λ l. ¬ Known register l) logs address ⊎ (Writes address × (register ≡ 0))
 
--- 10: what a write may carry. Register 1 of a host board takes b0 to b2, registers 6, 9 and 10 any byte, 7 one whose two high bits are 0, 8 one whose three high bits are 0, 11 only 0x41
-abbrev pub MayCarry : ℕ → ℕ → Log → Type 0
-MayCarry register v l =
-    ((register ≡ 1) × (l .plan .kind ≡ 1) × (v < 8))
+-- 10: what a write may carry. Register 1 takes b0 to b2, registers 6, 9 and 10 any byte, 7 one whose two high bits are 0, 8 one whose three high bits are 0, 11 only 0x41
+abbrev pub MayCarry : ℕ → ℕ → Type 0
+MayCarry register v =
+    ((register ≡ 1) × (v < 8))
     ⊎ (register ≡ 6)
     ⊎ ((register ≡ 7) × (v < 64))
     ⊎ ((register ≡ 8) × (v < 32))
@@ -128,8 +133,8 @@ MayCarry register v l =
     ⊎ ((register ≡ 11) × (v ≡ 0x41))
 
 -- a read carries 0
-abbrev pub WrongValue : List Log → ℕ → ℕ → ℕ → Type 0
-WrongValue logs address register v = (Reads address × (v ≢ 0)) ⊎ (Writes address × Named (λ l. ¬ MayCarry register v l) logs address)
+abbrev pub WrongValue : ℕ → ℕ → ℕ → Type 0
+WrongValue address register v = (Reads address × (v ≢ 0)) ⊎ (Writes address × (¬ MayCarry register v))
 
 -- a write to register 11, which programs a board, where its history is so
 abbrev pub Programs : (History → Type 0) → List Log → ℕ → ℕ → Type 0
@@ -174,7 +179,7 @@ frameRules logs bytes buffer =
     ∷ rule 8 (check ≢ checkOf (address ∷ register ∷ v ∷ []))
     ∷ rule 2 (NoBoardNamed logs address)
     ∷ rule 9 (WrongRegister logs address register)
-    ∷ rule 10 (WrongValue logs address register v)
+    ∷ rule 10 (WrongValue address register v)
     ∷ rule 13 (Programs Crossed logs address register)
     ∷ rule 11 (Programs Worn logs address register)
     ∷ []

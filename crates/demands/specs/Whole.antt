@@ -18,7 +18,7 @@ abbrev pub Latched : List Log → ℕ → Fault → Type 0
 Latched logs b f = let l = logOf logs b in latched (l .plan) f (l .acts) ≡ true
 
 abbrev pub Flagged : List Log → ℕ → ℕ → Type 0
-Flagged logs b c = let l = logOf logs b in (1 ≤ c) × (c ≤ l .plan .cells) × (flagged (c - 1) (l .acts) ≡ true)
+Flagged logs b c = let l = logOf logs b in (1 ≤ c) × (c ≤ l .plan .cells) × (flagged (l .plan) (c - 1) (l .acts) ≡ true)
 
 -- the line of board b is up: it has a latch, or a board north of it
 abbrev pub LineUp : List Log → ℕ → Type 0

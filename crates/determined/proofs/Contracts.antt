@@ -49,10 +49,11 @@ use Rattle.frame.proofs.refusal.Reads as frame-refusal
 use Rattle.held.proofs.open_held.Reads as held-open-held
 use Rattle.board.proofs.bad_board.Reads as board-bad-board
 use Rattle.board.proofs.bad_plan.Reads as board-bad-plan
-use Rattle.board.proofs.planned_board.Reads as board-planned-board
 use Rattle.board.proofs.stand_alone.Reads as board-stand-alone
 use Rattle.board.proofs.host.Reads as board-host
+use Rattle.board.proofs.garden_plan.Reads as board-garden-plan
 use Rattle.board.proofs.is_host.Reads as board-is-host
+use Rattle.board.proofs.is_garden.Reads as board-is-garden
 use Rattle.board.proofs.may_dsg.Reads as board-may-dsg
 use Rattle.board.proofs.may_chg.Reads as board-may-chg
 use Rattle.board.proofs.status_by.Reads as board-status-by
@@ -193,17 +194,20 @@ board-bad-board-one κs a r t s u = agree
 pub board-bad-plan-one : (κs : _) (a : _) (r t : _) (s u : _) → board-bad-plan.Learnt κs a r s → board-bad-plan.Learnt κs a t u → r ≡ t
 board-bad-plan-one κs a r t s u = agree
 
-pub board-planned-board-one : (κs : _) (a : _) (r t : _) (s u : _) → board-planned-board.Learnt κs a r s → board-planned-board.Learnt κs a t u → r ≡ t
-board-planned-board-one κs a r t s u = agree
-
 pub board-stand-alone-one : (κs : _) (a : _) (r t : _) (s u : _) → board-stand-alone.Learnt κs a r s → board-stand-alone.Learnt κs a t u → r ≡ t
 board-stand-alone-one κs a r t s u = agree
 
 pub board-host-one : (κs : _) (a : _) (r t : _) (s u : _) → board-host.Learnt κs a r s → board-host.Learnt κs a t u → r ≡ t
 board-host-one κs a r t s u = agree
 
+pub board-garden-plan-one : (κs : _) (a : _) (r t : _) (s u : _) → board-garden-plan.Learnt κs a r s → board-garden-plan.Learnt κs a t u → r ≡ t
+board-garden-plan-one κs a r t s u = agree
+
 pub board-is-host-one : (κs : _) (a : _) (r t : _) (s u : _) → board-is-host.Learnt κs a r s → board-is-host.Learnt κs a t u → r ≡ t
 board-is-host-one κs a r t s u = agree
+
+pub board-is-garden-one : (κs : _) (a : _) (r t : _) (s u : _) → board-is-garden.Learnt κs a r s → board-is-garden.Learnt κs a t u → r ≡ t
+board-is-garden-one κs a r t s u = agree
 
 pub board-may-dsg-one : (κs : _) (a : _) (r t : _) (s u : _) → board-may-dsg.Learnt κs a r s → board-may-dsg.Learnt κs a t u → r ≡ t
 board-may-dsg-one κs a r t s u = agree

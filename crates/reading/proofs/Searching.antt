@@ -15,7 +15,7 @@ use Rattle.lists.proofs.Split.{split, both}
 use Rattle.walks.proofs.Sought.{within, sought}
 use Rattle.lists.specs.Marks.{marked, marks, lowest}
 use Rattle.board.specs.declared.Board.{Board}
-use Rattle.board.specs.Sample.{badBoard}
+use Rattle.board.specs.Sample.{planIn, badBoard}
 use Rattle.reading.specs.declared.Place.{Place}
 use Rattle.reading.specs.Reading.{summaryOf, place, firstFlagged}
 use Rattle.reading.specs.Way.{placeAt, firstOn, firstFrom}
@@ -62,7 +62,7 @@ unfolding firstFrom firstFlagged every summaryOf
 row-first i [] r good = refl
 row-first i (b ∷ row) r good =
     let parts = both (not (badBoard b)) (every (λ b. not (badBoard b)) row) good in
-    let few = good-plan (record { kind = b .kind; cells = b .count }) (parts .0) .2 in
+    let few = good-plan (planIn b) (parts .0) in
     board-first b i 0 (b .count) (firstFrom (i + 1) row) (omega arith) (omega (arith, few)) ∙ rw (div-one (b .flags), row-first (i + 1) row (omega arith) (parts .1))
 
 pub first-good : (row : List Board) → length row ≤ 16 → every (λ b. not (badBoard b)) row ≡ true → firstFrom 0 row ≡ firstFlagged 1 (map summaryOf row)

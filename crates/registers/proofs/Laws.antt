@@ -12,6 +12,7 @@ use Rattle.refusal.specs.Said.{Bar, bar, accepts, refuses, first, judged, unles
 use Rattle.settings.specs.Bytes.{same}
 use Rattle.settings.specs.Levels.{crossed}
 use Rattle.board.specs.declared.Board.{Board}
+use Rattle.board.specs.Plan.{isGarden}
 use Rattle.frame.specs.declared.Request.{Request}
 use Rattle.frame.specs.declared.Verdict.the-variants as verdict
 use Rattle.frame.specs.Frame.{writes}
@@ -20,25 +21,25 @@ use Rattle.registers.specs.Map.{noRegister, fits, readValue}
 use Rattle.registers.specs.Registers.{shownOf, programs, staging, spent, lacksCycle, accessBars, boardAfter, replyValue, obeyedOf}
 use Rattle.registers.specs.Way.{gives, denies}
 
--- a write to register 11 of the value that programs
-module _ (b : Board) (address : ℕ) (write : writes address ≡ true) where
+-- a write to register 11 of the value that programs, on a board that has settings
+module _ (b : Board) (settled : isGarden (b .kind) ≡ false) (address : ℕ) (write : writes address ≡ true) where
   abbrev programming : Request
   programming = record { address = address; register = 11; value = 0x41 }
 
   -- crossed levels are refused, whatever the cycles, and the board stays
   pub crossed-refused : crossed (b .staged) ≡ true → obeyedOf b programming ≡ record { board = b; outcome = denies LevelsCrossed }
   unfolding obeyedOf boardAfter
-  crossed-refused cross = rw (write, cross)
+  crossed-refused cross = rw (write, settled, cross)
 
   -- with equal settings it gives the very board back and is accepted, whatever the cycles
   pub equal-programming : crossed (b .staged) ≡ false → same (b .staged) (b .working) ≡ true → obeyedOf b programming ≡ record { board = b; outcome = gives (b .cycles) }
   unfolding obeyedOf boardAfter
-  equal-programming fine equal = rw (write, fine, equal)
+  equal-programming fine equal = rw (write, settled, fine, equal)
 
   -- with unlike settings and a free cycle it spends one
   pub spending : crossed (b .staged) ≡ false → same (b .staged) (b .working) ≡ false → leb 3 (b .cycles) ≡ false → obeyedOf b programming ≡ record { board = spent b; outcome = gives (b .cycles + 1) }
   unfolding obeyedOf boardAfter spent
-  spending fine unlike free = rw (write, fine, unlike, free)
+  spending fine unlike free = rw (write, settled, fine, unlike, free)
 
 -- a spent cycle counts one, and what was staged works
 pub spent-counts : (b : Board) → spent b .cycles ≡ b .cycles + 1
@@ -78,4 +79,4 @@ pub obeyed-said : (b : Board) (asked : Request)
 unfolding obeyedOf
 obeyed-said b asked =
     let write = writes (asked .address) in
-    said (noRegister (b .kind) write (asked .register)) (not (fits (b .kind) write (asked .register) (asked .value))) (programs write (asked .register) && crossed (b .staged)) (programs write (asked .register) && lacksCycle b) _
+    said (noRegister (b .kind) write (asked .register)) (not (fits write (asked .register) (asked .value))) (programs write (asked .register) && crossed (b .staged)) (programs write (asked .register) && lacksCycle b) _

@@ -1,17 +1,16 @@
--- The register map by ranges, as the code asks it: registers 6 to 11 are there to be read and written, and of them 6 to 10 are the settings'; register 1 is a host board's.
+-- The register map by ranges, as the code asks it: registers 6 to 11 are there to be read and written but on a garden board, and of them 6 to 10 are the settings'; register 1 is a host board's.
 -- Assumes nothing.
 use Prim.Native.Nat.{ℕ, _<_, _≤_}
 use native.Mathlib.Omega.{arith}
 use mathlib.Core.Path.{_≡_, refl}
 use mathlib.Core.Logic.{_≢_}
-use mathlib.Core.Bool.{Bool, true, false, cond, not, _||_, _&&_}
-use mathlib.Core.List.{List, [], _∷_}
-use lib.Dec.{eqb, ltb}
+use mathlib.Core.Bool.{Bool, true, false, cond, not, _||_}
+use lib.Dec.{eqb}
 use borrow.Author.Tests.{ne-eqb, eqb-true, eqb-false}
 use Rattle.settings.specs.Bytes.{byteOf, allowed}
-use Rattle.board.specs.Plan.{isHost}
+use Rattle.board.specs.Plan.{isHost, isGarden}
 use Rattle.lists.proofs.Split.{split}
-use Rattle.registers.specs.Map.{Shown, Register, registerMap, inMap, noRegister, fits, readValue}
+use Rattle.registers.specs.Map.{Shown, Register, registerMap, inMap, noRegister, readValue}
 
 -- none but these
 pub outside : (k : ℕ) (w : Bool) (r : ℕ) → r ≢ 0 → r ≢ 1 → r ≢ 6 → r ≢ 7 → r ≢ 8 → r ≢ 9 → r ≢ 10 → r ≢ 11 → noRegister k w r ≡ true
@@ -28,25 +27,39 @@ above k w r high = outside k w r (λ e. omega (arith, high, e)) (λ e. omega (ar
 pub control-there : (k : ℕ) (w : Bool) → noRegister k w 1 ≡ not (isHost k)
 control-there k w = split (isHost k) (λ e. rw e) (λ e. rw e)
 
--- one of the six: where all but the last are ruled out, it is the last
-pub between : (k : ℕ) (w : Bool) (r : ℕ) → 6 ≤ r → r ≤ 11 → noRegister k w r ≡ false
+-- and the six that a garden board has not: where all but the last are ruled out, it is the last
+has-not : (t : Bool) → (not (not t) || false) ≡ t
+has-not true = refl
+has-not false = refl
+
+pub between : (k : ℕ) (w : Bool) (r : ℕ) → 6 ≤ r → r ≤ 11 → noRegister k w r ≡ isGarden k
 between k w r low high = by (eqb r 6) (eqb r 7) (eqb r 8) (eqb r 9) (eqb r 10) refl refl refl refl refl
   where
-    by : (t6 t7 t8 t9 t10 : Bool) → eqb r 6 ≡ t6 → eqb r 7 ≡ t7 → eqb r 8 ≡ t8 → eqb r 9 ≡ t9 → eqb r 10 ≡ t10 → noRegister k w r ≡ false
-    by true t7 t8 t9 t10 e6 e7 e8 e9 e10 = rw (eqb-true r 6 e6)
-    by false true t8 t9 t10 e6 e7 e8 e9 e10 = rw (eqb-true r 7 e7)
-    by false false true t9 t10 e6 e7 e8 e9 e10 = rw (eqb-true r 8 e8)
-    by false false false true t10 e6 e7 e8 e9 e10 = rw (eqb-true r 9 e9)
-    by false false false false true e6 e7 e8 e9 e10 = rw (eqb-true r 10 e10)
+    by : (t6 t7 t8 t9 t10 : Bool) → eqb r 6 ≡ t6 → eqb r 7 ≡ t7 → eqb r 8 ≡ t8 → eqb r 9 ≡ t9 → eqb r 10 ≡ t10 → noRegister k w r ≡ isGarden k
+    by true t7 t8 t9 t10 e6 e7 e8 e9 e10 = rw (eqb-true r 6 e6) (has-not (isGarden k))
+    by false true t8 t9 t10 e6 e7 e8 e9 e10 = rw (eqb-true r 7 e7) (has-not (isGarden k))
+    by false false true t9 t10 e6 e7 e8 e9 e10 = rw (eqb-true r 8 e8) (has-not (isGarden k))
+    by false false false true t10 e6 e7 e8 e9 e10 = rw (eqb-true r 9 e9) (has-not (isGarden k))
+    by false false false false true e6 e7 e8 e9 e10 = rw (eqb-true r 10 e10) (has-not (isGarden k))
     by false false false false false e6 e7 e8 e9 e10 =
         let last : r ≡ 11 = omega (arith, low, high, eqb-false r 6 e6, eqb-false r 7 e7, eqb-false r 8 e8, eqb-false r 9 e9, eqb-false r 10 e10) in
-        rw last
+        rw last (has-not (isGarden k))
+
+-- and no write at all: whichever row it is
+some-row : (t is : Bool) → is ≡ true → cond t true is ≡ true
+some-row true is e = refl
+some-row false is e = e
+
+pub no-writes : (k r : ℕ) → isGarden k ≡ true → noRegister k true r ≡ true
+no-writes k r g =
+    rw (eqb-true k 2 g)
+    (some-row (eqb r 0) _ (some-row (eqb r 1) _ (some-row (eqb r 6) _ (some-row (eqb r 7) _ (some-row (eqb r 8) _ (some-row (eqb r 9) _ (some-row (eqb r 10) _ (some-row (eqb r 11) true refl))))))))
 
 -- what a register takes but for 1 and 11: the settings' own rule, which takes nothing for any other
-pub takes-setting : (k r v : ℕ) → eqb r 1 ≡ false → eqb r 11 ≡ false → inMap k registerMap r false (λ (x : Register). x .takes v) ≡ allowed r v
-takes-setting k r v e1 e11 = by (eqb r 0) (eqb r 6) (eqb r 7) (eqb r 8) (eqb r 9) (eqb r 10) refl refl refl refl refl refl
+pub takes-setting : (r v : ℕ) → eqb r 1 ≡ false → eqb r 11 ≡ false → inMap registerMap r false (λ (x : Register). x .takes v) ≡ allowed r v
+takes-setting r v e1 e11 = by (eqb r 0) (eqb r 6) (eqb r 7) (eqb r 8) (eqb r 9) (eqb r 10) refl refl refl refl refl refl
   where
-    by : (t0 t6 t7 t8 t9 t10 : Bool) → eqb r 0 ≡ t0 → eqb r 6 ≡ t6 → eqb r 7 ≡ t7 → eqb r 8 ≡ t8 → eqb r 9 ≡ t9 → eqb r 10 ≡ t10 → inMap k registerMap r false (λ (x : Register). x .takes v) ≡ allowed r v
+    by : (t0 t6 t7 t8 t9 t10 : Bool) → eqb r 0 ≡ t0 → eqb r 6 ≡ t6 → eqb r 7 ≡ t7 → eqb r 8 ≡ t8 → eqb r 9 ≡ t9 → eqb r 10 ≡ t10 → inMap registerMap r false (λ (x : Register). x .takes v) ≡ allowed r v
     by true t6 t7 t8 t9 t10 e0 e6 e7 e8 e9 e10 = rw (eqb-true r 0 e0)
     by false true t7 t8 t9 t10 e0 e6 e7 e8 e9 e10 = rw (eqb-true r 6 e6)
     by false false true t8 t9 t10 e0 e6 e7 e8 e9 e10 = rw (eqb-true r 7 e7)
@@ -55,27 +68,6 @@ takes-setting k r v e1 e11 = by (eqb r 0) (eqb r 6) (eqb r 7) (eqb r 8) (eqb r 9
     by false false false false false true e0 e6 e7 e8 e9 e10 = rw (eqb-true r 10 e10)
     by false false false false false false e0 e6 e7 e8 e9 e10 = rw (e0, e1, e6, e7, e8, e9, e10, e11)
 
--- and register 1: a value below 8, on a host board
-pub takes-control : (k v : ℕ) → inMap k registerMap 1 false (λ (x : Register). x .takes v) ≡ (isHost k && ltb v 8)
-takes-control k v = split (isHost k) (λ e. rw e) (λ e. rw e)
-
 -- a read but for 0, 1 and 11: a working byte, or 0
 pub read-setting : (x : Shown) (r : ℕ) → eqb r 0 ≡ false → eqb r 1 ≡ false → eqb r 11 ≡ false → readValue x r ≡ byteOf (x .working) r
 read-setting x r e0 e1 e11 = rw (e0, e1, e11)
-
--- what takes a value is there to be written: of a write, not to fit says it all. Row by row: one that is not to be written takes nothing
-module _ (k r v : ℕ) where
-  abbrev Fine : List Register → Type 0
-  Fine [] = Unit {0}
-  Fine (x ∷ rows) = (((not (x .written) && true) || not (x .takes v)) ≡ not (x .takes v)) × Fine rows
-
-  bars-rows : (rows : List Register) → Fine rows
-      → (inMap k rows r true (λ x. not (x .written) && true) || not (inMap k rows r false (λ x. x .takes v))) ≡ not (inMap k rows r false (λ x. x .takes v))
-  bars-rows [] fine = refl
-  bars-rows (x ∷ rows) fine =
-      split (eqb r (x .number))
-      (λ e. rw e (split (x .on k) (λ o. rw o (fine .0)) (λ o. rw o)))
-      (λ e. rw e (bars-rows rows (fine .1)))
-
-  pub bars-write : (noRegister k true r || not (fits k true r v)) ≡ not (fits k true r v)
-  bars-write = bars-rows registerMap (refl, (refl, (refl, (refl, (refl, (refl, (refl, (refl, tt))))))))

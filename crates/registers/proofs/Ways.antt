@@ -1,8 +1,8 @@
 -- The ways of a frame come to what the paper's table gives.
 -- Assumes nothing.
 use Prim.Native.Nat.{ℕ}
-use mathlib.Core.Path.{_≡_, refl, ap, sym, _∙_}
-use mathlib.Core.Bool.{Bool, true, false, true≢false, cond, not}
+use mathlib.Core.Path.{_≡_, refl, ap, sym}
+use mathlib.Core.Bool.{Bool, true, false, true≢false, not}
 use lib.Dec.{leb, eqb, T as Holds}
 use borrow.Author.Tests.{leb-false, lt-ltb, eqb-true}
 use Rattle.walks.proofs.Walk.{is-true, is-false}
@@ -24,15 +24,15 @@ module _ (b : Board) (address register v : ℕ) where
   -- by what each condition of the table comes to
   parts-ways : obeyedOf b asks ≡ waysOf b asks
   unfolding obeyedOf boardAfter steeredBy stagedBy spentBy spent lookOf programmedBy carriedOut
-  parts-ways = by (writes address) (noRegister (b .kind) (writes address) register) (fits (b .kind) (writes address) register v) (eqb register 11) (eqb register 1) (isHost (b .kind)) (crossed (b .staged)) (same (b .staged) (b .working)) (leb 3 (b .cycles)) refl refl refl refl refl refl refl refl refl
+  parts-ways = by (writes address) (noRegister (b .kind) (writes address) register) (fits (writes address) register v) (eqb register 11) (eqb register 1) (isHost (b .kind)) (crossed (b .staged)) (same (b .staged) (b .working)) (leb 3 (b .cycles)) refl refl refl refl refl refl refl refl refl
     where
-      by : (w x y p q k c s f : Bool) → writes address ≡ w → noRegister (b .kind) (writes address) register ≡ x → fits (b .kind) (writes address) register v ≡ y → eqb register 11 ≡ p → eqb register 1 ≡ q → isHost (b .kind) ≡ k → crossed (b .staged) ≡ c → same (b .staged) (b .working) ≡ s → leb 3 (b .cycles) ≡ f
+      by : (w x y p q k c s f : Bool) → writes address ≡ w → noRegister (b .kind) (writes address) register ≡ x → fits (writes address) register v ≡ y → eqb register 11 ≡ p → eqb register 1 ≡ q → isHost (b .kind) ≡ k → crossed (b .staged) ≡ c → same (b .staged) (b .working) ≡ s → leb 3 (b .cycles) ≡ f
           → obeyedOf b asks ≡ waysOf b asks
       by w true y p q k c s f ew ex ey ep eq ek ec es ef = rw ex
       by w false false p q k c s f ew ex ey ep eq ek ec es ef = rw (ex, ey)
       by false false true p q k c s f ew ex ey ep eq ek ec es ef = rw (ex, ey, ew)
       by true false true false true true c s f ew ex ey ep eq ek ec es ef = rw (ex, ey, ew, ep, eq, ek)
-      by true false true false true false c s f ew ex ey ep eq ek ec es ef = absurd (true≢false (sym ey ∙ rw (ew, eqb-true register 1 eq, ek)))
+      by true false true false true false c s f ew ex ey ep eq ek ec es ef = absurd (true≢false (rw (ew, eqb-true register 1 eq, ek) at ex))
       by true false true false false true c s f ew ex ey ep eq ek ec es ef = rw (ex, ey, ew, ep, eq, ek)
       by true false true false false false c s f ew ex ey ep eq ek ec es ef = rw (ex, ey, ew, ep, eq, ek)
       by true false true true q k true s f ew ex ey ep eq ek ec es ef = rw (ex, ey, ew, ep, ec)

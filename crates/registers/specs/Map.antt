@@ -1,17 +1,16 @@
--- The register map of a board (01, Frames and registers; 02, ticket 3): one row for each register that there is.
+-- The register map of a board (01, Frames and registers; 02, tickets 3 and 5): one row for each register that there is.
 -- Assumes nothing.
 use Prim.Native.Nat.{ℕ}
-use mathlib.Core.Bool.{Bool, true, false, cond, not, _&&_}
+use mathlib.Core.Bool.{Bool, true, false, cond, not, _&&_, _||_}
 use mathlib.Core.List.{List, [], _∷_}
 use lib.Dec.{eqb}
 use Rattle.lists.specs.Compare.{_below_}
 use Rattle.settings.specs.declared.Settings.{Settings}
 use Rattle.settings.specs.Bytes.{byteOf, allowed}
-use Rattle.board.specs.Plan.{isHost}
+use Rattle.board.specs.Plan.{isHost, isGarden}
 
--- what the registers of a board of a kind show: the status, register 1, the working settings and the cycles spent
+-- what the registers of a board show: the status, register 1, the working settings and the cycles spent
 pub record Shown : Type 0 where
-  pub kind : ℕ
   pub status : ℕ
   pub control : ℕ
   pub working : Settings
@@ -28,9 +27,13 @@ pub record Register : Type 0 where
 abbrev pub everyKind : ℕ → Bool
 everyKind kind = true
 
+-- a garden board has no settings
+abbrev pub withSettings : ℕ → Bool
+withSettings kind = not (isGarden kind)
+
 -- a settings byte has its own rule of what may be written; a read gives the working one
 abbrev pub setting : ℕ → Register
-setting n = record { number = n; on = everyKind; written = true; takes = allowed n; gives = λ x. byteOf (x .working) n }
+setting n = record { number = n; on = withSettings; written = true; takes = allowed n; gives = λ x. byteOf (x .working) n }
 
 abbrev pub registerMap : List Register
 registerMap =
@@ -41,22 +44,22 @@ registerMap =
     ∷ setting 8
     ∷ setting 9
     ∷ setting 10
-    ∷ record { number = 11; on = everyKind; written = true; takes = λ v. eqb v 0x41; gives = λ x. x .cycles }
+    ∷ record { number = 11; on = withSettings; written = true; takes = λ v. eqb v 0x41; gives = λ x. x .cycles }
     ∷ []
 
--- what the row of a register says of it on a board of a kind, or what is said of a register that is not there
-abbrev pub inMap : {A : Type 0} → ℕ → List Register → ℕ → A → (Register → A) → A
-inMap kind [] register none says = none
-inMap kind (r ∷ rows) register none says = cond (eqb register (r .number)) (cond (r .on kind) (says r) none) (inMap kind rows register none says)
+-- what the row of a register says of it, or what is said of a register that is in no row
+abbrev pub inMap : {A : Type 0} → List Register → ℕ → A → (Register → A) → A
+inMap [] register none says = none
+inMap (r ∷ rows) register none says = cond (eqb register (r .number)) (says r) (inMap rows register none says)
 
--- refusal 9: the register is not there, or not to be written
+-- refusal 9: a board of this kind has no such register, or it is not to be written
 abbrev pub noRegister : ℕ → Bool → ℕ → Bool
-noRegister kind writes register = inMap kind registerMap register true (λ r. not (r .written) && writes)
+noRegister kind writes register = inMap registerMap register true (λ r. not (r .on kind) || (not (r .written) && writes))
 
--- refusal 10, where it does not: a read carries 0, a write what its register takes
-abbrev pub fits : ℕ → Bool → ℕ → ℕ → Bool
-fits kind writes register v = cond writes (inMap kind registerMap register false (λ r. r .takes v)) (eqb v 0)
+-- refusal 10, where it has: a read carries 0, a write what its register takes
+abbrev pub fits : Bool → ℕ → ℕ → Bool
+fits writes register v = cond writes (inMap registerMap register false (λ r. r .takes v)) (eqb v 0)
 
--- what a read gives
+-- what a read of a register that it has gives
 abbrev pub readValue : Shown → ℕ → ℕ
-readValue x register = inMap (x .kind) registerMap register 0 (λ r. r .gives x)
+readValue x register = inMap registerMap register 0 (λ r. r .gives x)

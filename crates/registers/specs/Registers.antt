@@ -1,5 +1,5 @@
 -- A frame to one board: the table's refusals once the board is known, what it does and what it gives
--- (01, Frames and registers; Refusal numbers 9, 10, 11; 02, tickets 1 and 3).
+-- (01, Frames and registers; Refusal numbers 9, 10, 11; 02, tickets 1, 3 and 5).
 -- Assumes nothing.
 use Prim.Native.Nat.{ℕ, _+_}
 use mathlib.Core.Bool.{Bool, cond, not, _&&_}
@@ -23,7 +23,6 @@ use Rattle.registers.specs.Map.{Shown, noRegister, fits, readValue}
 abbrev pub shownOf : Board → Shown
 shownOf b =
     record {
-      kind = b .kind;
       status = statusBy (b .kind) (b .control) (latchesOf (b .latches));
       control = b .control;
       working = b .working;
@@ -57,6 +56,7 @@ steered b v =
       cells = b .cells;
       last = b .last;
       control = v;
+      garden = b .garden;
     }
 
 -- a write to registers 6 to 10: the staged byte, and nothing else
@@ -74,6 +74,7 @@ staging b register v =
       cells = b .cells;
       last = b .last;
       control = b .control;
+      garden = b .garden;
     }
 
 -- a cycle is spent, the count is then so many: staged becomes working and every run starts over; latches, flags, register 1 and the last sample stay
@@ -91,6 +92,7 @@ spentTo cycles b =
       cells = noCells;
       last = b .last;
       control = b .control;
+      garden = b .garden;
     }
 
 unfoldable pub spent : Board → Board
@@ -108,7 +110,7 @@ lacksCycle b = not (same (b .staged) (b .working)) && leb 3 (b .cycles)
 abbrev pub accessBars : Board → Bool → ℕ → ℕ → List Bar
 accessBars b writes register v =
     bar 9 (noRegister (b .kind) writes register)
-    ∷ bar 10 (not (fits (b .kind) writes register v))
+    ∷ bar 10 (not (fits writes register v))
     ∷ bar 13 (programs writes register && crossed (b .staged))
     ∷ bar 11 (programs writes register && lacksCycle b)
     ∷ []

@@ -29,7 +29,7 @@ denies why = record { verdict = verdict.Refused why; value = 0 }
 abbrev pub barred : Board → Request → Bool
 barred b asked =
     let write = writes (asked .address) in
-    noRegister (b .kind) write (asked .register) || not (fits (b .kind) write (asked .register) (asked .value))
+    noRegister (b .kind) write (asked .register) || not (fits write (asked .register) (asked .value))
 
 abbrev pub barOf : Board → Request → Outcome
 barOf b asked = denies (cond (noRegister (b .kind) (writes (asked .address)) (asked .register)) NoRegister BadValue)

@@ -1,4 +1,4 @@
-// The register map of one board, and what a frame does to its record (01, Frames and registers; 02, tickets 1 and 3).
+// The register map of one board, and what a frame does to its record (01, Frames and registers; 02, tickets 1, 3 and 5).
 ghost use mathlib.Core.Path.{_≡_};
 ghost use Rattle.frame.specs.Frame.{writes};
 ghost use Rattle.registers.specs.Map.{noRegister, fits, readValue};
@@ -60,7 +60,7 @@ fn no_register(kind: u8, writes: bool, register: u8) -> bool
     match register {
         0 => writes,
         1 => !board::is_host(kind),
-        6..=11 => false,
+        6..=11 => board::is_garden(kind),
         _ => true,
     }
 }
@@ -69,26 +69,19 @@ fn no_register(kind: u8, writes: bool, register: u8) -> bool
 const KEY: u8 = 0x41;
 
 // A read carries 0, a write what its register takes.
-fn value_fits(kind: u8, writes: bool, register: u8, value: u8) -> bool
-    ensures { λ r. ⌜ r ≡ fits kind writes register value ⌝ }
+fn value_fits(writes: bool, register: u8, value: u8) -> bool
+    ensures { λ r. ⌜ r ≡ fits writes register value ⌝ }
 {
     if writes {
         if register == 11 {
             return value == KEY;
         }
         if register == 1 {
-            return board::is_host(kind) & (value < 8);
+            return value < 8;
         }
         return Settings::allows(register, value);
     }
     value == 0
-}
-
-// Register 1 as it is read; a stand-alone board has none.
-fn control_read(b: Board) -> u8
-    ensures { λ r. ⌜ r ≡ readValue (shownOf b) 1 ⌝ }
-{
-    if board::is_host(b.kind) { b.control } else { 0 }
 }
 
 // A read of the settings gives the working bytes, so that a worn memory shows.
@@ -97,7 +90,7 @@ fn read(b: Board, register: u8) -> u8
 {
     match register {
         0 => board::status_by(b.kind, b.control, b.latches),
-        1 => control_read(b),
+        1 => b.control,
         11 => b.cycles,
         _ => b.working.byte(register),
     }
@@ -105,16 +98,13 @@ fn read(b: Board, register: u8) -> u8
 
 // ---- which way a frame goes, in the table's order
 
-// Refusals 9 and 10, which the frame and the board's kind decide. What takes a value is there to be written.
+// Refusals 9 and 10, which the frame and the board's kind decide.
 fn barred(b: Board, asked: Request) -> bool
     ensures { λ r. ⌜ r ≡ barred b asked ⌝ }
 {
     let writes = is_write(asked.address);
-    let fits = value_fits(b.kind, writes, asked.register, asked.value);
-    if writes {
-        return !fits;
-    }
-    no_register(b.kind, false, asked.register) | !fits
+    let fits = value_fits(writes, asked.register, asked.value);
+    no_register(b.kind, writes, asked.register) | !fits
 }
 
 fn bar_of(b: Board, asked: Request) -> Outcome

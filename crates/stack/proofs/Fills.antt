@@ -12,14 +12,11 @@ use lib.Seq.{take-all, drop-length, drop-cons, take-suc-set, append-snoc}
 use borrow.Author.Tests.{ltb-true, lt-ltb, le-ltb, eqb-true}
 use Rattle.lists.specs.Every.{every}
 use Rattle.lists.proofs.Split.{split, both}
-use Rattle.lists.proofs.Every.{every-at}
 use Rattle.board.specs.declared.Board.{Board}
 use Rattle.board.specs.Plan.{badPlan, planOf, standAlone}
 use Rattle.board.specs.Sample.{fresh}
-use Rattle.board.specs.Way.{plannedOf}
 use Rattle.stack.specs.Row.{badCount, boardAt}
 use Rattle.stack.specs.Open.{goodPlans, openAnswer, openRow, countPlans, openCountsAnswer, openCountsRow}
-use Rattle.board.proofs.Counts.{good-plan}
 use Rattle.stack.specs.declared.Progress.{Progress}
 use Rattle.stack.specs.Way.{fillFrom, refusedFill, startOf, more, left, placedOf, fillAt, fillRowAt, turnsEnd, turnsRow, fillEnd, fillRow, openingBy, plainCounts, noOpening}
 
@@ -69,11 +66,7 @@ module _ (row : List Board) (x : Progress) (plans : List ℕ) where
         rw (one-less e, e) (next-is (λ y. turnsRow (left y) next y plans ≡ turnsRow m next y plans) refl (sym (row-stops m next refusedFill plans refl))),
       )
 
--- a good plan is of a board as it starts
-module _ (plans : List ℕ) (good : goodPlans plans ≡ true) where
-  starts : (i : ℕ) → i < length plans → plannedOf (getD plans i 0) ≡ fresh (getD plans i 0)
-  starts i p = let kind = good-plan (planOf (getD plans i 0)) (every-at (λ plan. not (badPlan (planOf plan))) plans i 0 good p) .0 in rw (lt-ltb (getD plans i 0) 65536 (omega (arith, kind)))
-
+module _ (plans : List ℕ) where
   -- one turn within the row
   module _ (row : List Board) (same : length row ≡ length plans) (i : ℕ) (p : i < length plans) where
     put-next : fillAt row (fillFrom i (length plans) false) plans ≡ fillFrom (i + 1) (length plans) false
@@ -82,7 +75,7 @@ module _ (plans : List ℕ) (good : goodPlans plans ≡ true) where
 
     put-row : fillRowAt row (fillFrom i (length plans) false) plans ≡ set row i (fresh (getD plans i 0))
     unfolding fillRowAt placedOf
-    put-row = rw (same, lt-ltb i (length plans) p, starts i p)
+    put-row = rw (same, lt-ltb i (length plans) p)
 
     row-next : take (suc i) (set row i (fresh (getD plans i 0))) ++ map fresh (drop (suc i) plans) ≡ take i row ++ map fresh (drop i plans)
     row-next = rw (take-suc-set row i (fresh (getD plans i 0)) (rw same p), drop-cons plans i 0 p) (append-snoc (take i row) (fresh (getD plans i 0)) (map fresh (drop (suc i) plans)))
@@ -121,7 +114,7 @@ opens row plans =
     let ok = three-false (eqb (length plans) (length row)) (badCount (length plans)) (goodPlans plans) e in
     let same = sym (eqb-true (length plans) (length row) (ok .0)) in
     let whole : 0 + (length plans - 0) ≡ length plans = omega arith in
-    (rw (e, same, all-end plans (ok .1) (length plans - 0) 0 row same whole), rw (e, same) (all-row plans (ok .1) (length plans - 0) 0 row same whole)))
+    (rw (e, same, all-end plans (length plans - 0) 0 row same whole), rw (e, same) (all-row plans (length plans - 0) 0 row same whole)))
 
 -- ---- an opening from counts: counts below 256 are their plans, and any other is none that can be opened
 pub plain-are : (counts : List ℕ) → plainCounts counts ≡ true → countPlans counts ≡ counts

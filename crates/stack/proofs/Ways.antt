@@ -1,6 +1,6 @@
 -- The routines go by the record at a place in a row that was found good, and the paper by its table: the two are the same.
 -- Assumes nothing.
-use Prim.Native.Nat.{ℕ, zero, suc, _+_, _-_, _<_, _≤_}
+use Prim.Native.Nat.{ℕ, zero, suc, _<_, _≤_}
 use native.Mathlib.Omega.{arith}
 use mathlib.Core.Path.{_≡_, refl, ap, _∙_}
 use mathlib.Core.Bool.{Bool, true, false, cond, not}
@@ -12,16 +12,14 @@ use borrow.Author.Tests.{lt-ltb, le-ltb, ltb-true, ltb-false, ne-eqb}
 use Rattle.lists.specs.Every.{every}
 use Rattle.lists.proofs.Split.{split, both, not-yes}
 use Rattle.lists.proofs.Every.{every-at}
-use Rattle.refusal.specs.declared.Refusal.{Refusal}
 use Rattle.refusal.specs.declared.Refusal.the-variants.{Malformed}
 use Rattle.refusal.specs.Refusals.{numbered}
 use Rattle.refusal.specs.Said.{first, accepts, refuses}
 use Rattle.board.specs.declared.Board.{Board}
 use Rattle.board.specs.declared.Readings.{Readings}
-use Rattle.board.specs.Sample.{fresh, badBoard, readingBars, boardNext, sampleOf}
+use Rattle.board.specs.Sample.{fresh, planIn, badBoard, readingBars, boardNext, sampleOf}
 use Rattle.frame.specs.declared.Taken.{Taken}
 use Rattle.frame.specs.declared.Reply.{Reply}
-use Rattle.frame.specs.declared.Reply.the-variants.{Refused}
 use Rattle.frame.specs.Frame.{byte, boardOf, writes}
 use Rattle.frame.specs.Check.{checkOf}
 use Rattle.frame.specs.Reply.{replyBytes, replySaying}
@@ -51,7 +49,7 @@ module _ (row : List Board) (good : goodRow row ≡ true) where
       not-yes (badBoard (boardAt row at)) (every-at (λ b. not (badBoard b)) row at (fresh 0) (both (not (badCount (length row))) (every (λ b. not (badBoard b)) row) good .1) p)
 
   pub board-few : (at : ℕ) → at < length row → boardAt row at .count ≤ 10
-  board-few at p = let b = boardAt row at in good-plan (record { kind = b .kind; cells = b .count }) (ap not (board-good at p)) .2
+  board-few at p = let b = boardAt row at in good-plan (planIn b) (ap not (board-good at p))
 
   place-next : (k : ℕ) → placeOf (suc k) ≡ k
   place-next k = rw (ne-eqb (suc k) 0 (λ e. omega arith)) (omega arith)

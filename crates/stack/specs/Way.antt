@@ -14,7 +14,7 @@ use Rattle.board.specs.declared.Readings.{Readings}
 use Rattle.board.specs.declared.Answer.{Answer}
 use Rattle.board.specs.declared.Answer.the-variants as answer
 use Rattle.board.specs.Sample.{sampleOf}
-use Rattle.board.specs.Way.{plannedOf}
+use Rattle.board.specs.Sample.{fresh}
 use Rattle.frame.specs.declared.Taken.{Taken}
 use Rattle.frame.specs.declared.Request.{Request}
 use Rattle.frame.specs.declared.Reply.{Reply}
@@ -52,7 +52,7 @@ left x = x .many - x .at
 unfoldable pub placedOf : Board → Progress → List ℕ → Placed
 placedOf b x plans =
     cond (ltb (x .at) (length plans))
-    (record { board = plannedOf (getD plans (x .at) 0); next = fillFrom (x .at + 1) (x .many) (x .refused) })
+    (record { board = fresh (getD plans (x .at) 0); next = fillFrom (x .at + 1) (x .many) (x .refused) })
     (record { board = b; next = refusedFill })
 
 unfoldable pub fillAt : List Board → Progress → List ℕ → Progress

@@ -138,7 +138,7 @@ fn put(b: Board, x: Progress, plans: &[u32]) -> Placed
 {
     let at = x.at;
     if at < plans.len() {
-        let board = board::planned_board(plans[at]);
+        let board = board::fresh_board(plans[at]);
         let next = Progress {
             at: at + 1,
             many: x.many,

@@ -73,7 +73,7 @@ fn show_reading(s: Stack) {
 
 // A stack of one board by its plan.
 fn one_board(plan: u32) -> Stack {
-    let board = board::planned_board(plan);
+    let board = board::fresh_board(plan);
     let boards = [board; 16];
     Stack {
         boards: boards,

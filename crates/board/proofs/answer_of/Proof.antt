@@ -11,6 +11,9 @@ enum-told c = search needs
 enum-told-2 : tie.Need-enum-told-2
 enum-told-2 c = search needs
 
+enum-told-3 : tie.Need-enum-told-3
+enum-told-3 c = search needs
+
 returns : tie.Need-returns
 returns c = rw (c .before .found .given .1)
 
@@ -20,6 +23,17 @@ returns-2 c = rw (c .enum-told .given .1)
 returns-3 : tie.Need-returns-3
 returns-3 c = rw (c .enum-told2 .given .1)
 
+returns-4 : tie.Need-returns-4
+returns-4 c = rw (c .enum-told3 .given .1)
+
 pub answer-of-spec : {M : Type 1} → statement M
 answer-of-spec =
-    tie.close (tie.spec enum-known-found enum-told enum-told-2 returns returns-2 returns-3)
+    tie.close (tie.spec
+    enum-known-found
+    enum-told
+    enum-told-2
+    enum-told-3
+    returns
+    returns-2
+    returns-3
+    returns-4)

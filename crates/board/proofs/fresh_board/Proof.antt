@@ -1,20 +1,39 @@
+use native.Mathlib.Omega.{arith}
 use borrow.Author.Needs.{needs}
 use Rattle.board.specs.Sample.{fresh}
 use Rattle.board.proofs.fresh_board.Statement.{statement}
 use Rattle.board.proofs.fresh_board.Tie as tie
 
+cast-kind : tie.Need-cast-kind
+cast-kind c = search needs
+
+first-latches-requires : tie.Need-first-latches-requires
+first-latches-requires c κs = search needs
+
 fresh-cells-requires : tie.Need-fresh-cells-requires
 fresh-cells-requires c κs = search needs
 
-cast-t8 : tie.Need-cast-t8
-cast-t8 c = search needs
+cast-t12 : tie.Need-cast-t12
+cast-t12 c = search needs
 
-cast-t10 : tie.Need-cast-t10
-cast-t10 c = search needs
+cast-t14 : tie.Need-cast-t14
+cast-t14 c = omega arith
+
+cast-t14-2 : tie.Need-cast-t14-2
+cast-t14-2 c = search needs
 
 returns : tie.Need-returns
 unfolding fresh
-returns c = rw (c .fresh-cells .ensures)
+returns c = rw (c .fresh-cells .ensures, c .before .first-latches .ensures)
 
 pub fresh-board-spec : {M : Type 1} → statement M
-fresh-board-spec = tie.close (tie.spec fresh-cells-requires cast-t8 cast-t10 returns)
+fresh-board-spec =
+    tie.close
+    (tie.spec
+    cast-kind
+    first-latches-requires
+    fresh-cells-requires
+    cast-t12
+    cast-t14
+    cast-t14-2
+    returns)

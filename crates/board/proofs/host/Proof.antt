@@ -1,3 +1,4 @@
+use native.Mathlib.Omega.{arith}
 use borrow.Author.Needs.{needs}
 use borrow.Author.Tests.{lt-ltb, le-ltb}
 use Rattle.board.proofs.host.Statement.{statement}
@@ -7,7 +8,7 @@ add-result : tie.Need-add-result
 add-result c = search needs
 
 returns : tie.Need-returns
-returns c = rw (lt-ltb _ _ (c .if1 .taken))
+returns c = rw (lt-ltb _ _ (c .if1 .taken)) (omega arith)
 
 returns-2 : tie.Need-returns-2
 returns-2 c = rw (le-ltb _ _ (c .if1 .left))

@@ -56,17 +56,36 @@ returns-5 c =
     let broken = sym (range-by (a .x) (a .mv .now)) ∙ (rw (c4 .span-of .ensures) at (sym (c .before .out-of-range .ensures) ∙ c .if5 .taken)) in
     rw (← (c8 .before .before .bad-board .ensures), c8 .before .if1 .left, eq-eqb _ _ (c8 .if2 .left), c5 .if3 .left, broken)
 
+is-garden-requires : tie.Need-is-garden-requires
+is-garden-requires c κs = search needs
+
 returns-6 : tie.Need-returns-6
 unfolding lookOf
 returns-6 c =
-    let c3 = c .before .before .before in
-    let c4 = c3 .before in
-    let c5 = c4 .before in
-    let c8 = c5 .before .before .before in
-    let a = c8 .before .before .before .before .args in
-    let kept = sym (range-by (a .x) (a .mv .now)) ∙ (rw (c4 .span-of .ensures) at (sym (c .before .out-of-range .ensures) ∙ c .if5 .left)) in
-    let loud = rw (c4 .span-of .ensures) at (sym (c3 .quiet .ensures) ∙ c .before .before .if4 .left) in
-    rw (c4 .span-of .ensures, ← (c8 .before .before .bad-board .ensures), c8 .before .if1 .left, eq-eqb _ _ (c8 .if2 .left), c5 .if3 .left, kept, loud)
+    let c2 = c .before .before in
+    let c5 = c2 .before .before .before in
+    let c6 = c5 .before in
+    let c7 = c6 .before in
+    let c10 = c7 .before .before .before in
+    let a = c10 .before .before .before .before .args in
+    let kept = sym (range-by (a .x) (a .mv .now)) ∙ (rw (c6 .span-of .ensures) at (sym (c2 .before .out-of-range .ensures) ∙ c2 .if5 .left)) in
+    let loud = rw (c6 .span-of .ensures) at (sym (c5 .quiet .ensures) ∙ c2 .before .before .if4 .left) in
+    let garden = sym (c .before .is-garden .ensures) ∙ c .if6 .taken in
+    rw (c6 .span-of .ensures, ← (c10 .before .before .bad-board .ensures), c10 .before .if1 .left, eq-eqb _ _ (c10 .if2 .left), c7 .if3 .left, kept, loud, garden)
+
+returns-7 : tie.Need-returns-7
+unfolding lookOf
+returns-7 c =
+    let c2 = c .before .before in
+    let c5 = c2 .before .before .before in
+    let c6 = c5 .before in
+    let c7 = c6 .before in
+    let c10 = c7 .before .before .before in
+    let a = c10 .before .before .before .before .args in
+    let kept = sym (range-by (a .x) (a .mv .now)) ∙ (rw (c6 .span-of .ensures) at (sym (c2 .before .out-of-range .ensures) ∙ c2 .if5 .left)) in
+    let loud = rw (c6 .span-of .ensures) at (sym (c5 .quiet .ensures) ∙ c2 .before .before .if4 .left) in
+    let other = sym (c .before .is-garden .ensures) ∙ c .if6 .left in
+    rw (c6 .span-of .ensures, ← (c10 .before .before .bad-board .ensures), c10 .before .if1 .left, eq-eqb _ _ (c10 .if2 .left), c7 .if3 .left, kept, loud, other)
 
 pub look-spec : {M : Type 1} → statement M
 look-spec =
@@ -82,4 +101,6 @@ look-spec =
     returns-4
     out-of-range-requires
     returns-5
-    returns-6)
+    is-garden-requires
+    returns-6
+    returns-7)

@@ -1,4 +1,4 @@
--- `board::sample_board` meets its contract: refused, or quiet, or it may change the board.
+-- `board::sample_board` meets its contract: refused, or quiet, or a garden board's, or it may change the board.
 -- Assumes nothing.
 use mathlib.Core.Path.{refl}
 use mathlib.Core.List.{List, [], _∷_}
@@ -11,15 +11,15 @@ use Rattle.board.specs.declared.Board.{Board}
 use Rattle.board.specs.declared.Readings.{Readings}
 use Rattle.board.specs.declared.Stepped.{Stepped}
 use Rattle.board.specs.Sample.{sampleOf}
-use Rattle.board.specs.Way.{lookOf, isRefused, isQuiet, answerOf, spanFound, restedOf, acceptedBy}
-use Rattle.board.proofs.Looking.{look-refused, look-quiet, look-changes}
+use Rattle.board.specs.Way.{lookOf, isRefused, isQuiet, isGrowing, answerOf, spanFound, restedOf, acceptedBy, grownOf}
+use Rattle.board.proofs.Looking.{look-refused, look-quiet, look-grows, look-changes}
 use Rattle.board.proofs.Board as Boards
 use Rattle.board.proofs.Readings as Read
 use Rattle.board.proofs.Answer as Answer
 use contract.Running.{givenOf, tables, tablesOf}
 use denote.Triple.Table.{entered, cited}
 use Rattle.walks.proofs.Walk.{follows}
-use Rattle.walks.proofs.Form.{Form, value, shown, behind}
+use Rattle.walks.proofs.Form.{Form, value, shown}
 use Rattle.walks.proofs.Callee.{on-record, on-found}
 use Rattle.walks.proofs.Hands.{newest, older, stop, found, same, holds, shows, lends}
 use Rattle.walks.proofs.Pieces.{all-keys, lets, branch, asks, asks-of, answers, calls-on, meets}
@@ -37,6 +37,10 @@ use Rattle.board.proofs.is_quiet.Symbol.{name as #is-quiet}
 use Rattle.board.proofs.is_quiet.Met as is-quiet′
 use Rattle.board.proofs.rest_board.Symbol.{name as #rest-board}
 use Rattle.board.proofs.rest_board.Met as rest-board′
+use Rattle.board.proofs.is_growing.Symbol.{name as #is-growing}
+use Rattle.board.proofs.is_growing.Met as is-growing′
+use Rattle.board.proofs.grow_board.Symbol.{name as #grow-board}
+use Rattle.board.proofs.grow_board.Met as grow-board′
 use Rattle.board.proofs.accept_board.Symbol.{name as #accept-board}
 use Rattle.board.proofs.accept_board.Met as accept-board′
 use Rattle.board.proofs.sample_board.Key as key
@@ -62,4 +66,6 @@ sample-board-spec 𝓤 H 𝓜 𝓖 𝓡 =
     (λ h. lets (known.span 𝓤 H (𝓖 .A) W) (spanFound (lookOf b x mv)) (asks-of newest spanFound #span-found (cited 𝓤 H _ 𝓜 𝓡 code.env #span-found _ code.calls-board·span-found (span-found′.met 𝓤 H 𝓜 𝓖 𝓡)))
     (branch (asks-of (older newest) isQuiet #is-quiet (cited 𝓤 H _ 𝓜 𝓡 code.env #is-quiet _ code.calls-board·is-quiet (is-quiet′.met 𝓤 H 𝓜 𝓖 𝓡)))
     (λ q. calls-on (stepping acceptedBy .params) all-keys (lends (same (found newest (shows stop)))) (stepping (λ b x span mv. restedOf b x span) .says-of) #rest-board (cited 𝓤 H _ 𝓜 𝓡 code.env #rest-board _ code.calls-board·rest-board (rest-board′.met 𝓤 H 𝓜 𝓖 𝓡)) (refl, (refl, tt)) (λ r ws e. follows e (look-quiet b x mv q)))
-    (λ q. calls-on (stepping acceptedBy .params) all-keys (lends (same (found newest (shows stop)))) (stepping acceptedBy .says-of) #accept-board (cited 𝓤 H _ 𝓜 𝓡 code.env #accept-board _ code.calls-board·accept-board (accept-board′.met 𝓤 H 𝓜 𝓖 𝓡)) (refl, (refl, tt)) (λ r ws e. follows e (look-changes b x mv h q))))))))
+    (λ q. branch (asks-of (older newest) isGrowing #is-growing (cited 𝓤 H _ 𝓜 𝓡 code.env #is-growing _ code.calls-board·is-growing (is-growing′.met 𝓤 H 𝓜 𝓖 𝓡)))
+    (λ g. calls-on (stepping acceptedBy .params) all-keys (lends (same (found newest (shows stop)))) (stepping grownOf .says-of) #grow-board (cited 𝓤 H _ 𝓜 𝓡 code.env #grow-board _ code.calls-board·grow-board (grow-board′.met 𝓤 H 𝓜 𝓖 𝓡)) (refl, (refl, tt)) (λ r ws e. follows e (look-grows b x mv g)))
+    (λ g. calls-on (stepping acceptedBy .params) all-keys (lends (same (found newest (shows stop)))) (stepping acceptedBy .says-of) #accept-board (cited 𝓤 H _ 𝓜 𝓡 code.env #accept-board _ code.calls-board·accept-board (accept-board′.met 𝓤 H 𝓜 𝓖 𝓡)) (refl, (refl, tt)) (λ r ws e. follows e (look-changes b x mv h q g)))))))))

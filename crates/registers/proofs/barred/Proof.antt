@@ -1,7 +1,6 @@
--- `registers::barred` meets its contract: of a write, not to fit says it all.
+-- `registers::barred` meets its contract: 9, or 10.
 -- Assumes nothing.
 use borrow.Author.Needs.{needs}
-use Rattle.registers.proofs.Map.{bars-write}
 use Rattle.registers.proofs.barred.Statement.{statement}
 use Rattle.registers.proofs.barred.Tie as tie
 
@@ -11,18 +10,11 @@ is-write-requires c κs = search needs
 value-fits-requires : tie.Need-value-fits-requires
 value-fits-requires c κs = search needs
 
-returns : tie.Need-returns
-returns c =
-    let a = c .before .before .before .args in
-    rw (c .before .value-fits .ensures, ← (c .before .before .is-write .ensures), c .if1 .taken, bars-write (a .b .kind) (a .asked .register) (a .asked .value))
-
 no-register-requires : tie.Need-no-register-requires
 no-register-requires c κs = search needs
 
-returns-2 : tie.Need-returns-2
-returns-2 c = rw (c .no-register .ensures, c .before .before .value-fits .ensures, ← (c .before .before .before .is-write .ensures), c .before .if1 .left)
+returns : tie.Need-returns
+returns c = rw (c .no-register .ensures, c .before .value-fits .ensures, c .before .before .is-write .ensures)
 
 pub barred-spec : {M : Type 1} → statement M
-barred-spec =
-    tie.close
-    (tie.spec is-write-requires value-fits-requires returns no-register-requires returns-2)
+barred-spec = tie.close (tie.spec is-write-requires value-fits-requires no-register-requires returns)

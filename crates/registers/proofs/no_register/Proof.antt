@@ -2,13 +2,16 @@
 -- Assumes nothing.
 use borrow.Author.Needs.{needs}
 use native.Mathlib.Omega.{arith}
-use mathlib.Core.Path.{sym}
+use mathlib.Core.Path.{sym, _∙_}
 use Rattle.registers.proofs.Map.{between, below, above, control-there}
 use Rattle.registers.proofs.no_register.Statement.{statement}
 use Rattle.registers.proofs.no_register.Tie as tie
 
 is-host-requires : tie.Need-is-host-requires
 is-host-requires c κs = search needs
+
+is-garden-requires : tie.Need-is-garden-requires
+is-garden-requires c κs = search needs
 
 returns : tie.Need-returns
 returns c = rw (c .match .keys1)
@@ -17,7 +20,9 @@ returns-2 : tie.Need-returns-2
 returns-2 c = rw (c .is-host .ensures, c .before .match .keys2) (sym (control-there (c .before .before .args .kind) (c .before .before .args .writes)))
 
 returns-3 : tie.Need-returns-3
-returns-3 c = sym (between (c .before .before .before .args .kind) _ (c .before .before .before .args .register) (c .before .if1 .left) (omega (arith, c .if2 .taken)))
+returns-3 c =
+    let a = c .before .before .before .before .args in
+    c .is-garden .ensures ∙ sym (between (a .kind) (a .writes) (a .register) (c .before .before .if1 .left) (omega (arith, c .before .if2 .taken)))
 
 returns-4 : tie.Need-returns-4
 returns-4 c = sym (below (c .before .before .args .kind) _ _ (c .before .match .rest .0 .1) (c .before .match .rest .1) (c .if1 .taken))
@@ -27,4 +32,12 @@ returns-5 c = sym (above (c .before .before .before .args .kind) _ (c .before .b
 
 pub no-register-spec : {M : Type 1} → statement M
 no-register-spec =
-    tie.close (tie.spec is-host-requires returns returns-2 returns-3 returns-4 returns-5)
+    tie.close
+    (tie.spec
+    is-host-requires
+    is-garden-requires
+    returns
+    returns-2
+    returns-3
+    returns-4
+    returns-5)

@@ -11,9 +11,6 @@ use Rattle.registers.proofs.read.Tie as tie
 status-by-requires : tie.Need-status-by-requires
 status-by-requires c κs = search needs
 
-control-read-requires : tie.Need-control-read-requires
-control-read-requires c κs = search needs
-
 byte-requires : tie.Need-byte-requires
 byte-requires c κs = search needs
 
@@ -21,7 +18,7 @@ returns : tie.Need-returns
 returns c = rw (c .status-by .ensures, c .before .match .keys1)
 
 returns-2 : tie.Need-returns-2
-returns-2 c = rw (c .control-read .ensures, c .before .match .keys2)
+returns-2 c = rw (c .match .keys2)
 
 returns-3 : tie.Need-returns-3
 returns-3 c = rw (c .match .keys3)
@@ -37,7 +34,6 @@ read-spec =
     tie.close
     (tie.spec
     status-by-requires
-    control-read-requires
     byte-requires
     returns
     returns-2

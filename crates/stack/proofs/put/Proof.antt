@@ -4,21 +4,21 @@ use Rattle.stack.specs.Way.{placedOf}
 use Rattle.stack.proofs.put.Statement.{statement}
 use Rattle.stack.proofs.put.Tie as tie
 
-mul-planned-board : tie.Need-mul-planned-board
-mul-planned-board c = search needs
+mul-fresh-board : tie.Need-mul-fresh-board
+mul-fresh-board c = search needs
 
-shared-slice-read-planned-board : tie.Need-shared-slice-read-planned-board
-shared-slice-read-planned-board c = search needs
+shared-slice-read-fresh-board : tie.Need-shared-slice-read-fresh-board
+shared-slice-read-fresh-board c = search needs
 
-planned-board-requires : tie.Need-planned-board-requires
-planned-board-requires c κs = search needs
+fresh-board-requires : tie.Need-fresh-board-requires
+fresh-board-requires c κs = search needs
 
 add-t10 : tie.Need-add-t10
 add-t10 c = search needs
 
 returns : tie.Need-returns
 unfolding placedOf
-returns c = rw (c .planned-board .ensures, lt-ltb _ _ (c .before .before .if1 .taken))
+returns c = rw (c .fresh-board .ensures, lt-ltb _ _ (c .before .before .if1 .taken))
 
 refused-fill-requires : tie.Need-refused-fill-requires
 refused-fill-requires c κs = search needs
@@ -31,9 +31,9 @@ pub put-spec : {M : Type 1} → statement M
 put-spec =
     tie.close
     (tie.spec
-    mul-planned-board
-    shared-slice-read-planned-board
-    planned-board-requires
+    mul-fresh-board
+    shared-slice-read-fresh-board
+    fresh-board-requires
     add-t10
     returns
     refused-fill-requires

@@ -1,0 +1,42 @@
+use borrow.Author.Needs.{needs}
+use Rattle.latches.proofs.Packed.{latches-kept}
+use Rattle.board.specs.Sample.{grownLatches, gardenWith}
+use Rattle.board.specs.Way.{grownBy, grownOf}
+use Rattle.board.proofs.grow.Statement.{statement}
+use Rattle.board.proofs.grow.Tie as tie
+
+latches-of-requires : tie.Need-latches-of-requires
+latches-of-requires c κs = search needs
+
+grow-requires : tie.Need-grow-requires
+grow-requires c κs = search needs
+
+byte-of-requires : tie.Need-byte-of-requires
+byte-of-requires c κs = search needs
+
+last-by-requires : tie.Need-last-by-requires
+last-by-requires c κs = search needs
+
+status-by-requires : tie.Need-status-by-requires
+status-by-requires c κs = search needs
+
+returns : tie.Need-returns
+unfolding grownOf gardenWith
+returns c =
+    let c1 = c .before in
+    let c4 = c1 .before .before .before in
+    let c5 = c4 .before in
+    let c8 = c5 .before .before .before in
+    let a = c8 .before .before .args in
+    rw (c .status-by .ensures, c1 .last-by .ensures, c4 .byte-of .ensures, c5 .grow .ensures, c8 .latches-of .ensures, latches-kept (grownLatches (grownBy (a .b) (a .x) (a .span) (a .mv .now))))
+
+pub grow-spec : {M : Type 1} → statement M
+grow-spec =
+    tie.close
+    (tie.spec
+    latches-of-requires
+    grow-requires
+    byte-of-requires
+    last-by-requires
+    status-by-requires
+    returns)
