@@ -4,9 +4,10 @@
 Reads bench lines from standard input as bytes and writes the answers.
 
 Every board keeps the history of its accepted acts. Settings, cycles, latches
-and flags are read off that history, and a run is summed from the samples
-themselves each time it is asked for: there is no counter in here that could
-go wrong in the same way as one in the program under test.
+and flags are read off that history, and a run or a garden board's count is
+taken from the samples themselves each time it is asked for: there is no
+counter in here that could go wrong in the same way as one in the program
+under test.
 """
 
 import re
@@ -24,7 +25,7 @@ class Refusal(Exception):
 
 # ---------------------------------------------------------------- settings
 
-STAND_ALONE, HOST = 0, 1     # the kinds of board (02, ticket 3)
+STAND_ALONE, HOST, GARDEN = 0, 1, 2     # the kinds of board (02, tickets 3 and 5)
 
 CONTROL, FIRST_SETTING, LAST_SETTING, CYCLES = 1, 6, 10, 11
 # the bits of register 1
@@ -78,6 +79,31 @@ class Settings:
     def crossed(self):
         """Is the SCD level not above the OCD level (02, ticket 1)?"""
         return not self.scd_level > self.ocd_level
+
+
+# 02, ticket 5: levels and hystereses in mV
+Device = namedtuple("Device", "ov_level ov_hysteresis uv_level uv_hysteresis load_removal")
+DEVICES = (
+    Device(4200, 200, 2900, 400, True),     # BQ7791500
+    Device(4250, 200, 2800, 400, True),     # 01
+    Device(4275, 100, 2000, 200, False),    # 04
+)
+MOST_TRIGGER = 255
+
+# what a board is opened as; a row of the device table and a trigger count are a garden board's alone
+Plan = namedtuple("Plan", "kind cells row trigger", defaults=(0, 0))
+
+
+def openable(plan):
+    """Is there such a board (01, refusal 1; 02, tickets 3 and 5)?"""
+    if plan.kind == GARDEN:
+        return 3 <= plan.cells <= 5 and 0 <= plan.row < len(DEVICES) and 1 <= plan.trigger <= MOST_TRIGGER
+    return plan.kind in (STAND_ALONE, HOST) and 5 <= plan.cells <= 10
+
+
+def stand_alone(counts):
+    """The plans of stand-alone boards, by their cell counts."""
+    return [Plan(STAND_ALONE, count) for count in counts]
 
 
 # ----------------------------------------------------------- runs and faults
@@ -194,6 +220,76 @@ def bled(flagged, count):
     return sum(1 << i for i in taken)
 
 
+# ------------------------------------------------------------ garden boards
+
+def count(samples, holds):
+    """Count of a condition at the last of `samples` (02, ticket 5): up where it holds, down where not, never below zero."""
+    total = 0
+    for sample in samples:
+        total = total + 1 if holds(sample) else max(0, total - 1)
+    return total
+
+
+def reached(samples, holds, trigger):
+    """Does the count come to the trigger here? Only a step up can bring it there."""
+    return holds(samples[-1]) and count(samples, holds) == trigger
+
+
+def past(fault, millivolts, device):
+    """Does this cell read strictly past the fault's level (02, ticket 5)?"""
+    return millivolts > device.ov_level if fault == "OV" else millivolts < device.uv_level
+
+
+def inside(fault, sample, device):
+    """Is every cell strictly inside the fault's own level and hysteresis, and the load off where the row asks (02, ticket 5)?"""
+    if fault == "OV":
+        return all(mv < device.ov_level - device.ov_hysteresis for mv in sample.cells)
+    loaded = device.load_removal and sample.load == 1
+    return not loaded and all(mv > device.uv_level + device.uv_hysteresis for mv in sample.cells)
+
+
+class GardenRecord:
+    """What a garden board's history amounts to (02, ticket 5).
+
+    Counts are zero where a fault latches or lets go, so that they go by the
+    samples since then alone.
+    """
+
+    def __init__(self, plan):
+        self.device = DEVICES[plan.row]
+        self.trigger = plan.trigger
+        self.since = {"OV": [], "UV": []}   # the samples since the fault last latched or let go
+        self.latched = {"OV"}
+        self.flagged = set()                # of no cell, ever
+
+    def follow(self, _act, sample):
+        """Take in one act of the history; a garden board has samples alone."""
+        for fault, samples in self.since.items():
+            samples.append(sample)
+            if self.turns(fault, samples):
+                self.latched ^= {fault}
+                samples.clear()
+
+    def turns(self, fault, samples):
+        """Does a cell's count come to the trigger, or where the fault is latched, the recovery count?"""
+        if fault in self.latched:
+            return reached(samples, lambda s: inside(fault, s, self.device), self.trigger)
+        return any(reached(samples, lambda s, i=i: past(fault, s.cells[i], self.device), self.trigger)
+                   for i in range(len(samples[-1].cells)))
+
+    def chg(self):
+        """Is CHG on?"""
+        return chg_on(self.latched)
+
+    def dsg(self):
+        """Is DSG on?"""
+        return dsg_on(self.latched)
+
+    def status(self):
+        """The value of register 0."""
+        return status(self.latched)
+
+
 # ------------------------------------------------------------------- boards
 
 class Record:
@@ -277,19 +373,23 @@ class Record:
         return status(self.latched, self.may(DSG_MAY), self.may(CHG_MAY))
 
 
+def first_record(plan):
+    """The record of a board that has no history yet."""
+    return GardenRecord(plan) if plan.kind == GARDEN else Record(plan.kind)
+
+
 class Board:
-    """One board: its kind, its cell count and the history of its accepted acts.
+    """One board: its plan and the history of its accepted acts.
 
     Reads are not in the history, for they change nothing. `record` keeps
     what it has made of the history so far and takes in only what is new.
     """
 
-    def __init__(self, kind, count):
-        self.kind = kind
-        self.count = count
+    def __init__(self, plan):
+        self.plan = plan
         self.history = []
         self.followed = 0
-        self.made = Record(kind)
+        self.made = first_record(plan)
 
     def record(self):
         """The record that the whole history amounts to."""
@@ -302,7 +402,7 @@ class Board:
         """Accept a sample; its answer (01, Bleeding)."""
         self.history.append(("sample", sample))
         record = self.record()
-        return record.status(), bled(record.flagged, self.count)
+        return record.status(), bled(record.flagged, self.plan.cells)
 
     def read(self, register):
         """The value a read gives (01, Frames and registers)."""
@@ -351,8 +451,8 @@ def crc8(data):
 
 
 def check_register(register, is_write, kind=STAND_ALONE):
-    """Refusal 9 (01, Refusal numbers; 02, ticket 3)."""
-    known = register == 0 or FIRST_SETTING <= register <= CYCLES or (register == CONTROL and kind == HOST)
+    """Refusal 9 (01, Refusal numbers; 02, tickets 3 and 5): of a garden board only register 0 answers."""
+    known = register == 0 or (kind != GARDEN and FIRST_SETTING <= register <= CYCLES) or (register == CONTROL and kind == HOST)
     if not known or (is_write and register == 0):
         raise Refusal(9)
 
@@ -375,20 +475,12 @@ def value_allowed(register, value, is_write):
 # -------------------------------------------------------------------- stack
 
 class Stack:
-    """A stack that came from an opening (01, The stack and its readings).
+    """A stack that came from an opening (01, The stack and its readings), by the plan of each board."""
 
-    The boards are stand-alone ones unless the kind of each is given (02, ticket 3).
-    """
-
-    def __init__(self, counts, kinds=None):
-        if not 1 <= len(counts) <= 16:
+    def __init__(self, plans):
+        if not 1 <= len(plans) <= 16 or not all(openable(plan) for plan in plans):
             raise Refusal(1)
-        if not all(5 <= count <= 10 for count in counts):
-            raise Refusal(1)
-        kinds = [STAND_ALONE] * len(counts) if kinds is None else kinds
-        if not all(kind in (STAND_ALONE, HOST) for kind in kinds):
-            raise Refusal(1)
-        self.boards = [Board(kind, count) for kind, count in zip(kinds, counts, strict=True)]
+        self.boards = [Board(plan) for plan in plans]
 
     def board(self, number):
         """The board of that number, or refusal 2."""
@@ -399,7 +491,7 @@ class Stack:
     def sample(self, number, sample):
         """A sample: refusals 2, 3, 4, 5 in this order (01, Refusal numbers)."""
         board = self.board(number)
-        if len(sample.cells) != board.count:
+        if len(sample.cells) != board.plan.cells:
             raise Refusal(3)
         if not 1 <= sample.elapsed <= 100000:
             raise Refusal(4)
@@ -423,7 +515,7 @@ class Stack:
             raise Refusal(8)
         board = self.board(address // 2)
         is_write = address % 2 == 1
-        check_register(register, is_write, board.kind)
+        check_register(register, is_write, board.plan.kind)
         if not value_allowed(register, value, is_write):
             raise Refusal(10)
         given = board.write(register, value) if is_write else board.read(register)
@@ -509,7 +601,7 @@ class Bench:
 
     def opening(self, counts):
         """A refused opening raises before the earlier stack is let go."""
-        self.stack = Stack(counts)
+        self.stack = Stack(stand_alone(counts))
         return b"ok"
 
     def sample(self, numbers):

@@ -6,12 +6,13 @@ the act with the same answer. A `*` stands for a check byte, which is worked
 out here by long division, not by the reference. `{a}` names a list of cells.
 """
 
+import itertools
 import sys
 
 sys.dont_write_bytecode = True
 
-import reference  # noqa: E402
-from reference import Bench, Refusal, Settings, Stack, crc8  # noqa: E402
+from reference import (GARDEN, HOST, STAND_ALONE, Bench, Plan, Refusal, Sample, Settings, Stack,  # noqa: E402
+                       count, crc8, first_record, inside, past, stand_alone)
 
 FAILED = []
 
@@ -41,7 +42,7 @@ def fill_check(text):
 
 def replayed(board):
     """The record of a board's history, gone over afresh from the start."""
-    record = reference.Record(board.kind)
+    record = first_record(board.plan)
     for act in board.history:
         record.follow(*act)
     return record
@@ -51,7 +52,7 @@ def check_replay(name, bench):
     """What was kept on the way must be what the whole history gives."""
     for board in bench.stack.boards if bench.stack else ():
         kept, fresh = vars(board.record()), vars(replayed(board))
-        for key in ("control", "staged", "working", "spent", "samples", "last", "latched", "flagged"):
+        for key in kept.keys() - {"settings"}:
             expect(f"{name}, {key} gone over afresh", fresh[key], kept[key])
 
 
@@ -750,7 +751,7 @@ def refusal_of(act, *args):
 
 def buffer_cases():
     """01, Frames: the lent buffer, which the bench itself cannot vary."""
-    stack = Stack([5])
+    stack = Stack(stand_alone([5]))
     expect("three bytes, no buffer", 6, refusal_of(stack.frame, [2, 0, 0], bytearray()))
     expect("bad check, no buffer", 7, refusal_of(stack.frame, [2, 0, 0, 0], bytearray(3)))
     buffer = bytearray(b"\x09" * 6)
@@ -761,12 +762,62 @@ def buffer_cases():
 
 
 def kind_cases():
-    """02, ticket 3: a kind that is neither is refused as a cell count is, and both kinds have five to ten cells."""
-    for counts, kinds, number in (
-            ([5], [0], None), ([5], [1], None), ([10, 5], [1, 0], None), ([5], [2], 1), ([5], [255], 1), ([5, 5], [1, 2], 1),
-            ([4], [1], 1), ([11], [1], 1), ([261], [1], 1), ([261], [0], 1), ([], [], 1), ([5] * 17, [1] * 17, 1),
-            ([10] * 16, [1] * 16, None)):
-        expect(f"cells {counts}, kinds {kinds}", number, refusal_of(Stack, counts, kinds))
+    """02, tickets 3 and 5: a kind that there is not is refused as a cell count is; each kind has its own range of cells."""
+    for number, kind in enumerate((STAND_ALONE, HOST, GARDEN)):
+        expect(f"the number of kind {number}", number, kind)
+    plain = [Plan(kind, cells) for kind in (STAND_ALONE, HOST) for cells in range(5, 11)]
+    garden = [Plan(GARDEN, cells, row, trigger) for cells in (3, 4, 5) for row in (0, 1, 2) for trigger in (1, 2, 128, 254, 255)]
+    wrong = [Plan(kind, cells) for kind in (STAND_ALONE, HOST) for cells in (0, 1, 3, 4, 11, 12, 255, 256, 261)]
+    wrong += [Plan(GARDEN, cells, 0, 1) for cells in (0, 1, 2, 6, 10, 256, 259)]
+    wrong += [Plan(GARDEN, 3, row, 1) for row in (3, 4, 255, 256, 65536)]
+    wrong += [Plan(GARDEN, 3, 0, trigger) for trigger in (0, 256, 257, 65537)]
+    wrong += [Plan(GARDEN, 5), Plan(3, 5), Plan(3, 5, 0, 1), Plan(255, 5)]
+    for plans, number in ((plain, None), (garden, None), (wrong, 1)):
+        for plan in plans:
+            expect(f"{plan}", number, refusal_of(Stack, [plan]))
+            expect(f"{plan} behind others", number, refusal_of(Stack, [plain[0], garden[0], plan]))
+            expect(f"{plan} before others", number, refusal_of(Stack, [plan, plain[-1], garden[-1]]))
+            expect(f"{plan}, seventeen of them", 1, refusal_of(Stack, [plan] * 17))
+    for plan in plain[-1], garden[0]:
+        expect(f"{plan}, sixteen of them", None, refusal_of(Stack, [plan] * 16))
+    expect("no board", 1, refusal_of(Stack, []))
+
+
+# 02, ticket 5, for each row: the level and where the fault lets go, level less and level plus hysteresis
+GARDEN_ROWS = (
+    (4200, 4000, 2900, 3300),
+    (4250, 4050, 2800, 3200),
+    (4275, 4175, 2000, 2200),
+)
+
+
+def count_cases():
+    """02, ticket 5: the counts, by hand and as the largest surplus of ups over downs on any stretch that ends here."""
+    for text, wanted in (("", 0), ("+", 1), ("-", 0), ("+-", 0), ("-+", 1), ("++-", 1), ("---+", 1), ("+--+", 1), ("+-+-+-", 0),
+                         ("++-++-++", 4), ("+++---+", 1), ("+" * 255, 255), ("+" * 254 + "-+", 254), ("+" * 300 + "-" * 299, 1)):
+        expect(f"count of {text[-12:]}", wanted, count(text, lambda step: step == "+"))
+    for steps in itertools.chain.from_iterable(itertools.product((1, -1), repeat=size) for size in range(11)):
+        surplus = max(sum(steps[at:]) for at in range(len(steps) + 1))
+        expect(f"count of {steps}", surplus, count(steps, lambda step: step == 1))
+
+
+def garden_levels():
+    """02, ticket 5: every row's levels and bands, one millivolt to both sides; load removal."""
+    for row, (over, over_back, under, under_back) in enumerate(GARDEN_ROWS):
+        device = first_record(Plan(GARDEN, 3, row, 1)).device
+        for off in (-1, 0, 1):
+            name = f"row {row}, {off} mV off"
+            expect(f"OV, {name}", off == 1, past("OV", over + off, device))
+            expect(f"UV, {name}", off == -1, past("UV", under + off, device))
+            for place in range(3):
+                cells = [3500] * 3
+                cells[place] = over_back + off
+                for load in (0, 1):
+                    expect(f"inside OV, {name}", off == -1, inside("OV", Sample(1, load, 2000, 0, cells), device))
+                cells[place] = under_back + off
+                for load, free in ((0, True), (1, row == 2)):
+                    got = inside("UV", Sample(1, load, 2000, 0, cells), device)
+                    expect(f"inside UV, {name}, load {load}", off == 1 and free, got)
 
 
 def main():
@@ -774,7 +825,7 @@ def main():
     for part in (paper_session, crc_values, settings_tables, marked_cases, run_cases,
                  fault_cases, bleeding_cases, frame_cases, crossed_cases, unknown_registers,
                  sample_refusals, opening_cases, raw_lines, input_cases, buffer_cases,
-                 kind_cases):
+                 kind_cases, count_cases, garden_levels):
         part()
     sys.exit(1 if FAILED else 0)
 

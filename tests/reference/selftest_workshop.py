@@ -10,7 +10,7 @@ import sys
 sys.dont_write_bytecode = True
 
 from reference import split_lines  # noqa: E402
-from selftest import FAILED, FIVE, expect, session  # noqa: E402
+from selftest import FAILED, FIVE, GARDEN_ROWS, expect, session  # noqa: E402
 from workshop import Workshop  # noqa: E402
 
 
@@ -533,13 +533,346 @@ def host_rows():
         """, **FIVE)
 
 
+# samples of a board of three: inside every row's bands; past every OV level; past every UV level, with what trips other boards
+# beside it; between OV level and band in every row; between UV level and band in rows 0 and 1
+THREE = {
+    "calm": "S 1 1 0 2000 0 3600 3600 3600",
+    "loaded": "S 1 1 1 2000 0 3600 3600 3600",
+    "over": "S 1 100000 0 2000 0 3600 4276 3600",
+    "under": "S 1 1 1 0 500000 3600 1999 3600",
+    "high": "S 1 1 0 2000 0 3600 3600 4180",
+    "low": "S 1 1 0 2000 0 2950 3600 3600",
+}
+
+
+def garden_openings():
+    """02, ticket 5: three to five cells, rows 0 to 2, triggers 1 to 255; the other kinds have their own range of cells."""
+    told("garden boards opened and refused", """
+        X g2/0/1 -> no 1
+        X g3/3/1 -> no 1
+        X g3/0/0 -> no 1
+        R -> no 1
+        {calm} -> no 1
+        X g3/0/1 -> ok
+        F 2 0 0 214 -> re 2 0 68 *
+        R -> ln 1 chg 0 dsg 1 at 0 0
+        {calm} -> st 192 bal 0
+        R -> ln 0 chg 1 dsg 1 at 0 0
+        X g0/0/1 -> no 1
+        X g2/0/1 -> no 1
+        X g6/0/1 -> no 1
+        X g10/0/1 -> no 1
+        X g259/0/1 -> no 1
+        X g2147483647/0/1 -> no 1
+        X g2147483648/0/1 -> no 12
+        X g3/3/1 -> no 1
+        X g3/256/1 -> no 1
+        X g3/2147483647/1 -> no 1
+        X g3/2147483648/1 -> no 12
+        X g3/0/0 -> no 1
+        X g3/0/256 -> no 1
+        X g3/0/257 -> no 1
+        X g3/0/2147483647 -> no 1
+        X g3/0/2147483648 -> no 12
+        X s5 g3/0/0 -> no 1
+        X g3/0/1 s4 -> no 1
+        X g3/0/1 h4 -> no 1
+        X s3 -> no 1
+        X h3 -> no 1
+        O 3 -> no 1
+        X{g17} -> no 1
+        X{g17} g3 -> no 12
+        R -> ln 0 chg 1 dsg 1 at 0 0
+        X g5/2/255 g4/1/1 g3/0/254 -> ok
+        {calm} -> no 3
+        {calm} 3600 3600 -> st 68 bal 0
+        S 2 1 0 2000 0 3600 3600 3600 -> no 3
+        S 2 1 0 2000 0 3600 3600 3600 3600 -> st 192 bal 0
+        S 3 1 0 2000 0 3600 3600 3600 3600 -> no 3
+        S 3 1 0 2000 0 3600 3600 3600 -> st 68 bal 0
+        X{g16} -> ok
+        S 16 1 0 2000 0 3600 3600 3600 -> st 192 bal 0
+        S 17 1 0 2000 0 3600 3600 3600 -> no 2
+        R -> ln 1 chg 0 dsg 1 at 0 0
+        """, g16=" g3/1/1" * 16, g17=" g3/1/1" * 17, **THREE)
+    told("the page's garden board", """
+        X s5 h5 g3/0/2 -> ok
+        F 6 0 0 125 -> re 6 0 68 166
+        S 3 1000 0 2000 0 3600 3600 3600 -> st 68 bal 0
+        S 3 1000 0 2000 0 3600 3600 3600 -> st 192 bal 0
+        """)
+
+
+def garden_levels():
+    """02, ticket 5: every row with trigger 1, one millivolt to both sides of each level and band, on each cell."""
+    for row, (over, over_back, under, under_back) in enumerate(GARDEN_ROWS):
+        for cell in range(3):
+            head, tail = "S 1 1 0 2000 0" + " 3500" * cell, "3500 " * (2 - cell)
+            told(f"row {row}, cell {cell + 1}", f"""
+                X g3/{row}/1 -> ok
+                {head} {over_back + 1} {tail} -> st 68 bal 0
+                {head} {over_back} {tail} -> st 68 bal 0
+                {head} {over_back - 1} {tail} -> st 192 bal 0
+                {head} {over - 1} {tail} -> st 192 bal 0
+                {head} {over} {tail} -> st 192 bal 0
+                {head} {over + 1} {tail} -> st 68 bal 0
+                {head} {over_back} {tail} -> st 68 bal 0
+                {head} {over_back - 1} {tail} -> st 192 bal 0
+                {head} {under + 1} {tail} -> st 192 bal 0
+                {head} {under} {tail} -> st 192 bal 0
+                {head} {under - 1} {tail} -> st 136 bal 0
+                {head} {under_back - 1} {tail} -> st 136 bal 0
+                {head} {under_back} {tail} -> st 136 bal 0
+                {head} {under_back + 1} {tail} -> st 192 bal 0
+                """)
+
+
+def garden_counts():
+    """02, ticket 5: up by one or down by one, never below zero, to the trigger and not past it."""
+    # recovery from the start: 1, 2. OV: 1, 0, 1, 0, 1, 2; back: 1, 0, 1, 0, 1, 2; UV and its recovery the same
+    told("trigger 2", """
+        X g3/0/2 -> ok
+        {calm} -> st 68 bal 0
+        {calm} -> st 192 bal 0
+        {over} -> st 192 bal 0
+        {calm} -> st 192 bal 0
+        {over} -> st 192 bal 0
+        {high} -> st 192 bal 0
+        {over} -> st 192 bal 0
+        {over} -> st 68 bal 0
+        {calm} -> st 68 bal 0
+        {high} -> st 68 bal 0
+        {calm} -> st 68 bal 0
+        {over} -> st 68 bal 0
+        {calm} -> st 68 bal 0
+        {calm} -> st 192 bal 0
+        {under} -> st 192 bal 0
+        {calm} -> st 192 bal 0
+        {under} -> st 192 bal 0
+        {low} -> st 192 bal 0
+        {under} -> st 192 bal 0
+        {under} -> st 136 bal 0
+        {calm} -> st 136 bal 0
+        {low} -> st 136 bal 0
+        {calm} -> st 136 bal 0
+        {under} -> st 136 bal 0
+        {calm} -> st 136 bal 0
+        {calm} -> st 192 bal 0
+        """, **THREE)
+    told("samples that alternate", "X g3/1/2 -> ok\n"
+         + "{calm} -> st 68 bal 0\n{high} -> st 68 bal 0\n" * 30
+         + "{calm} -> st 68 bal 0\n{calm} -> st 192 bal 0\n"
+         + "{over} -> st 192 bal 0\n{under} -> st 192 bal 0\n" * 30
+         + "{under} -> st 136 bal 0\n"
+         + "{calm} -> st 136 bal 0\n{low} -> st 136 bal 0\n" * 30, **THREE)
+    # 1, 2, 1, 2, 3, and the same for OV with two steps down between
+    told("a step down takes one away", """
+        X g3/1/3 -> ok
+        2: {calm} -> st 68 bal 0
+        {high} -> st 68 bal 0
+        {calm} -> st 68 bal 0
+        {calm} -> st 192 bal 0
+        2: {over} -> st 192 bal 0
+        {high} -> st 192 bal 0
+        {over} -> st 192 bal 0
+        {calm} -> st 192 bal 0
+        {over} -> st 192 bal 0
+        {over} -> st 68 bal 0
+        """, **THREE)
+    told("never below zero", """
+        X g3/0/2 -> ok
+        9: {high} -> st 68 bal 0
+        {calm} -> st 68 bal 0
+        10: {calm} -> st 192 bal 0
+        {over} -> st 192 bal 0
+        10: {over} -> st 68 bal 0
+        {calm} -> st 68 bal 0
+        10: {calm} -> st 192 bal 0
+        {under} -> st 192 bal 0
+        10: {under} -> st 136 bal 0
+        {calm} -> st 136 bal 0
+        {calm} -> st 192 bal 0
+        """, **THREE)
+    # 254 up, one down, then two more up
+    told("trigger 255", """
+        X g3/2/255 -> ok
+        254: {calm} -> st 68 bal 0
+        {calm} -> st 192 bal 0
+        254: {over} -> st 192 bal 0
+        {over} -> st 68 bal 0
+        254: {calm} -> st 68 bal 0
+        {high} -> st 68 bal 0
+        {calm} -> st 68 bal 0
+        {calm} -> st 192 bal 0
+        254: {under} -> st 192 bal 0
+        {calm} -> st 192 bal 0
+        {under} -> st 192 bal 0
+        {under} -> st 136 bal 0
+        """, **THREE)
+    told("refused samples do not count", """
+        X g3/0/2 -> ok
+        {calm} -> st 68 bal 0
+        S 2 1 0 2000 0 3600 3600 3600 -> no 2
+        S 1 1 0 2000 0 3600 3600 -> no 3
+        S 1 0 2 5001 500001 3600 3600 5001 -> no 4
+        S 1 100001 0 2000 0 3600 3600 3600 -> no 4
+        S 1 1 0 2000 0 3600 3600 5001 -> no 5
+        S 1 1 0 5001 0 3600 3600 3600 -> no 5
+        S 1 1 0 2000 500001 3600 3600 3600 -> no 5
+        S 1 1 0 2000 -500001 3600 3600 3600 -> no 5
+        S 1 1 2 2000 0 3600 3600 3600 -> no 5
+        S 1 100000 1 5000 -500000 3999 3999 0 -> st 192 bal 0
+        S 1 1 0 0 500000 5000 0 0 -> st 136 bal 0
+        S 1 1 0 0 500000 5000 0 0 -> st 12 bal 0
+        """, **THREE)
+
+
+def garden_cells():
+    """02, ticket 5: a count for each cell and fault; those of a fault are zero from its latching on."""
+    told("cells take turns", """
+        X g3/0/2 -> ok
+        {calm} -> st 68 bal 0
+        {calm} -> st 192 bal 0
+        S 1 1 0 2000 0 4201 3600 3600 -> st 192 bal 0
+        S 1 1 0 2000 0 3600 4201 3600 -> st 192 bal 0
+        S 1 1 0 2000 0 3600 3600 4201 -> st 192 bal 0
+        S 1 1 0 2000 0 2899 3600 3600 -> st 192 bal 0
+        S 1 1 0 2000 0 3600 2899 3600 -> st 192 bal 0
+        S 1 1 0 2000 0 4201 3600 2899 -> st 192 bal 0
+        S 1 1 0 2000 0 4201 3600 3600 -> st 68 bal 0
+        """, **THREE)
+    # cell 1 trips with cell 2 at 2 and cell 3 at 1; afterwards each needs three of its own
+    told("one trips while others have counted", """
+        X g3/0/3 -> ok
+        2: {calm} -> st 68 bal 0
+        {calm} -> st 192 bal 0
+        S 1 1 0 2000 0 4201 3600 3600 -> st 192 bal 0
+        S 1 1 0 2000 0 4201 4201 3600 -> st 192 bal 0
+        S 1 1 0 2000 0 4201 4201 4201 -> st 68 bal 0
+        2: {calm} -> st 68 bal 0
+        {calm} -> st 192 bal 0
+        2: S 1 1 0 2000 0 3600 4201 4201 -> st 192 bal 0
+        S 1 1 0 2000 0 3600 3600 4201 -> st 68 bal 0
+        """, **THREE)
+    # nothing is counted up while OV is latched, and nothing back while it is not
+    told("zero while latched, and zero while not", """
+        X g3/2/3 -> ok
+        5: {over} -> st 68 bal 0
+        2: {calm} -> st 68 bal 0
+        {calm} -> st 192 bal 0
+        7: {calm} -> st 192 bal 0
+        2: {over} -> st 192 bal 0
+        {over} -> st 68 bal 0
+        2: {calm} -> st 68 bal 0
+        {calm} -> st 192 bal 0
+        """, **THREE)
+    # OV back and UV up on the same samples; then OV up, with UV back by one, down by one, and back by two
+    told("each fault by itself", """
+        X g3/0/2 -> ok
+        {under} -> st 68 bal 0
+        {under} -> st 136 bal 0
+        {over} -> st 136 bal 0
+        S 1 1 0 2000 0 3600 4201 2899 -> st 12 bal 0
+        {calm} -> st 12 bal 0
+        S 1 1 0 2000 0 4100 3600 3600 -> st 68 bal 0
+        """, **THREE)
+
+
+def garden_load():
+    """02, ticket 5: in rows with load removal a sample with the load on counts UV back down; OV never asks."""
+    for row in (0, 1):
+        told(f"row {row} under load", f"""
+            X g3/{row}/2 -> ok
+            {{loaded}} -> st 68 bal 0
+            {{loaded}} -> st 192 bal 0
+            {{under}} -> st 192 bal 0
+            {{under}} -> st 136 bal 0
+            9: {{loaded}} -> st 136 bal 0
+            {{calm}} -> st 136 bal 0
+            {{loaded}} -> st 136 bal 0
+            {{calm}} -> st 136 bal 0
+            {{calm}} -> st 192 bal 0
+            """, **THREE)
+    told("row 2 under load", """
+        X g3/2/2 -> ok
+        {under} -> st 68 bal 0
+        {under} -> st 136 bal 0
+        {loaded} -> st 136 bal 0
+        {loaded} -> st 192 bal 0
+        """, **THREE)
+
+
+def garden_registers():
+    """02, ticket 5: only register 0 answers, and only to reads; 9 goes before 10."""
+    told("order of refusals", """
+        X g3/0/1 -> ok
+        F 2 0 0 -> no 6
+        F@3 2 0 0 214 -> no 7
+        F 2 0 0 215 -> no 8
+        F 4 0 0 171 -> no 2
+        F 3 0 0 * -> no 9
+        F 3 0 68 * -> no 9
+        F 2 1 9 * -> no 9
+        F 3 7 255 * -> no 9
+        F 2 0 1 * -> no 10
+        F 2 0 68 * -> no 10
+        F@9 2 0 0 214 -> re 2 0 68 *
+        """)
+    for register in range(1, 256):
+        told(f"register {register} of a garden board", f"""
+            X g3/0/1 s5 -> ok
+            F 2 {register} 0 * -> no 9
+            F 2 {register} 65 * -> no 9
+            F 3 {register} 0 * -> no 9
+            F 3 {register} 6 * -> no 9
+            F 3 {register} 65 * -> no 9
+            F 2 0 0 214 -> re 2 0 68 *
+            """)
+
+
+def garden_rows():
+    """02, ticket 5: beside other kinds; its latches count in the reading, and it never names a cell."""
+    told("in a row of all kinds", """
+        X s5 g3/0/1 h5 -> ok
+        R -> ln 1 chg 0 dsg 0 at 0 0
+        F 7 1 6 * -> re 7 1 6 *
+        R -> ln 1 chg 0 dsg 1 at 0 0
+        S 2 1 0 2000 0 3600 3600 3600 -> st 192 bal 0
+        R -> ln 0 chg 1 dsg 1 at 0 0
+        S 2 1 0 2000 0 3600 3600 2899 -> st 136 bal 0
+        R -> ln 1 chg 1 dsg 0 at 0 0
+        S 2 1 0 2000 0 4201 3600 2899 -> st 12 bal 0
+        R -> ln 1 chg 0 dsg 0 at 0 0
+        S 2 1 0 2000 0 3600 3600 3600 -> st 192 bal 0
+        S 3 1 0 974 0 {calm} -> st 16 bal 0
+        R -> ln 1 chg 0 dsg 0 at 0 0
+        S 3 1 0 975 0 {calm} -> st 0 bal 0
+        F 7 1 6 * -> re 7 1 6 *
+        R -> ln 0 chg 1 dsg 1 at 0 0
+        S 1 1 0 2000 0 3600 3600 3600 -> no 3
+        S 2 1 0 2000 0 {calm} -> no 3
+        F 5 1 6 199 -> no 9
+        F 3 1 6 * -> no 9
+        F 3 11 65 234 -> re 3 11 0 *
+        F 5 11 65 151 -> no 9
+        """, **FIVE)
+    told("cells are named on other boards only", """
+        X g5/0/1 s5 -> ok
+        S 1 1 0 2000 0 {calm} -> st 68 bal 0
+        9: S 1 100000 0 2000 0 5000 5000 5000 5000 5000 -> st 68 bal 0
+        R -> ln 1 chg 0 dsg 1 at 0 0
+        5: S 2 100000 0 2000 0 {two} -> st 192 bal 0
+        S 2 100000 0 2000 0 {two} -> st 68 bal 2
+        R -> ln 1 chg 0 dsg 1 at 2 2
+        S 1 1 0 2000 0 3999 3999 3999 3999 3999 -> st 192 bal 0
+        R -> ln 1 chg 0 dsg 1 at 2 2
+        """, **FIVE)
+
+
 def later_forms():
     """Before their request lands."""
     told("later forms", """
         O 5 -> ok
-        X g3/0/2 -> no 12
-        X s5 g3/0/2 -> no 12
-        X h5 g3/0/2 -> no 12
         L 1 128 -> no 12
         U -> no 12
         W 46 -> no 12
@@ -560,6 +893,14 @@ RAW_LINES = (
     (b"X h", 12), (b"X h05", 12), (b"X h-5", 12), (b"X h 5", 12), (b"X H5", 12), (b"X hs5", 12), (b"X sh5", 12), (b"X h5h5", 12),
     (b"X h5/0", 12), (b"X h5/0/1", 12), (b"X h5,h5", 12), (b"X h5 ", 12), (b"Xh5", 12), (b"X h5 5", 12), (b"O h5", 12), (b"X h0", 1),
     (b"X h5 h4", 1), (b"X h4294967301", 12), (b"H 5", 12),
+    (b"X g", 12), (b"X g3", 12), (b"X g3/", 12), (b"X g3/0", 12), (b"X g3/0/", 12), (b"X g/0/1", 12), (b"X g3//1", 12), (b"X g//", 12),
+    (b"X g03/0/1", 12), (b"X g3/00/1", 12), (b"X g3/0/01", 12), (b"X g-3/0/1", 12), (b"X g3/-1/1", 12), (b"X g3/0/-1", 12),
+    (b"X g3/0/+1", 12), (b"X g3/0/1/", 12), (b"X g3/0/1/1", 12), (b"X g3 /0/1", 12), (b"X g3/ 0/1", 12), (b"X g3/0 /1", 12),
+    (b"X g3/0/ 1", 12), (b"X g3 0 1", 12), (b"X g3\\0\\1", 12), (b"X g3,0,1", 12), (b"X G3/0/1", 12), (b"X gg3/0/1", 12),
+    (b"X gs3/0/1", 12), (b"X sg3/0/1", 12), (b"X g3/0/1g3/0/1", 12), (b"X g3/0/1 ", 12), (b"X  g3/0/1", 12), (b"Xg3/0/1", 12),
+    (b"X g3/0/1 3/0/1", 12), (b"O g3/0/1", 12), (b"O 3/0/1", 12), (b"G 3/0/1", 12), (b"X 3/0/1", 12), (b"X g4294967299/0/1", 12),
+    (b"X g3/4294967296/1", 12), (b"X g3/0/4294967297", 12), (b"X g3/0/1 g3/0/0", 1), (b"X g0/0/0", 1), (b"X g3/3/256", 1),
+    (b"X g5/10/10", 1),
     (b"F@", 12), (b"F@ 4", 12), (b"F @4", 12), (b"F@04", 12), (b"F@-4", 12), (b"F@+4", 12), (b"F@4 ", 12), (b"F@4@4", 12), (b"F@x", 12),
     (b"F@4", 6), (b"F@00", 12), (b"F 256", 12), (b"F -1", 12), (b"F 00", 12), (b"F@0 256", 12),
     (b"S", 12), (b"S 1 1 0 2000", 12), (b"S 1 1 0 2000 0", 3), (b"S 1 1 0 2000 -0" + b" 1" * 5, 12),
@@ -569,6 +910,7 @@ RAW_LINES = (
     (b"S 1 1 0 2000 0 -1" + b" 1" * 4, 12), (b"S -1 1 0 2000 0" + b" 1" * 5, 12), (b"S 1 1 0 2000 " + b"9" * 5000 + b" 1" * 5, 12),
     # 300,000 bytes and 300,001: the letter and its spaces and digits
     (b"O 10" + b" 5" * 149998, 1), (b"O" + b" 5" * 150000, 12), (b"X s10 s10" + b" s5" * 99997, 1), (b"X" + b" s5" * 100000, 12),
+    (b"X" + b" g3/0/1" * 42857, 1), (b"X g3/0/10" + b" g3/0/1" * 42856, 12),
     (b"F 10" + b" 1" * 149998, 6), (b"F" + b" 1" * 150000, 12), (b"F@40" + b" 1" * 149998, 6), (b"F@4" + b" 1" * 149999, 12),
     (b"S 1 1 0 2000 12" + b" 4000" * 59997, 3), (b"S 1 1 0 2000 123" + b" 4000" * 59997, 12), (b"R" * 300000, 12),
 )
@@ -588,7 +930,7 @@ def raw_lines():
 def long_lengths():
     """The long lines above are as long as they are meant to be."""
     lengths = sorted(len(line) for line, _ in RAW_LINES if len(line) > 6000)
-    expect("lengths of the long lines", [300000] * 6 + [300001] * 5, lengths)
+    expect("lengths of the long lines", [300000] * 7 + [300001] * 6, lengths)
 
 
 def input_cases():
@@ -604,6 +946,7 @@ def input_cases():
 def main():
     """Run all; exit 1 if anything differs."""
     for part in (openings, long_lists, rooms, host_register, host_clears, host_levels, host_bits, host_last_sample, host_rows,
+                 garden_openings, garden_levels, garden_counts, garden_cells, garden_load, garden_registers, garden_rows,
                  later_forms, raw_lines, long_lengths, input_cases):
         part()
     sys.exit(1 if FAILED else 0)

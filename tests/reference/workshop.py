@@ -14,7 +14,8 @@ import sys
 
 sys.dont_write_bytecode = True
 
-from reference import HOST, LARGEST_NUMBER, STAND_ALONE, Refusal, Sample, Stack, split_lines  # noqa: E402
+from reference import (GARDEN, HOST, LARGEST_NUMBER, STAND_ALONE, Plan, Refusal, Sample, Stack,  # noqa: E402
+                       split_lines, stand_alone)
 
 LONGEST_LINE = 300000
 USUAL_ROOM = 4
@@ -24,8 +25,8 @@ MODEL_ROOM = 16
 # ten digits are enough for every number that is small enough
 NUMBER = rb"(?:0|[1-9][0-9]{0,9})"
 SHUNT = rb"(?:0|-?[1-9][0-9]{0,9})"
-BOARD = rb"[sh]%b" % NUMBER
-KINDS = {b"s": STAND_ALONE, b"h": HOST}
+BOARD = rb"(?:[sh]%b|g%b/%b/%b)" % (NUMBER, NUMBER, NUMBER, NUMBER)
+KINDS = {b"s": STAND_ALONE, b"h": HOST, b"g": GARDEN}
 
 
 def numbers(text):
@@ -45,8 +46,8 @@ def byte_list(text):
 
 
 def plans(text):
-    """The cell count and the kind of each board."""
-    return numbers(text), [KINDS[letter] for letter in re.findall(rb"[a-z]", text)]
+    """The plan of each board: its letter, then its numbers."""
+    return [Plan(KINDS[word[:1]], *numbers(word)) for word in text.split()]
 
 
 class Workshop:
@@ -79,9 +80,9 @@ class Workshop:
             raise Refusal(1)
         return self.stack
 
-    def opening(self, counts, kinds=None):
+    def opening(self, wanted):
         """A refused one raises before the earlier stack is let go."""
-        self.stack = Stack(counts, kinds)
+        self.stack = Stack(wanted)
         return b"ok"
 
     def sample(self, fields):
@@ -108,9 +109,9 @@ class Workshop:
 # for each form: its shape, how the fields are taken out of the shape's groups, and what it does
 FORMS = (
     (re.compile(rb"O((?: %b)*)" % NUMBER),
-     lambda counts: (numbers(counts),), Workshop.opening),
+     lambda counts: (stand_alone(numbers(counts)),), Workshop.opening),
     (re.compile(rb"X((?: %b)*)" % BOARD),
-     plans, Workshop.opening),
+     lambda boards: (plans(boards),), Workshop.opening),
     (re.compile(rb"S((?: %b){4} %b(?: %b)*)" % (NUMBER, SHUNT, NUMBER)),
      lambda fields: (numbers(fields),), Workshop.sample),
     (re.compile(rb"F((?: %b)*)" % NUMBER),
