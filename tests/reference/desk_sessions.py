@@ -6,20 +6,48 @@ lists, long lines. A form that a request brings is one more scenario here.
 
 Rows have host boards among the others. Their latches stay, so that most
 scenes on them end in writes to register 1, after samples about the levels
-that work at the write.
+that work at the write. And they have garden boards, which count samples: most
+scenes on them go about as many samples to one side as the trigger is.
 """
 
-from reference import HOST, STAND_ALONE, Settings, crc8
-from sessions import LARGEST, Aim, Maker
+from reference import DEVICES, GARDEN, HOST, STAND_ALONE, Plan, Settings, crc8
+from sessions import LARGEST, LONGEST_ELAPSED, Aim, Maker
 from workshop import LONGEST_LINE, Workshop
 
 # forms of requests that are not in force: malformed, until their scenario stands in their place
 LATER = ("L 1 128", "L 1 0", "L", "U", "U 1", "W 46", "W 0", "W", "D", "C", "C 0100", "C 01000100000000000005",
-         "V 00 00 1", "V 0100 0100 0", "X g3/0/2", "X s5 h5 g3/0/2", "X g5", "X h5 g3/0/2", "X g3/0", "X g/0/2")
+         "V 00 00 1", "V 0100 0100 0")
 
 # for each fault that a host board keeps: the register of its level and the mask of the level's code
 LEVELS = {"OV": (6, 0x07), "UV": (7, 0x0F), "OCD": (9, 0x0F), "SCD": (10, 0x0F)}
 QUICK_US = 1_000_000    # a delay that a scene waits for
+FEW = 8                 # a trigger that every scene goes for
+
+
+def garden_settings(row, trigger):
+    """A garden board's levels under the names of the others'; a stretch over its delays has about as many samples as a small trigger."""
+    settings, device = Settings([0] * 5), DEVICES[row]
+    settings.ov_level, settings.ov_release = device.ov_level, device.ov_level - device.ov_hysteresis
+    settings.uv_level, settings.uv_release = device.uv_level, device.uv_level + device.uv_hysteresis
+    settings.ov_delay = settings.uv_delay = (min(trigger, FEW) - 1) * LONGEST_ELAPSED
+    return settings
+
+
+class GardenAim(Aim):
+    """A rough picture of a garden board, which nothing programs."""
+
+    def __init__(self, plan):
+        super().__init__(plan.cells, GARDEN)
+        self.trigger = plan.trigger
+        self.settings = garden_settings(plan.row, plan.trigger)
+
+    def program(self):
+        """Refused."""
+
+
+def board_word(plan):
+    """A board of `X`."""
+    return "shg"[plan.kind] + "/".join(str(number) for number in (plan[1:] if plan.kind == GARDEN else plan[1:2]))
 
 
 class DeskMaker(Maker):
@@ -39,20 +67,33 @@ class DeskMaker(Maker):
         super().words(letter, numbers)
 
     def named(self, counts):
-        """Boards of `X` with these cell counts, of either kind."""
-        return [f"{self.pick('s', 'h')}{count}" for count in counts]
+        """Boards of `X` with these cell counts; a garden board only in place of one that could be opened."""
+        return [board_word(self.garden(count)) if 5 <= count <= 10 and self.chance(0.3) else f"{self.pick('s', 'h')}{count}"
+                for count in counts]
+
+    def garden(self, count):
+        """The plan of a garden board, of so many cells where it can have them."""
+        rng = self.rng
+        trigger = self.pick(1, 1, 2, 2, 3, 4, 5, rng.randint(1, FEW), rng.randint(1, FEW), FEW, rng.randint(FEW, 254), 255)
+        return Plan(GARDEN, count if 3 <= count <= 5 else self.pick(3, 4, 5), rng.randrange(len(DEVICES)), trigger)
+
+    def plan(self, count, hosts, gardens):
+        """A board of any kind, of so many cells where its kind has them, by how likely a host and a garden board are."""
+        if count < 5 or self.chance(gardens):
+            return self.garden(count)
+        return Plan(HOST if self.chance(hosts) else STAND_ALONE, count)
 
     def open(self, counts):
-        """A good opening: stand-alone boards, host boards or both."""
-        hosts = self.pick(0, 0.5, 0.5, 1)
-        kinds = [HOST if self.chance(hosts) else STAND_ALONE for _ in counts]
-        if HOST in kinds or self.chance(0.5):
-            self.put(" ".join(["X"] + [f"{'h' if kind == HOST else 's'}{count}" for kind, count in zip(kinds, counts)]))
+        """A good opening: boards of one kind or of several."""
+        hosts, gardens = self.pick(0, 0.5, 0.5, 1), self.pick(0, 0, 0.4, 0.4, 1)
+        plans = [self.plan(count, hosts, gardens) for count in counts]
+        if any(plan.kind != STAND_ALONE for plan in plans) or self.chance(0.5):
+            self.put(" ".join(["X"] + [board_word(plan) for plan in plans]))
         else:
             Maker.words(self, "O", counts)
-        self.boards = [Aim(count, kind) for count, kind in zip(counts, kinds)]
-        for number, kind in enumerate(kinds, 1):
-            if kind == HOST and self.chance(0.6):
+        self.boards = [GardenAim(plan) if plan.kind == GARDEN else Aim(plan.cells, plan.kind) for plan in plans]
+        for number, plan in enumerate(plans, 1):
+            if plan.kind == HOST and self.chance(0.6):
                 self.write(number, 1, self.pick(6, 6, 7, 2, 4))
 
     # -- host boards
@@ -154,6 +195,82 @@ class DeskMaker(Maker):
         if self.boards[number - 1].kind == HOST and self.chance(0.4):
             self.clear(number)
 
+    # -- garden boards
+
+    def numb(self, cells, load):
+        """Fields with these cells and load; what trips other boards is nothing to a garden board."""
+        return {"load": load, "thermistor": self.pick(2000, 2000, 975, 974, 0), "shunt": self.pick(0, 0, 60001, 500000, -60001),
+                "cells": cells}
+
+    def past(self, aim, fault):
+        """Some cells, each with a reading past a level: mostly that of the fault."""
+        past = {"OV": aim.settings.ov_level + 1, "UV": aim.settings.uv_level - 1}
+        return {i: past[self.pick(fault, fault, fault, "OV", "UV")] for i in self.rng.sample(range(aim.count), self.pick(1, 1, 2, 3))}
+
+    def outside(self, aim, fault, some):
+        """Some cells past a level, the others at the fault's own or far from it."""
+        level = {"OV": aim.settings.ov_level, "UV": aim.settings.uv_level}[fault]
+        return self.numb([some.get(i, self.pick(3600, 3600, level)) for i in range(aim.count)], self.pick(0, 1))
+
+    def inside(self, aim, fault):
+        """Every cell inside, only just or far; the load is mostly off."""
+        edge = {"OV": aim.settings.ov_release - 1, "UV": aim.settings.uv_release + 1}[fault]
+        return self.numb([self.pick(3600, edge) for _ in range(aim.count)], self.pick(0, 0, 0, 0, 1))
+
+    def slip(self, aim):
+        """One cell at any line, so that most counts go down."""
+        cells = [3600] * aim.count
+        cells[self.rng.randrange(aim.count)] = self.rng.choice(aim.cell_edges())
+        return self.numb(cells, self.pick(0, 1))
+
+    def climb(self, number, fault, out, steps):
+        """So many samples to one side and one more for each slip; at times other cells join or take over."""
+        row, aim = self.boards, self.boards[number - 1]
+        slips, turns, some = self.pick(0, 0, 0.1, 0.3), self.pick(0, 0.3, 0.3), self.past(aim, fault)
+        while steps > 0:
+            if self.chance(turns):
+                some = self.past(aim, fault) | (some if self.chance(0.7) else {})
+            slipped = self.chance(slips)
+            fields = self.slip(aim) if slipped else self.outside(aim, fault, some) if out else self.inside(aim, fault)
+            self.sample(number, self.elapsed(), fields)
+            steps += 1 if slipped else -1
+            if self.chance(self.breaks):
+                super().interrupt(number)       # the bench's: scenes within scenes might not end
+            if self.boards is not row:
+                return          # opened anew
+        self.look(number)
+
+    def filtered(self, number):
+        """To the trigger or about there, to one side and the other; a large one is mostly left alone."""
+        row, trigger = self.boards, self.boards[number - 1].trigger
+        fault, far = self.pick("OV", "UV"), trigger <= FEW or self.chance(0.2)
+        for out in self.pick((False, True), (True, False), (False, True, False), (True, False, True)):
+            if self.boards is row:
+                self.climb(number, fault, out, trigger + self.pick(-1, 0, 0, 0, 1) if far else self.rng.randint(1, FEW))
+
+    def heir(self, number):
+        """One cell trips with another close behind, which goes up alone after the way back."""
+        aim, fault = self.boards[number - 1], self.pick("OV", "UV")
+        beyond = {"OV": aim.settings.ov_level + 1, "UV": aim.settings.uv_level - 1}[fault]
+        first, other = self.rng.sample(range(aim.count), 2)
+        steps = min(aim.trigger, FEW)
+        ways = [{first: beyond}] + [{first: beyond, other: beyond}] * (steps - 1) + [None] * steps + [{other: beyond}] * steps
+        for some in [None] * steps + ways:
+            self.sample(number, self.elapsed(), self.outside(aim, fault, some) if some else self.inside(aim, fault))
+        self.look(number)
+
+    def unanswered(self, number):
+        """Frames of which a garden board answers only reads of register 0."""
+        for _ in range(self.pick(1, 2, 4)):
+            register = self.pick(0, 0, 1, 6, 11, 16, self.rng.randrange(256))
+            self.frame(2 * number + self.pick(0, 0, 1), register, self.pick(0, 0, 1, 6, 0x41, self.rng.randrange(256)))
+
+    def grown(self):
+        """A scene of a garden board, where there is one."""
+        gardens = [n for n, aim in enumerate(self.boards, 1) if aim.kind == GARDEN]
+        if gardens:
+            self.pick(self.filtered, self.filtered, self.filtered, self.heir, self.unanswered)(self.rng.choice(gardens[:2]))
+
     # -- the workshop's own
 
     def short_room(self):
@@ -188,17 +305,23 @@ class DeskMaker(Maker):
         elif what == 4 and size > 16:
             self.put("O" + f" {self.pick(5, 10)}" * size)
         elif size > 16:
-            self.put("X" + f" {self.pick('s', 'h')}{self.pick(5, 10)}" * size)
+            self.put("X" + self.pick(" s5", " s10", " h5", " h10", " g3/0/1", " g5/2/255") * size)
 
     def odd_boards(self):
         """Boards that are not of their form, or that cannot be opened."""
         counts = [self.rng.randint(5, 10) for _ in range(self.pick(0, 1, 2, 15, 16, 17))]
         words = self.named(counts)
-        odd = self.pick("s", "5", "S5", "s05", "s-5", "s+5", "s 5", "ss5", "s5s", "s5/", "s5/0", "s5/0/1", "/5", "q5", "g3/0/2", "g5",
+        odd = self.pick("s", "5", "S5", "s05", "s-5", "s+5", "s 5", "ss5", "s5s", "s5/", "s5/0", "s5/0/1", "/5", "q5",
                         "h", "H5", "h05", "h-5", "h 5", "hh5", "sh5", "h5s", "h5/0", "h5/0/1", f"h{LARGEST + 1}", f"h{2**32 + 5}",
-                        "s5,s5", f"s{LARGEST + 1}", f"s{2**32 + 5}", "s5\r", "s\t5", "s5\0")
+                        "s5,s5", f"s{LARGEST + 1}", f"s{2**32 + 5}", "s5\r", "s\t5", "s5\0",
+                        "g", "g3", "g3/", "g3/0", "g3/0/", "g/0/2", "g3//2", "G3/0/2", "g03/0/2", "g3/00/2", "g3/0/02", "g-3/0/2",
+                        "g3/-0/2", "g3/0/+2", "g3/0/2/", "g3/0/2/1", "g3 /0/2", "g3/ 0/2", "gg3/0/2", "sg3/0/2", "g3/0/2s5", "3/0/2",
+                        f"g{LARGEST + 1}/0/2", f"g{2**32 + 3}/0/2", f"g3/{LARGEST + 1}/2", f"g3/{2**32}/2", f"g3/0/{LARGEST + 1}",
+                        f"g3/0/{2**32 + 2}")
         bad = self.pick("s4", "s11", "s0", "s1", "s261", f"s{LARGEST}", "s65541",
-                        "h4", "h11", "h0", "h5000", "h261", "h517", f"h{LARGEST}", "h65541")
+                        "h4", "h11", "h0", "h5000", "h261", "h517", f"h{LARGEST}", "h65541",
+                        "s3", "h3", "g2/0/2", "g6/0/2", "g0/0/2", "g10/0/2", "g259/0/2", f"g{LARGEST}/0/2", "g3/3/2", "g3/4/2", "g3/256/2",
+                        "g3/65536/2", f"g3/{LARGEST}/2", "g3/0/0", "g3/0/256", "g3/0/257", "g3/0/65537", f"g3/0/{LARGEST}", "g2/3/0")
         words.insert(self.pick(0, len(words)), self.pick(odd, odd, bad))
         self.put(" ".join(["X"] + words))
 
@@ -212,16 +335,18 @@ class DeskMaker(Maker):
 
     def huge(self, size):
         """A well-formed line of so many bytes that opens nothing."""
-        head, field, longer = self.pick((b"O", b" 5", b" 10"), (b"X", b" s5", b" s10"), (b"X", b" h5", b" h10"), (b"F", b" 1", b" 10"),
-                                        (b"F@3", b" 25", b" 255"), (b"S 1 1000 0 2000 0", b" 4000", b" 40000"))
+        head, field, longer = self.pick((b"O", b" 5", b" 10"), (b"X", b" s5", b" s10"), (b"X", b" h5", b" h10"),
+                                        (b"X", b" g3/0/1", b" g3/0/10"), (b"F", b" 1", b" 10"), (b"F@3", b" 25", b" 255"),
+                                        (b"S 1 1000 0 2000 0", b" 4000", b" 40000"))
         count, more = divmod(size - len(head), len(field))
         return head + field * (count - more) + longer * more
 
     def desk(self):
         """One of the workshop's own scenarios."""
         self.rng.choices(
-            (self.hosted, self.short_room, self.odd_room, self.long_list, self.odd_boards, self.later, self.refused_opening, self.huge_line),
-            (14, 8, 4, 6, 8, 4, 2, 0.06))[0]()
+            (self.hosted, self.grown, self.short_room, self.odd_room, self.long_list, self.odd_boards, self.later, self.refused_opening,
+             self.huge_line),
+            (14, 18, 8, 4, 6, 8, 4, 2, 0.06))[0]()
 
     def scenario(self):
         """The bench's scenarios, and the workshop's own among them."""

@@ -638,7 +638,7 @@ class Maker:
         rng = self.rng
         at = rng.randint(0, len(line))
         odd = self.pick(b" ", b"0", b"-", b"+", b"\t", b"\r", b"\0", b"\x80", b"\xff",
-                        b"9", b"1", b"S", b".", b"a", b"h", bytes([rng.randrange(256)]))
+                        b"9", b"1", b"S", b".", b"a", b"h", b"g", b"/", bytes([rng.randrange(256)]))
         what = rng.randrange(10)
         if what == 0:
             return line[:at] + line[at + 1:]
