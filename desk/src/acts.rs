@@ -54,6 +54,7 @@ impl Desk {
             *plan = match board.kind {
                 Kind::StandAlone => Plan::stand_alone(board.cells),
                 Kind::Host => Plan::host(board.cells),
+                Kind::Garden { row, trigger } => Plan::garden(board.cells, row, trigger),
             };
         }
         let plans = plans.get(..wanted.len()).unwrap_or(&plans);

@@ -15,14 +15,15 @@ const MOST_DIGITS: usize = 10;
 /// No line has more fields: each takes a space and a byte.
 const MOST_FIELDS: usize = LONGEST_LINE / 2;
 
-/// The kind of a board.
+/// The kind of a board, and for a garden board its row of the device table and its trigger count.
 #[derive(Clone, Copy)]
 pub enum Kind {
     StandAlone,
     Host,
+    Garden { row: u32, trigger: u32 },
 }
 
-/// A board that an opening asks for. Any number of cells is well formed: the library decides.
+/// A board that an opening asks for. Any numbers are well formed: the library decides.
 #[derive(Clone, Copy)]
 pub struct Wanted {
     pub kind: Kind,
@@ -61,6 +62,7 @@ pub enum What {
     TooLarge,
     NoByte,
     NoBoard,
+    NoSlash,
 }
 
 /// Memory for the lists of one line after another, lent once: it has room for the longest line.
@@ -185,17 +187,27 @@ impl Fields<'_> {
         Ok(Wanted { kind: Kind::StandAlone, cells: self.number()? })
     }
 
-    /// A board of `X`: the letter of its kind and its cell count.
+    /// A board of `X`: the letter of its kind and its cell count, and behind slashes what else a garden board has.
     fn board(&mut self) -> Result<Wanted, What> {
         self.space()?;
-        let kind = if self.passes(b's') {
-            Kind::StandAlone
+        if self.passes(b's') {
+            Ok(Wanted { cells: self.digits()?, kind: Kind::StandAlone })
         } else if self.passes(b'h') {
-            Kind::Host
+            Ok(Wanted { cells: self.digits()?, kind: Kind::Host })
+        } else if self.passes(b'g') {
+            Ok(Wanted { cells: self.digits()?, kind: Kind::Garden { row: self.slashed()?, trigger: self.slashed()? } })
         } else {
-            return Err(What::NoBoard);
-        };
-        Ok(Wanted { kind, cells: self.digits()? })
+            Err(What::NoBoard)
+        }
+    }
+
+    /// A number with a slash in front.
+    fn slashed(&mut self) -> Result<u32, What> {
+        if self.passes(b'/') {
+            self.digits()
+        } else {
+            Err(What::NoSlash)
+        }
     }
 
     /// The bytes that are lent for a frame's reply.

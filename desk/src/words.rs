@@ -1,6 +1,6 @@
 //! Words for a person at the desk: what stands behind a refusal's number. Nothing here decides anything.
 use crate::acts::Desk;
-use crate::lines::{Flaw, Line, Wanted, What, LARGEST, LONGEST_LINE};
+use crate::lines::{Flaw, Kind, Line, Wanted, What, LARGEST, LONGEST_LINE};
 use crate::print::{self, Text};
 use adomvik::{Readings, Refusal, BOARDS_MAX, FRAME_BYTES};
 
@@ -33,7 +33,8 @@ pub fn flaw(text: &mut Text, line: &[u8], flaw: &Flaw) {
         What::MinusZero => format!("a minus sign before a zero at byte {place}"),
         What::TooLarge => format!("the number at byte {place} is over {LARGEST}"),
         What::NoByte => format!("a byte of a frame is over 255: it ends at byte {}", flaw.at),
-        What::NoBoard => format!("{found} at byte {place}, where a board such as s5 or h5 should be"),
+        What::NoBoard => format!("{found} at byte {place}, where a board such as s5, h5 or g3/0/2 should be"),
+        What::NoSlash => format!("{found} at byte {place}, where a slash and a number of the garden board should be"),
     };
     said(text, &format!("no line of the workshop: {why}"));
 }
@@ -85,8 +86,23 @@ fn opening(boards: &[Wanted]) -> Option<String> {
     if boards.is_empty() || boards.len() > BOARDS_MAX {
         return Some(format!("it would have {} boards, and can have 1 to {BOARDS_MAX}", boards.len()));
     }
-    let (board, Wanted { cells, .. }) = (1..).zip(boards).find(|(_, board)| !(5..=10).contains(&board.cells))?;
-    Some(format!("board {board} would have {cells} cells, and can have 5 to 10"))
+    (1..).zip(boards).find_map(|(number, board)| Some(format!("board {number} would have {}", misfit(board)?)))
+}
+
+/// What a board would have that no board of its kind can have.
+fn misfit(board: &Wanted) -> Option<String> {
+    let Wanted { kind, cells } = *board;
+    let (fewest, most) = if let Kind::Garden { .. } = kind { (3, 5) } else { (5, 10) };
+    if !(fewest..=most).contains(&cells) {
+        return Some(format!("{cells} cells, and can have {fewest} to {most}"));
+    }
+    match kind {
+        Kind::Garden { row, .. } if row > 2 => Some(format!("row {row} of the device table, which has 0 to 2")),
+        Kind::Garden { trigger, .. } if !(1..=255).contains(&trigger) => {
+            Some(format!("the trigger {trigger}, and can have 1 to 255"))
+        }
+        _ => None,
+    }
 }
 
 fn no_board(board: u32, desk: &Desk) -> String {

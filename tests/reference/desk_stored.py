@@ -2,7 +2,8 @@
 
 `>` stands before a line and `<` before its answer, as the page has them. In a
 line `\\xff` stands for a byte, and `{TEXT*N}` for N times a text; `>.` is a
-last line without its newline; `#` is a remark.
+last line without its newline; `>254` is a line that is sent so many times and
+has the same answer each time; `#` is a remark.
 """
 
 import os
@@ -27,17 +28,18 @@ class Stored:
         self.path = os.path.join(SESSIONS, name)
         with open(self.path, encoding="ascii") as file:
             self.text = file.read()
-        self.sent, self.wanted, fresh, reference = b"", [], [], Workshop()
+        self.sent, self.wanted, fresh, reference, times = b"", [], [], Workshop(), 1
         for row in self.text.splitlines():
             mark, _, text = row.partition(" ")
             if mark == "<":
-                self.wanted.append(text.encode())
+                self.wanted.extend([text.encode()] * times)
                 continue
             fresh.append(row)
-            if mark in (">", ">."):
-                line = line_of(text)
-                self.sent += line + (b"\n" if mark == ">" else b"")
-                fresh.extend("< " + answer for answer in reference.answer(line).decode().split("\n"))
+            if mark.startswith(">"):
+                line, times = line_of(text), int(mark.strip(">.") or 1)
+                self.sent += (line + (b"" if mark == ">." else b"\n")) * times
+                told = dict.fromkeys(reference.answer(line) for _ in range(times))
+                fresh.extend("< " + answer for answers in told for answer in answers.decode().split("\n"))
         self.fresh = "\n".join(fresh) + "\n"
 
 
