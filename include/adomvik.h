@@ -31,15 +31,19 @@ extern "C" {
 
 enum {
     ADOMVIK_BOARDS_MAX = 16,
-    ADOMVIK_CELLS_MIN = 5,
+    ADOMVIK_CELLS_MIN = 5, /* of a stand-alone or host board */
     ADOMVIK_CELLS_MAX = 10,
+    ADOMVIK_GARDEN_CELLS_MIN = 3,
+    ADOMVIK_GARDEN_CELLS_MAX = 5,
+    ADOMVIK_TRIGGER_MIN = 1,
+    ADOMVIK_TRIGGER_MAX = 255,
     ADOMVIK_FRAME_BYTES = 4
 };
 
 /* What an act returns; the table's 12 is a program's own and never comes from here. */
 enum {
     ADOMVIK_OK = 0,
-    ADOMVIK_BAD_ROW = 1,      /* not 1 to 16 boards, or a board that is of no kind below or is without 5 to 10 cells */
+    ADOMVIK_BAD_ROW = 1,      /* not 1 to 16 boards, or one of no kind below, or of cells, a row or a trigger that its kind has not */
     ADOMVIK_NO_BOARD = 2,     /* no board of that number */
     ADOMVIK_CELL_LIST = 3,    /* the cell list is not as long as the board's cell count */
     ADOMVIK_ELAPSED = 4,      /* elapsed time not 1 to 100,000 us */
@@ -47,7 +51,7 @@ enum {
     ADOMVIK_FRAME_LENGTH = 6, /* the frame is not 4 bytes */
     ADOMVIK_REPLY_ROOM = 7,   /* the reply buffer is under 4 bytes */
     ADOMVIK_CHECK_BYTE = 8,   /* the check byte is wrong */
-    ADOMVIK_NO_REGISTER = 9,  /* the board has no such register (only host boards have 1), or a write to register 0 */
+    ADOMVIK_NO_REGISTER = 9,  /* a board of that kind has no such register, or a write to register 0 */
     ADOMVIK_BAD_VALUE = 10,   /* a read with a value, or a write of one that the register does not take */
     ADOMVIK_NO_CYCLE = 11,    /* programming staged settings unlike the working ones, three cycles already spent */
     ADOMVIK_CROSSED = 13      /* programming staged settings whose SCD level is not above their OCD level */
@@ -65,10 +69,19 @@ enum {
 };
 
 /* Kinds of board. The four faults SCD, OCD, OV and UV of a stand-alone board let go by themselves; those of a host board stay
- * until its host clears them by register 1, and its switches are on only where the host has set their bits there. */
+ * until its host clears them by register 1, and its switches are on only where the host has set their bits there. A garden board
+ * is a small pack with OV and UV alone, by counts of samples: no settings, no bleeding, and register 0 is all that it has. */
 enum {
     ADOMVIK_STAND_ALONE = 0,
-    ADOMVIK_HOST = 1
+    ADOMVIK_HOST = 1,
+    ADOMVIK_GARDEN = 2
+};
+
+/* Rows of the garden boards' device table: OV level and hysteresis, UV level and hysteresis in mV. */
+enum {
+    ADOMVIK_BQ7791500 = 0, /* 4200 200 2900 400, UV waits for the load to be removed */
+    ADOMVIK_BQ7791501 = 1, /* 4250 200 2800 400, likewise */
+    ADOMVIK_BQ7791504 = 2  /* 4275 100 2000 200, the load is not asked for */
 };
 
 /* Register 1, that host boards alone have: read, and written with a value of 0 to 7. It starts at 0 and programming leaves it.
@@ -82,7 +95,7 @@ enum {
     ADOMVIK_CONTROL_CHG = 4
 };
 
-/* What a board is to be. Plans are made by the two functions below and by nothing else: what stands in one may change. */
+/* What a board is to be. Plans are made by the three functions below and by nothing else: what stands in one may change. */
 typedef struct adomvik_plan {
     uint32_t number;
 } adomvik_plan;
@@ -101,6 +114,15 @@ static inline adomvik_plan adomvik_host(uint32_t cells)
     return plan;
 }
 
+/* A garden board of 3 to 5 cells, by a row of the device table and a trigger of 1 to 255: so many counts latch a fault, and so many
+ * let it go. It starts with OV latched. */
+static inline adomvik_plan adomvik_garden(uint32_t cells, uint32_t row, uint32_t trigger)
+{
+    const uint32_t number = 16777216u * trigger + 65536u * row + 256u * ADOMVIK_GARDEN + cells;
+    adomvik_plan plan = {cells < 256 && row < 256 && trigger < 256 ? number : 0};
+    return plan;
+}
+
 /* The five settings bytes, each under its register's number. */
 typedef struct adomvik_settings {
     uint8_t r6, r7, r8, r9, r10;
@@ -111,6 +133,7 @@ typedef struct adomvik_currents {
     uint32_t ocd, scd;
 } adomvik_currents;
 
+/* The runs of a cell; on a garden board its counts, up by one at a sample past the level and down by one at any other. */
 typedef struct adomvik_cell {
     uint32_t ov, uv;
 } adomvik_cell;
@@ -122,24 +145,36 @@ typedef struct adomvik_last {
     int32_t shunt; /* uV */
 } adomvik_last;
 
-/* One board. Records are made by an opening; copy and keep them as plain bytes. Three bytes of padding lie behind `control`, and
+/* What a garden board has of its own. A recovery count goes up while its fault is latched and every cell is inside level and
+ * hysteresis, down at any other sample, and is 0 while the fault is not latched. */
+typedef struct adomvik_filter {
+    uint8_t row;     /* of the device table */
+    uint8_t trigger;
+    uint8_t ov_back; /* the recovery count of OV */
+    uint8_t uv_back; /* that of UV */
+} adomvik_filter;
+
+/* One board. Records are made by an opening; copy and keep them as plain bytes. Three bytes of padding lie behind `garden`, and
  * two records that are equal otherwise may differ in them: compare records by their fields.
  *
- * The record had 104 bytes before there were host boards and has 120 now. New are `kind`, in the byte that was padding, and
- * behind all others `last` and `control`; no other field has moved. 104 bytes that were kept are a stand-alone board's: give it
- * kind 0, and anything as the last 16 bytes, which only a host board asks for. */
+ * The record had 104 bytes before there were host boards, 120 before there were garden boards, and has 124 now. Host boards brought
+ * `kind`, in a byte that was padding, and behind all others `last` and `control`; garden boards brought `garden`, which begins in
+ * what was padding. No other field has moved. What was kept is good still. 120 bytes are a stand-alone or a host board's: put
+ * anything behind them, since only a garden board asks for `garden`. 104 bytes are a stand-alone board's: give it kind 0, and
+ * anything as the last 20 bytes. */
 typedef struct adomvik_board {
     uint8_t count;              /* cells */
     uint8_t latches;            /* the low five bits of register 0 */
     uint8_t cycles;             /* programming cycles spent */
-    uint8_t kind;               /* ADOMVIK_STAND_ALONE or ADOMVIK_HOST */
+    uint8_t kind;               /* ADOMVIK_STAND_ALONE, ADOMVIK_HOST or ADOMVIK_GARDEN */
     uint16_t flags;             /* flagged cells: cell 1 is worth 1, cell 2 is worth 2, cell 3 is worth 4 and so on */
     adomvik_settings working;
     adomvik_settings staged;
     adomvik_currents currents;
     adomvik_cell cells[ADOMVIK_CELLS_MAX];
-    adomvik_last last;          /* kept by boards of both kinds */
+    adomvik_last last;
     uint8_t control;            /* register 1 */
+    adomvik_filter garden;      /* of a garden board */
 } adomvik_board;
 
 /* What a sample reads beside the cells. It is passed by value. */
@@ -166,17 +201,20 @@ typedef struct adomvik_reading {
 } adomvik_reading;
 
 ADOMVIK_ASSERT(sizeof(adomvik_plan) == 4 && ADOMVIK_ALIGN(adomvik_plan) == 4, "a plan is a number of 4 bytes");
-ADOMVIK_ASSERT(sizeof(adomvik_board) == 120 && ADOMVIK_ALIGN(adomvik_board) == 4, "a board's record is 120 bytes, aligned to 4");
+ADOMVIK_ASSERT(sizeof(adomvik_board) == 124 && ADOMVIK_ALIGN(adomvik_board) == 4, "a board's record is 124 bytes, aligned to 4");
 ADOMVIK_ASSERT(offsetof(adomvik_board, count) == 0 && offsetof(adomvik_board, latches) == 1 && offsetof(adomvik_board, cycles) == 2
         && offsetof(adomvik_board, kind) == 3 && offsetof(adomvik_board, flags) == 4 && offsetof(adomvik_board, working) == 6
         && offsetof(adomvik_board, staged) == 11 && offsetof(adomvik_board, currents) == 16 && offsetof(adomvik_board, cells) == 24
-        && offsetof(adomvik_board, last) == 104 && offsetof(adomvik_board, control) == 116, "a board's fields lie where the library has them");
+        && offsetof(adomvik_board, last) == 104 && offsetof(adomvik_board, control) == 116 && offsetof(adomvik_board, garden) == 117,
+    "a board's fields lie where the library has them");
 ADOMVIK_ASSERT(sizeof(adomvik_settings) == 5 && offsetof(adomvik_settings, r6) == 0 && offsetof(adomvik_settings, r7) == 1
         && offsetof(adomvik_settings, r8) == 2 && offsetof(adomvik_settings, r9) == 3 && offsetof(adomvik_settings, r10) == 4, "settings are 5 bytes");
 ADOMVIK_ASSERT(sizeof(adomvik_currents) == 8 && offsetof(adomvik_currents, ocd) == 0 && offsetof(adomvik_currents, scd) == 4, "two runs of 4 bytes");
 ADOMVIK_ASSERT(sizeof(adomvik_cell) == 8 && offsetof(adomvik_cell, ov) == 0 && offsetof(adomvik_cell, uv) == 4, "a cell has two runs of 4 bytes");
 ADOMVIK_ASSERT(sizeof(adomvik_last) == 12 && offsetof(adomvik_last, low) == 0 && offsetof(adomvik_last, high) == 4
         && offsetof(adomvik_last, shunt) == 8, "a last sample is three numbers of 4 bytes");
+ADOMVIK_ASSERT(sizeof(adomvik_filter) == 4 && offsetof(adomvik_filter, row) == 0 && offsetof(adomvik_filter, trigger) == 1
+        && offsetof(adomvik_filter, ov_back) == 2 && offsetof(adomvik_filter, uv_back) == 3, "a garden board's own part is 4 bytes");
 ADOMVIK_ASSERT(sizeof(adomvik_readings) == 16 && ADOMVIK_ALIGN(adomvik_readings) == 4, "readings are four numbers of 4 bytes");
 ADOMVIK_ASSERT(sizeof(adomvik_sampled) == 4 && offsetof(adomvik_sampled, bled) == 2, "an answer to a sample is 4 bytes");
 ADOMVIK_ASSERT(sizeof(adomvik_reading) == 5, "a reading is 5 bytes");
@@ -185,7 +223,7 @@ ADOMVIK_ASSERT(sizeof(adomvik_reading) == 5, "a reading is 5 bytes");
  * of the row is made anew, whatever it held. Refusal 1 also where the two lengths differ. */
 uint8_t adomvik_open(adomvik_board *row, size_t boards, const uint32_t *counts, size_t count);
 
-/* The same by a plan for each board, made by adomvik_stand_alone or adomvik_host: a row may have boards of both kinds. */
+/* The same by a plan for each board, made by adomvik_stand_alone, adomvik_host or adomvik_garden; a row may mix kinds. */
 uint8_t adomvik_open_plans(adomvik_board *row, size_t boards, const adomvik_plan *plans, size_t count);
 
 /* A sample of one board of the row, in mV for each cell from cell 1 up. Refusals 1, 2, 3, 4, 5. */

@@ -1,7 +1,7 @@
 // The types of adomvik.mjs.
 
 /** The bytes of a record. */
-export const RECORD_BYTES: 120;
+export const RECORD_BYTES: 124;
 /** The most boards that a stack has. */
 export const BOARDS_MAX: 16;
 /** Register 1 of a host board: a write that takes this bit from 1 to 0 clears the faults that are over on the last sample. */
@@ -10,6 +10,12 @@ export const CONTROL_CLEAR: 1;
 export const CONTROL_DSG: 2;
 /** Register 1 of a host board: CHG may be on, likewise. */
 export const CONTROL_CHG: 4;
+/** A row of the garden boards' device table: OV 4200 less 200 mV, UV 2900 and 400 mV, which waits for the load to be removed. */
+export const BQ7791500: 0;
+/** OV 4250 less 200 mV, UV 2800 and 400 mV, which waits for the load to be removed. */
+export const BQ7791501: 1;
+/** OV 4275 less 100 mV, UV 2000 and 200 mV. */
+export const BQ7791504: 2;
 
 /** Why an act was refused, with the paper's number. */
 export class Refusal extends Error {
@@ -53,14 +59,19 @@ export interface Reading {
   cell: number;
 }
 
-/** What a board is to be: its kind and its cells. Any number of cells makes a plan; one of other than 5 to 10 is refused as it is opened. */
+/** What a board is to be: its kind and its cells. Any numbers make a plan; one that no board can have is refused as it is opened. */
 export class Plan {
   private constructor();
   #private;
-  /** A board whose faults let go by themselves. */
+  /** A board of 5 to 10 cells whose faults let go by themselves. */
   static standAlone(cells: number): Plan;
-  /** A board whose host clears its faults and lets its switches on, by register 1. Overtemperature lets go by itself. */
+  /** A board of 5 to 10 cells whose host clears its faults and lets its switches on, by register 1. Overtemperature lets go by itself. */
   static host(cells: number): Plan;
+  /**
+   * A garden board of 3 to 5 cells, by a row of the device table and a trigger of 1 to 255: so many counts latch OV or UV, and so
+   * many let it go. It starts with OV latched and has register 0 alone.
+   */
+  static garden(cells: number, row: number, trigger: number): Plan;
 }
 
 /** A row of board records. Every act returns its answer or throws a Refusal, and has then changed nothing. */

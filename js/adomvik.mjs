@@ -4,7 +4,7 @@
 // table; a refused act has changed nothing. adomvik.d.ts has the types.
 
 /** The bytes of a record. */
-export const RECORD_BYTES = 120;
+export const RECORD_BYTES = 124;
 /** The most boards that a stack has. */
 export const BOARDS_MAX = 16;
 
@@ -15,13 +15,24 @@ export const CONTROL_DSG = 2;
 /** Register 1 of a host board: CHG may be on, likewise. */
 export const CONTROL_CHG = 4;
 
+/** A row of the garden boards' device table: OV 4200 less 200 mV, UV 2900 and 400 mV, which waits for the load to be removed. */
+export const BQ7791500 = 0;
+/** OV 4250 less 200 mV, UV 2800 and 400 mV, which waits for the load to be removed. */
+export const BQ7791501 = 1;
+/** OV 4275 less 100 mV, UV 2000 and 200 mV. */
+export const BQ7791504 = 2;
+
+const STAND_ALONE = 0;
+const HOST = 1;
+const GARDEN = 2;
+
 const FRAME_BYTES = 4;
 const RECORDS_MAX = 256; // that fit the memory as it starts; the library itself takes 16 at most
 const LARGEST = 0xffffffff;
 
 // By the paper's number; 12 is a program's own and never comes from the library.
 const WHY = {
-  1: "not 1 to 16 boards, or a board that is of no kind or is without 5 to 10 cells",
+  1: "not 1 to 16 boards, or one of no kind, or of cells, a row or a trigger that its kind has not",
   2: "no board of that number",
   3: "the cell list is not as long as the board's cell count",
   4: "elapsed time not 1 to 100,000 µs",
@@ -29,7 +40,7 @@ const WHY = {
   6: "the frame is not 4 bytes",
   7: "the reply buffer is under 4 bytes",
   8: "the check byte is wrong",
-  9: "the board has no such register (only host boards have 1), or a write to register 0",
+  9: "a board of that kind has no such register, or a write to register 0",
   10: "a read with a value, or a write of one that the register does not take",
   11: "programming staged settings unlike the working ones, three cycles already spent",
   13: "programming staged settings whose SCD level is not above their OCD level",
@@ -67,7 +78,7 @@ function checkBytes(bytes) {
 // A plan as the library takes it; a TypeError where it is none.
 let numberOf;
 
-/** What a board is to be: its kind and its cells. Plans are made by `Plan.standAlone` and `Plan.host` alone. */
+/** What a board is to be: its kind and its cells. Plans are made by `Plan.standAlone`, `Plan.host` and `Plan.garden` alone. */
 export class Plan {
   #number;
 
@@ -75,21 +86,27 @@ export class Plan {
     numberOf = (plan) => plan.#number;
   }
 
-  // Cells that no plan can have make one that nothing opens.
-  static #of(kind, cells) {
+  // Numbers that no plan can have make one that nothing opens.
+  static #of(kind, cells, row, trigger) {
     const plan = new Plan();
-    plan.#number = natural(cells) < 256 ? 256 * kind + cells : 0;
+    const fits = [cells, row, trigger].every((n) => natural(n) < 256);
+    plan.#number = fits ? 16777216 * trigger + 65536 * row + 256 * kind + cells : 0;
     return plan;
   }
 
   /** A board of so many cells whose faults let go by themselves. */
   static standAlone(cells) {
-    return Plan.#of(0, cells);
+    return Plan.#of(STAND_ALONE, cells, 0, 0);
   }
 
   /** A board of so many cells whose host clears its faults and lets its switches on, by register 1. */
   static host(cells) {
-    return Plan.#of(1, cells);
+    return Plan.#of(HOST, cells, 0, 0);
+  }
+
+  /** A garden board of so many cells, by a row of the device table and a trigger; it starts with OV latched. */
+  static garden(cells, row, trigger) {
+    return Plan.#of(GARDEN, cells, row, trigger);
   }
 }
 

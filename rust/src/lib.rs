@@ -26,6 +26,18 @@
 //! assert!(row.read()?.chg && row.read()?.dsg);
 //! # Ok::<(), adomvik::Refusal>(())
 //! ```
+//!
+//! A small garden pack goes by counts of samples, and starts with OV latched until as many as its trigger were inside:
+//!
+//! ```
+//! use adomvik::{Plan, Readings, Row, BQ7791500};
+//!
+//! let mut row = Row::open_plans([Plan::garden(3, BQ7791500, 2)])?;
+//! let readings = Readings { elapsed: 1_000, shunt: 0, thermistor: 2_000, load: 0 };
+//! assert!(!row.sample(1, readings, &[3_600; 3])?.chg_on());
+//! assert!(row.sample(1, readings, &[3_600; 3])?.chg_on());
+//! # Ok::<(), adomvik::Refusal>(())
+//! ```
 #![no_std]
 #![warn(missing_docs)]
 
@@ -35,7 +47,7 @@ use core::mem::{align_of, size_of};
 /// The most boards that a stack has.
 pub const BOARDS_MAX: usize = 16;
 /// The bytes of a record.
-pub const RECORD_BYTES: usize = 120;
+pub const RECORD_BYTES: usize = 124;
 /// The bytes of a frame and of a reply.
 pub const FRAME_BYTES: usize = 4;
 
@@ -46,11 +58,18 @@ pub const CONTROL_DSG: u8 = 2;
 /// Register 1 of a host board: CHG may be on, likewise.
 pub const CONTROL_CHG: u8 = 4;
 
+/// A row of the garden boards' device table: OV 4200 less 200 mV, UV 2900 and 400 mV, which waits for the load to be removed.
+pub const BQ7791500: u32 = 0;
+/// OV 4250 less 200 mV, UV 2800 and 400 mV, which waits for the load to be removed.
+pub const BQ7791501: u32 = 1;
+/// OV 4275 less 100 mV, UV 2000 and 200 mV.
+pub const BQ7791504: u32 = 2;
+
 /// Why an act was refused, with the paper's number.
 #[derive(Clone, Copy, Debug, PartialEq, Eq)]
 #[repr(u8)]
 pub enum Refusal {
-    /// Not 1 to 16 boards, or a board that is of no kind or is without 5 to 10 cells.
+    /// Not 1 to 16 boards, or one of no kind, or of cells, a row or a trigger that its kind has not.
     BadRow = 1,
     /// No board of that number.
     NoBoard = 2,
@@ -66,7 +85,7 @@ pub enum Refusal {
     ReplyRoom = 7,
     /// The check byte is wrong.
     CheckByte = 8,
-    /// The board has no such register (only host boards have 1), or a write to register 0.
+    /// A board of that kind has no such register, or a write to register 0.
     NoRegister = 9,
     /// A read with a value, or a write of one that the register does not take.
     BadValue = 10,
@@ -109,8 +128,7 @@ impl fmt::Display for Refusal {
     }
 }
 
-/// What a board is to be: its kind and its cells. Any number of cells makes a plan; one of other than 5 to 10 is refused as it
-/// is opened.
+/// What a board is to be: its kind and its cells. Any numbers make a plan; one that no board can have is refused as it is opened.
 #[derive(Clone, Copy, Debug, PartialEq, Eq)]
 #[repr(transparent)]
 pub struct Plan(u32);
@@ -118,18 +136,30 @@ pub struct Plan(u32);
 const _: () = assert!(size_of::<Plan>() == 4 && align_of::<Plan>() == 4);
 
 impl Plan {
-    /// A board whose faults let go by themselves.
+    const STAND_ALONE: u32 = 0;
+    const HOST: u32 = 1;
+    const GARDEN: u32 = 2;
+
+    /// A board of 5 to 10 cells whose faults let go by themselves.
     pub const fn stand_alone(cells: u32) -> Plan {
-        Plan::of(0, cells)
+        Plan::of(Plan::STAND_ALONE, cells, 0, 0)
     }
 
-    /// A board whose host clears its faults and lets its switches on, by register 1. Overtemperature lets go by itself.
+    /// A board of 5 to 10 cells whose host clears its faults and lets its switches on, by register 1. Overtemperature lets go by
+    /// itself.
     pub const fn host(cells: u32) -> Plan {
-        Plan::of(1, cells)
+        Plan::of(Plan::HOST, cells, 0, 0)
     }
 
-    const fn of(kind: u32, cells: u32) -> Plan {
-        Plan(if cells < 256 { 256 * kind + cells } else { 0 })
+    /// A garden board of 3 to 5 cells, by a row of the device table and a trigger of 1 to 255: so many counts latch OV or UV, and
+    /// so many let it go. It starts with OV latched and has register 0 alone.
+    pub const fn garden(cells: u32, row: u32, trigger: u32) -> Plan {
+        Plan::of(Plan::GARDEN, cells, row, trigger)
+    }
+
+    const fn of(kind: u32, cells: u32, row: u32, trigger: u32) -> Plan {
+        let fits = cells < 256 && row < 256 && trigger < 256;
+        Plan(if fits { trigger << 24 | row << 16 | kind << 8 | cells } else { 0 })
     }
 }
 
@@ -155,10 +185,21 @@ struct Last {
     shunt: i32,
 }
 
+/// A garden board's own part: its row and trigger, and the recovery counts of its two faults.
+#[derive(Clone, Copy)]
+#[repr(C)]
+struct Filter {
+    row: u8,
+    trigger: u8,
+    ov_back: u8,
+    uv_back: u8,
+}
+
 /// One board's record. It is made by an opening, or from bytes that were kept: every pattern of bytes is a record.
 ///
-/// It had 104 bytes before there were host boards. 104 bytes that were kept are a stand-alone board's: byte 3, which was padding,
-/// has to be 0 now, and the 16 that come behind may be anything.
+/// It had 104 bytes before there were host boards, and 120 before there were garden boards. 120 bytes that were kept are a
+/// stand-alone or a host board's, and the 4 that come behind may be anything. 104 are a stand-alone board's: byte 3, which was
+/// padding, has to be 0 now, and the 20 that come behind may be anything.
 #[derive(Clone, Copy)]
 #[repr(C)]
 pub struct Board {
@@ -173,6 +214,7 @@ pub struct Board {
     cells: [Run; 10],
     last: Last,
     control: u8,
+    garden: Filter,
 }
 
 const _: () = assert!(size_of::<Board>() == RECORD_BYTES && align_of::<Board>() == 4);
@@ -264,6 +306,7 @@ impl Board {
         cells: [Run { one: 0, other: 0 }; 10],
         last: Last { low: 0, high: 0, shunt: 0 },
         control: 0,
+        garden: Filter { row: 0, trigger: 0, ov_back: 0, uv_back: 0 },
     };
 
     /// A sample of this record, with no row looked at.
@@ -293,6 +336,10 @@ impl Board {
         bytes[108..112].copy_from_slice(&self.last.high.to_le_bytes());
         bytes[112..116].copy_from_slice(&self.last.shunt.to_le_bytes());
         bytes[116] = self.control;
+        bytes[117] = self.garden.row;
+        bytes[118] = self.garden.trigger;
+        bytes[119] = self.garden.ov_back;
+        bytes[120] = self.garden.uv_back;
         bytes
     }
 
@@ -313,6 +360,7 @@ impl Board {
             cells: core::array::from_fn(|i| run(24 + 8 * i)),
             last: Last { low: word(104), high: word(108), shunt: word(112) as i32 },
             control: bytes[116],
+            garden: Filter { row: bytes[117], trigger: bytes[118], ov_back: bytes[119], uv_back: bytes[120] },
         }
     }
 }
