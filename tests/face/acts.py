@@ -10,7 +10,7 @@ import struct
 
 from desk_sessions import DeskMaker
 from record import LAYOUT, RECORDS, Rows
-from reference import HOST, Refusal, STAND_ALONE, Sample, Settings, Stack, crc8, split_lines
+from reference import DEVICES, GARDEN, HOST, Plan, Refusal, STAND_ALONE, Sample, Settings, Stack, crc8, split_lines, stand_alone
 from sessions import make_session
 from workshop import Workshop
 
@@ -33,10 +33,10 @@ class Script:
 
     def opening(self, boards, counts):
         """An opening of so many records by cell counts."""
-        self.put("O", [boards] + counts, self.rows.opening(boards, [(STAND_ALONE, count) for count in counts]))
+        self.put("O", [boards] + counts, self.rows.opening(boards, stand_alone(counts)))
 
     def opening_plans(self, boards, plans):
-        """An opening of so many records by the kind and the cells of each."""
+        """An opening of so many records by the kind, the cells, the row and the trigger of each."""
         self.put("P", [boards] + [number for plan in plans for number in plan], self.rows.opening(boards, plans))
 
     def sample(self, boards, number, fields):
@@ -77,10 +77,10 @@ class Told:
     def __init__(self):
         self.stack = None
 
-    def opening(self, counts, kinds=None):
+    def opening(self, plans):
         """0 or 1."""
         try:
-            self.stack = Stack(counts, kinds)
+            self.stack = Stack(plans)
             return "0"
         except Refusal as refusal:
             return str(refusal.number)
@@ -106,13 +106,13 @@ def frame_told(told, data, room):
     return " ".join([number] + ([reply.hex()] if room else []))
 
 
-def opened(script, told, counts, kinds=None):
-    """An opening by counts, or by plans where there are kinds; was it good?"""
-    if kinds is None:
-        script.opening(len(counts), counts)
+def opened(script, told, plans, by_counts):
+    """An opening by plans, or by the counts of plans that are all of stand-alone boards; was it good?"""
+    if by_counts:
+        script.opening(len(plans), [plan.cells for plan in plans])
     else:
-        script.opening_plans(len(counts), list(zip(kinds, counts)))
-    answer = told.opening(counts, kinds)
+        script.opening_plans(len(plans), plans)
+    answer = told.opening(plans)
     agree(answer, script)
     return answer == "0"
 
@@ -126,7 +126,7 @@ def session(script, seed):
         except Refusal:
             continue
         if act is Workshop.opening:
-            if len(fields[0]) <= RECORDS and opened(script, told, *fields):
+            if len(fields[0]) <= RECORDS and opened(script, told, fields[0], line.startswith(b"O")):
                 boards = len(fields[0])
         elif told.stack is None or (fields and len(fields[0]) > LONGEST_LIST):
             continue
@@ -159,15 +159,30 @@ def last_garbage(rng, working):
     return struct.pack("<IIi", low % 2**32, high % 2**32, shunt)
 
 
+def garden_garbage(rng, data):
+    """A garden board's cells, row and trigger, mostly good ones, and counts and recovery counts about the trigger."""
+    if rng.random() < 0.95:
+        data[0] = rng.randint(3, 5)
+    if rng.random() < 0.95:
+        data[117] = rng.randrange(len(DEVICES))
+    data[118] = rng.choice((1, 2, 3, 254, 255, rng.randint(1, 255))) if rng.random() < 0.97 else 0
+    near = (0, 1, max(0, data[118] - 2), max(0, data[118] - 1), data[118])
+    if rng.random() < 0.7:      # and in the other cases anything
+        data[24:104] = struct.pack("<20I", *rng.choices((*near, 254, 255, 256, 2**32 - 1), k=20))
+        data[119:121] = rng.choices((*near, 254, 255), k=2)
+    if rng.random() < 0.5:      # latches that such a board can have
+        data[1] = rng.choice((0, 4, 8, 12))
+
+
 def garbage(rng):
     """The bytes of a record that came from no opening; most of them of a good kind and cell count."""
     data = bytearray(rng.randbytes(LAYOUT.size))
     if rng.random() < 0.93:
         data[0] = rng.randint(5, 10)
     if rng.random() < 0.97:
-        data[3] = rng.choice((STAND_ALONE, HOST))
+        data[3] = rng.choice((STAND_ALONE, HOST, GARDEN))
     elif rng.random() < 0.5:
-        data[3] = HOST + 1
+        data[3] = GARDEN + 1
     if rng.random() < 0.5:
         data[2] = rng.randint(0, 4)
     if rng.random() < 0.3:      # runs near the delays and the cap
@@ -180,7 +195,17 @@ def garbage(rng):
         data[6:11] = data[11:16]
     if rng.random() < 0.7:
         data[104:116] = last_garbage(rng, data[6:11])
+    if data[3] == GARDEN:
+        garden_garbage(rng, data)
     return bytes(data)
+
+
+def garden_cells(rng, record):
+    """Readings about a garden board's levels: all past one, all inside one, or mixed."""
+    d = DEVICES[min(record.row, len(DEVICES) - 1)]
+    marks = (d.ov_level, d.ov_level - d.ov_hysteresis, d.uv_level, d.uv_level + d.uv_hysteresis)
+    near = [rng.choice(marks) + rng.choice((-1, 0, 1)) for _ in range(rng.choice((1, 1, 2, 4)))]
+    return [rng.choice(near + [3600]) for _ in range(record.count)]
 
 
 def fields(rng, record):
@@ -188,6 +213,8 @@ def fields(rng, record):
     count = record.count if record.count <= 12 and rng.random() < 0.9 else rng.randint(0, 12)
     top = rng.choice((5000, 5000, 5000, 5001, 2**32 - 1)) if rng.random() < 0.2 else 5000
     cells = [rng.choice((rng.randint(0, top), 4151, 4200, 4500, 1399, 1000, 3000)) for _ in range(count)]
+    if record.kind == GARDEN and count == record.count and rng.random() < 0.8:
+        cells = garden_cells(rng, record)
     return (rng.choice((1, 1000, 100_000, 100_000, rng.choice((0, 100_001, 2**32 - 1)))),
             rng.choice((0, -1, 60_000, 60_001, 500_000, -500_000, rng.randint(-600_000, 600_000), -2**31, 2**31 - 1)),
             rng.choice((2000, 974, 975, 5000, 5001)), rng.choice((0, 0, 1, 1, 2)), cells)
@@ -204,10 +231,27 @@ def frame_bytes(rng, boards):
         address, register, value = address | 1, 11, 0x41
     elif kind < 0.5:
         address, register, value = address | 1, 1, rng.randint(0, 8)
+    elif kind < 0.6:            # what every board answers
+        address, register, value = address & ~1, 0, rng.choice((0, 0, 0, 1))
     data = [address, register, value, crc8((address, register, value))]
     if rng.random() < 0.05:
         data[rng.randint(0, 3)] ^= rng.randint(1, 255)
     return data[:rng.randint(0, 3)] if rng.random() < 0.03 else data
+
+
+def plan_of(rng, count):
+    """A plan with that cell count, if it is not a garden board's; rows and triggers that are none at times."""
+    kind = rng.choice((STAND_ALONE, HOST, GARDEN))
+    if kind != GARDEN:
+        return Plan(kind, count)
+    if rng.random() < 0.9:
+        count = rng.randint(3, 5)
+    row, trigger = rng.randrange(len(DEVICES)), rng.choice((1, 2, 5, 255, rng.randint(1, 255)))
+    if rng.random() < 0.05:
+        row = rng.choice((3, 255, 256, 258, 2**32 - 1))
+    if rng.random() < 0.05:
+        trigger = rng.choice((0, 256, 257, 2**24, 2**32 - 1))
+    return Plan(kind, count, row, trigger)
 
 
 def wreck(script, acts):
@@ -238,4 +282,4 @@ def wreck(script, acts):
             if rng.random() < 0.3:
                 script.opening(lent, counts)
             else:
-                script.opening_plans(lent, [(rng.choice((STAND_ALONE, HOST)), count) for count in counts])
+                script.opening_plans(lent, [plan_of(rng, count) for count in counts])

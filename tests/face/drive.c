@@ -2,12 +2,12 @@
  * and writes the same.
  *
  *     O boards counts..                                  an opening by cell counts
- *     P boards kind cells kind cells ..                  an opening by plans
+ *     P boards and kind cells row trigger of each        an opening by plans
  *     S boards board elapsed shunt thermistor load cells..   a sample of the row
  *     B place elapsed shunt thermistor load cells..      a sample of the record at a place, from 0
  *     F boards room bytes..                              a frame, with a reply buffer of so many bytes
  *     R boards                                           a reading
- *     W place bytes..                                    120 bytes over the record at a place, and no act
+ *     W place bytes..                                    124 bytes over the record at a place, and no act
  *     K tries                                            the check byte of every frame of 2^17, that many bytes tried (here alone)
  *
  * An answer: the act's number, what stands in the place for the answer or in the reply buffer, and a checksum of all records.
@@ -108,11 +108,21 @@ static uint8_t *bytes(size_t from)
     return list;
 }
 
+/* A plan of four numbers: kind, cells, row, trigger. */
+static adomvik_plan plan(const uint32_t *x)
+{
+    switch (x[0]) {
+    case ADOMVIK_STAND_ALONE: return adomvik_stand_alone(x[1]);
+    case ADOMVIK_HOST: return adomvik_host(x[1]);
+    default: return adomvik_garden(x[1], x[2], x[3]);
+    }
+}
+
 static adomvik_plan *plans(size_t from)
 {
-    adomvik_plan *list = block((numbers - from) / 2 * sizeof *list);
-    for (size_t i = from; i < numbers; i += 2)
-        list[(i - from) / 2] = number[i] == ADOMVIK_HOST ? adomvik_host(number[i + 1]) : adomvik_stand_alone(number[i + 1]);
+    adomvik_plan *list = block((numbers - from) / 4 * sizeof *list);
+    for (size_t i = from; i < numbers; i += 4)
+        list[(i - from) / 4] = plan(&number[i]);
     return list;
 }
 
@@ -139,7 +149,7 @@ static uint32_t checksum(void)
     const unsigned char *p = (const unsigned char *)row;
     uint32_t crc = 0xffffffff;
     for (size_t n = 0; n < RECORDS; n++, p += sizeof *row)
-        for (size_t i = 0; i <= offsetof(adomvik_board, control); i++) {
+        for (size_t i = 0; i < offsetof(adomvik_board, garden) + sizeof row->garden; i++) {
             crc ^= p[i];
             for (int k = 0; k < 8; k++)
                 crc = crc >> 1 ^ (crc & 1 ? 0xedb88320 : 0);
@@ -181,7 +191,7 @@ static void open_row(void)
 static void open_plans(void)
 {
     adomvik_plan *list = plans(1);
-    put_number(adomvik_open_plans(row, number[0], list, (numbers - 1) / 2));
+    put_number(adomvik_open_plans(row, number[0], list, (numbers - 1) / 4));
     answer_end();
     release(list);
 }

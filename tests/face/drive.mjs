@@ -7,7 +7,7 @@ const folder = process.argv[2];
 const { load, Plan, Refusal } = await import(pathToFileURL(`${folder}/adomvik.mjs`));
 const RECORDS = 18;
 const PATTERN = 0xa5;
-const BARE = 117; // the bytes of a record in front of its padding
+const BARE = 121; // the bytes of a record in front of its padding
 
 const row = (await load(readFileSync(`${folder}/adomvik.wasm`))).row(RECORDS);
 
@@ -36,10 +36,11 @@ function checksum() {
   return (~crc >>> 0).toString(16).padStart(8, "0");
 }
 
-// A plan for each kind and cell count.
+// A plan for every four numbers: kind, cells, row, trigger.
+const KINDS = [Plan.standAlone, Plan.host, Plan.garden];
 function plans(numbers) {
   const made = [];
-  for (let i = 0; i < numbers.length; i += 2) made.push(numbers[i] === 1 ? Plan.host(numbers[i + 1]) : Plan.standAlone(numbers[i + 1]));
+  for (let i = 0; i < numbers.length; i += 4) made.push(KINDS[numbers[i]](...numbers.slice(i + 1, i + 4)));
   return made;
 }
 
@@ -49,7 +50,7 @@ const NOT_SAMPLED = [PATTERN, PATTERN << 8 | PATTERN];
 
 const acts = {
   O: ([boards, ...counts]) => told(() => { row.first(boards).open(counts); return []; }, []),
-  P: ([boards, ...pairs]) => told(() => { row.first(boards).openPlans(plans(pairs)); return []; }, []),
+  P: ([boards, ...fours]) => told(() => { row.first(boards).openPlans(plans(fours)); return []; }, []),
   S: ([boards, board, ...x]) => told(() => sampled(row.first(boards).sample(board, readings(x), x.slice(4))), NOT_SAMPLED),
   B: ([place, ...x]) => told(() => sampled(row.sampleRecord(place, readings(x), x.slice(4))), NOT_SAMPLED),
   F: ([boards, room, ...frame]) => {

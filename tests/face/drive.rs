@@ -5,7 +5,7 @@ use std::io::{self, BufRead, BufWriter, Write};
 const RECORDS: usize = 18;
 const PATTERN: u8 = 0xa5;
 /// The bytes of a record in front of its padding.
-const BARE: usize = 117;
+const BARE: usize = 121;
 
 /// CRC-32 of the records, as zlib has it, but for the padding behind each.
 fn checksum(row: &[Board]) -> u32 {
@@ -29,8 +29,17 @@ fn words(x: &[i64]) -> Vec<u32> {
     x.iter().map(|&n| n as u32).collect()
 }
 
+/// A plan of four numbers: kind, cells, row, trigger.
+fn plan(x: &[u32]) -> Plan {
+    match x[0] {
+        0 => Plan::stand_alone(x[1]),
+        1 => Plan::host(x[1]),
+        _ => Plan::garden(x[1], x[2], x[3]),
+    }
+}
+
 fn plans(x: &[i64]) -> Vec<Plan> {
-    x.chunks_exact(2).map(|pair| if pair[0] == 1 { Plan::host(pair[1] as u32) } else { Plan::stand_alone(pair[1] as u32) }).collect()
+    words(x).chunks_exact(4).map(plan).collect()
 }
 
 fn bytes(x: &[i64]) -> Vec<u8> {

@@ -27,7 +27,8 @@ pub extern "C" fn _start() -> ! {
         let _ = black_box(row.read().map_err(|why| why.number()));
         let _ = black_box(row.boards()[0].to_bytes());
     }
-    let _ = black_box(Row::open_plans([Plan::stand_alone(black_box(5)), Plan::host(black_box(6))]).map_err(|why| why.number()));
+    let plans = [Plan::stand_alone(black_box(5)), Plan::host(black_box(6)), Plan::garden(black_box(3), black_box(0), black_box(1))];
+    let _ = black_box(Row::open_plans(plans).map_err(|why| why.number()));
     let mut board = Board::from_bytes(black_box(&[0; RECORD_BYTES]));
     let _ = black_box(board.sample(readings, black_box(&[])));
     let mut reply = [0; 3];

@@ -2,27 +2,23 @@
 
 The reference computes everything from a board's history, and a record that
 came from no opening has none. This model takes any record: its levels, check
-byte and status are the reference's, its runs are the kept numbers.
+byte and status are the reference's, its runs and counts are the kept numbers.
 """
 
 import struct
 from zlib import crc32
 
-from reference import (CHG_MAY, CLEARED_BY_HAND, CONTROL, CYCLES, DSG_MAY, FIRST_SETTING, HOST, HOT_BELOW_MV, LATCH_CLEAR,
-                       MOST_CYCLES, Refusal, STAND_ALONE, STATUS_BIT, STOPS_CHG, STOPS_DSG, Settings, bled, check_register,
-                       chg_on, crc8, dsg_on, status, value_allowed)
+from reference import (CHG_MAY, CLEARED_BY_HAND, CONTROL, CYCLES, DEVICES, DSG_MAY, FIRST_SETTING, GARDEN, HOST, HOT_BELOW_MV,
+                       LATCH_CLEAR, MOST_CYCLES, Plan, Refusal, STATUS_BIT, STOPS_CHG, STOPS_DSG, Sample, Settings, bled,
+                       check_register, chg_on, crc8, dsg_on, inside, openable, past, status, value_allowed)
 
-BARE = struct.Struct("<BBBBH5s5s22IIIiB")
+BARE = struct.Struct("<BBBBH5s5s22IIIiB4B")
 LAYOUT = struct.Struct(BARE.format + "3x")  # and its padding
 NO_SAMPLE = (0, 2**32 - 1, 2**31 - 1)       # lowest cell, highest cell and shunt before any sample: no fault is over on it
 RECORDS = 18                                # that the drivers have
 RUN_CAP = 10_000_000
+COUNT_CAP = 255
 PATTERN = 0xA5                              # what a place holds before an act
-
-
-def refused_board(kind, count):
-    """Can no board be of that kind and so many cells?"""
-    return kind not in (STAND_ALONE, HOST) or not 5 <= count <= 10
 
 
 def run_next(run, holds, elapsed):
@@ -32,36 +28,45 @@ def run_next(run, holds, elapsed):
     return min(run + elapsed, RUN_CAP) if run else 1
 
 
+def count_next(count, up):
+    """A garden board's count or recovery count, one sample on."""
+    return min(COUNT_CAP, count + 1) if up else max(0, count - 1)
+
+
 class Record:
     """One record, field by field."""
 
     def __init__(self, data=bytes(LAYOUT.size)):
-        self.count, self.latches, self.cycles, self.kind, self.flags, working, staged, *rest, self.control = LAYOUT.unpack(data)
-        self.working, self.staged, self.runs, self.last = list(working), list(staged), rest[:22], tuple(rest[22:])
+        self.count, self.latches, self.cycles, self.kind, self.flags, working, staged, *rest = LAYOUT.unpack(data)
+        self.working, self.staged, self.runs, self.last = list(working), list(staged), rest[:22], tuple(rest[22:25])
+        self.control, self.row, self.trigger, *back = rest[25:]
+        self.back = dict(zip(("OV", "UV"), back))
 
     @classmethod
-    def fresh(cls, kind, count):
+    def fresh(cls, plan):
         """A board as it starts."""
         record = cls()
-        record.kind, record.count, record.last = kind, count, NO_SAMPLE
+        record.kind, record.count, record.row, record.trigger = plan
+        record.last = NO_SAMPLE
+        record.latch({"OV"} if plan.kind == GARDEN else ())
         return record
 
     def bare(self):
         """The bytes without the padding."""
         return BARE.pack(self.count, self.latches, self.cycles, self.kind, self.flags, bytes(self.working), bytes(self.staged),
-                         *self.runs, *self.last, self.control)
+                         *self.runs, *self.last, self.control, self.row, self.trigger, *self.back.values())
 
     def bad(self):
         """A record that no board can have."""
-        return refused_board(self.kind, self.count)
+        return not openable(Plan(self.kind, self.count, self.row, self.trigger))
 
     def latched(self):
         """The latched faults, by name."""
         return {fault for fault, bit in STATUS_BIT.items() if self.latches >> bit & 1}
 
     def may(self, bit):
-        """Does register 1 let the switch of that bit on? A stand-alone board has no such register."""
-        return self.kind == STAND_ALONE or self.control >> bit & 1 == 1
+        """Does register 1 let the switch of that bit on? Only a host board has such a register."""
+        return self.kind != HOST or self.control >> bit & 1 == 1
 
     def chg(self):
         """Is CHG on?"""
@@ -87,6 +92,49 @@ class Record:
             raise Refusal(4)
         if max(cells) > 5000 or thermistor > 5000 or not -500000 <= shunt <= 500000 or load > 1:
             raise Refusal(5)
+        self.last = (min(cells), max(cells), shunt)
+        if self.kind == GARDEN:
+            return self.filtered(Sample(elapsed, load, thermistor, shunt, cells))
+        return self.stepped(elapsed, shunt, thermistor, load, cells)
+
+    def filtered(self, sample):
+        """A sample of a garden board: OV and UV, each by whether it was latched before."""
+        before, after = self.latched(), set()
+        for fault in self.back:
+            latched = self.recover if fault in before else self.count_cells
+            if latched(fault, sample):
+                after.add(fault)
+        self.latch(after)
+        return self.status(), 0
+
+    def count_cells(self, fault, sample):
+        """The counts of a fault that is not latched; does it latch?"""
+        self.back[fault] = 0
+        counts = [count_next(self.runs[at], past(fault, mv, DEVICES[self.row])) for at, mv in zip(self.places(fault), sample.cells)]
+        latches = any(count >= self.trigger for count in counts)
+        self.put_counts(fault, [0] * len(counts) if latches else counts)
+        return latches
+
+    def recover(self, fault, sample):
+        """The recovery count of a fault that is latched; does it stay so?"""
+        self.put_counts(fault, [0] * self.count)
+        back = count_next(self.back[fault], inside(fault, sample, DEVICES[self.row]))
+        stays = back < self.trigger
+        self.back[fault] = back if stays else 0
+        return stays
+
+    def places(self, fault):
+        """Where the counts of a fault lie among the runs, cell by cell."""
+        first = 2 if fault == "OV" else 3
+        return range(first, first + 2 * self.count, 2)
+
+    def put_counts(self, fault, counts):
+        """The counts of a fault anew."""
+        for at, count in zip(self.places(fault), counts):
+            self.runs[at] = count
+
+    def stepped(self, elapsed, shunt, thermistor, load, cells):
+        """A sample of a board with settings: runs, latches and flags."""
         s = Settings(self.working)
         over, under = set(), False
         for i, mv in enumerate(cells):
@@ -99,7 +147,6 @@ class Record:
         self.runs[1] = run_next(self.runs[1], shunt > s.scd_level, elapsed)
         hot = thermistor < HOT_BELOW_MV
         stands = {"OV": bool(over), "UV": under, "OCD": self.runs[0] > s.ocd_delay, "SCD": self.runs[1] > s.scd_delay, "OT": hot}
-        self.last = (min(cells), max(cells), shunt)
         goes = {"OV": max(cells) < s.ov_release, "UV": min(cells) > s.uv_release, "OCD": load == 0 and shunt <= s.ocd_level,
                 "SCD": load == 0 and shunt <= s.scd_level, "OT": not hot}
         if self.kind == HOST:
@@ -184,11 +231,11 @@ class Rows:
         return " ".join([str(number)] + told + ["%08x" % crc32(b"".join(self.kept))])
 
     def opening(self, boards, plans):
-        """Every record made anew by the kind and the cells of its plan, or refusal 1."""
-        if len(plans) != boards or not 1 <= boards <= 16 or any(refused_board(*plan) for plan in plans):
+        """Every record made anew by its plan, or refusal 1."""
+        if len(plans) != boards or not 1 <= boards <= 16 or not all(openable(plan) for plan in plans):
             return self.line(1, [])
         for place, plan in enumerate(plans):
-            self.records[place] = Record.fresh(*plan)
+            self.records[place] = Record.fresh(plan)
             self.kept[place] = self.records[place].bare()
         return self.line(0, [])
 

@@ -11,7 +11,7 @@
 
 #include "adomvik.h"
 
-enum { RECORDS = 18, LONGEST = 40, PATTERN = 0xa5, RUN_MOST = 10000000 };
+enum { RECORDS = 18, LONGEST = 40, PATTERN = 0xa5, RUN_MOST = 10000000, COUNT_MOST = 255 };
 
 /* What register 1 and a clear are about: the faults that a host board keeps, and those that forbid a switch. */
 enum { KEPT = ADOMVIK_SCD | ADOMVIK_OCD | ADOMVIK_OV | ADOMVIK_UV, FAULTS = KEPT | ADOMVIK_HOT, CONTROL_MOST = 7 };
@@ -41,13 +41,14 @@ static uint32_t word(void)
 /* A number near one that matters, or any. */
 static uint32_t number(void)
 {
-    static const uint32_t marks[] = {0, 5, 10, 16, 975, 1400, 3300, 4150, 5000, 10000, 60000, 100000, 500000, 0x7fffffff, 0x80000000, 0xffffffff};
-    const uint8_t how = byte();
+    static const uint32_t marks[] = {0, 5, 10, 16, 975, 1400, 2000, 2200, 2800, 2900, 3200, 3300, 4000, 4050, 4150, 4175, 4200, 4250, 4275, 5000,
+                                     10000, 60000, 100000, 500000, 0x7fffffff, 0x80000000, 0xffffffff};
+    const uint8_t how = byte(), count = sizeof marks / sizeof *marks;
     if (how >= 224)
         return word();
     if (how >= 192)
         return (uint32_t)byte() << 8 | how;
-    return marks[how % 16] + (uint32_t)(how / 16 % 4) - 1;
+    return marks[how % count] + (uint32_t)(how / count % 4) - 1;
 }
 
 /* ---- what is lent */
@@ -94,19 +95,23 @@ static int same(const adomvik_board *a, const adomvik_board *b)
 /* All but the padding at the end. */
 static int alike(const adomvik_board *a, const adomvik_board *b)
 {
-    return memcmp(a, b, offsetof(adomvik_board, control) + sizeof a->control) == 0;
+    return memcmp(a, b, offsetof(adomvik_board, garden) + sizeof a->garden) == 0;
 }
 
-static int good_board(uint8_t kind, uint32_t cells)
+/* A record that a board can have: of a kind, with its cells, and on a garden board with a row and a trigger. */
+static int good_board(const adomvik_board *b)
 {
-    return kind <= ADOMVIK_HOST && cells >= ADOMVIK_CELLS_MIN && cells <= ADOMVIK_CELLS_MAX;
+    if (b->kind == ADOMVIK_GARDEN)
+        return b->count >= ADOMVIK_GARDEN_CELLS_MIN && b->count <= ADOMVIK_GARDEN_CELLS_MAX
+            && b->garden.row <= ADOMVIK_BQ7791504 && b->garden.trigger >= ADOMVIK_TRIGGER_MIN;
+    return b->kind <= ADOMVIK_HOST && b->count >= ADOMVIK_CELLS_MIN && b->count <= ADOMVIK_CELLS_MAX;
 }
 
 /* Refusal 1 is given exactly where this fails. */
 static int good_row(void)
 {
     for (size_t i = 0; i < boards; i++)
-        if (!good_board(before[i].kind, before[i].count))
+        if (!good_board(&before[i]))
             return 0;
     return boards >= 1 && boards <= ADOMVIK_BOARDS_MAX;
 }
@@ -141,11 +146,11 @@ static void both_alike(void)
         HOLDS(alike(&row[i], &other[i]));
 }
 
-/* The last sample is kept, on boards of both kinds. */
-static void kept_last(const adomvik_last *last, int32_t shunt, const uint32_t *cells, size_t count)
+/* The last sample is kept. */
+static void kept_last(const adomvik_last *last, int32_t shunt, const uint32_t *cells, unsigned count)
 {
     unsigned met = 0;
-    for (size_t i = 0; i < count; i++) {
+    for (unsigned i = 0; i < count; i++) {
         HOLDS(last->low <= cells[i] && cells[i] <= last->high);
         met |= (last->low == cells[i]) | (last->high == cells[i]) << 1;
     }
@@ -165,17 +170,15 @@ static void sampled_host(const adomvik_board *now, const adomvik_board *was, con
     HOLDS(!(latching & ~ADOMVIK_UV) || !(now->control & ADOMVIK_CONTROL_CHG));
 }
 
-/* What an accepted sample leaves of a record. */
-static void sampled(const adomvik_board *now, const adomvik_board *was, const adomvik_sampled *told)
+/* A stand-alone or a host board: flags, bled cells and runs. */
+static void sampled_runs(const adomvik_board *now, const adomvik_board *was, const adomvik_sampled *told)
 {
     const unsigned cells = (1u << now->count) - 1;
-    HOLDS(now->count == was->count && now->cycles == was->cycles && now->kind == was->kind);
     if (now->kind == ADOMVIK_HOST)
         sampled_host(now, was, told);
     else
         HOLDS(now->control == was->control);
-    HOLDS(memcmp(&now->working, &was->working, 2 * sizeof now->working) == 0);
-    HOLDS(now->latches == (told->status & 31) && (told->status & 32) == 0);
+    HOLDS(memcmp(&now->garden, &was->garden, sizeof now->garden) == 0);
     HOLDS((now->flags & ~cells) == 0 && (told->bled & ~now->flags) == 0);
     HOLDS((told->bled & (told->bled << 1 | told->bled << 2)) == 0);
     HOLDS((now->flags & ~(told->bled | told->bled >> 1 | told->bled >> 2)) == 0);
@@ -184,94 +187,142 @@ static void sampled(const adomvik_board *now, const adomvik_board *was, const ad
         HOLDS(now->cells[i].ov <= RUN_MOST && now->cells[i].uv <= RUN_MOST);
 }
 
+/* A count goes by one, or to its cap, or is zero. */
+static int counted(uint32_t now, uint32_t was)
+{
+    return now == 0 || now == was - 1 || now == (was < COUNT_MOST ? was + 1 : COUNT_MOST);
+}
+
+/* One fault of a garden board: a recovery count only while it is latched, counts of cells only while it is not. */
+static void sampled_fault(int latched, uint8_t back, uint8_t trigger, uint32_t count)
+{
+    HOLDS(latched ? back < trigger && count == 0 : back == 0 && count < trigger);
+}
+
+/* A garden board: two latches, its counts, the last sample, and nothing else. */
+static void sampled_garden(const adomvik_board *now, const adomvik_board *was, const adomvik_sampled *told)
+{
+    const int ov = (now->latches & ADOMVIK_OV) != 0, uv = (now->latches & ADOMVIK_UV) != 0;
+    adomvik_board kept = *was;
+    kept.latches = now->latches;
+    kept.last = now->last;
+    kept.garden.ov_back = now->garden.ov_back;
+    kept.garden.uv_back = now->garden.uv_back;
+    memcpy(kept.cells, now->cells, now->count * sizeof *now->cells);
+    HOLDS(alike(&kept, now));
+    HOLDS(told->bled == 0 && told->status == (ov ? ADOMVIK_OV : ADOMVIK_CHG_ON) + (uv ? ADOMVIK_UV : ADOMVIK_DSG_ON));
+    for (unsigned i = 0; i < now->count; i++) {
+        HOLDS(counted(now->cells[i].ov, was->cells[i].ov) && counted(now->cells[i].uv, was->cells[i].uv));
+        sampled_fault(ov, now->garden.ov_back, now->garden.trigger, now->cells[i].ov);
+        sampled_fault(uv, now->garden.uv_back, now->garden.trigger, now->cells[i].uv);
+    }
+}
+
+/* What an accepted sample leaves of a record. */
+static void sampled(const adomvik_board *now, const adomvik_board *was, const adomvik_sampled *told, int32_t shunt, const uint32_t *cells)
+{
+    HOLDS(now->count == was->count && now->cycles == was->cycles && now->kind == was->kind);
+    HOLDS(memcmp(&now->working, &was->working, 2 * sizeof now->working) == 0);
+    HOLDS(now->latches == (told->status & 31) && (told->status & 32) == 0);
+    kept_last(&now->last, shunt, cells, now->count);
+    if (now->kind == ADOMVIK_GARDEN)
+        sampled_garden(now, was, told);
+    else
+        sampled_runs(now, was, told);
+}
+
 /* ---- the acts */
 
-/* A board of that kind and so many cells, as it starts. */
-static int started(const adomvik_board *board, uint8_t kind, uint32_t cells)
+/* The board that a plan is of, as it starts. */
+static adomvik_board started(adomvik_plan plan)
 {
     adomvik_board fresh;
     memset(&fresh, 0, sizeof fresh);
-    fresh.kind = kind;
-    fresh.count = (uint8_t)cells;
+    fresh.count = (uint8_t)plan.number;
+    fresh.kind = (uint8_t)(plan.number >> 8);
+    fresh.garden.row = (uint8_t)(plan.number >> 16);
+    fresh.garden.trigger = (uint8_t)(plan.number >> 24);
+    fresh.latches = fresh.kind == ADOMVIK_GARDEN ? ADOMVIK_OV : 0;
     fresh.last.high = UINT32_MAX;
     fresh.last.shunt = INT32_MAX;
-    return alike(board, &fresh);
+    return fresh;
 }
 
-/* What an opening came to; `good` says whether each board that was asked for can be. */
-static void opened(uint8_t result, uint8_t again, size_t count, int good)
+/* What an opening by these plans came to: each board as it starts, or refusal 1. */
+static void opened(uint8_t result, uint8_t again, const adomvik_plan *plans, size_t count)
 {
-    HOLDS(again == result && OPENS >> result & 1);
-    HOLDS((result == 0) == (good && count == boards && boards >= 1 && boards <= ADOMVIK_BOARDS_MAX));
+    int good = count == boards && boards >= 1 && boards <= ADOMVIK_BOARDS_MAX;
+    for (size_t i = 0; i < count; i++) {
+        const adomvik_board wanted = started(plans[i]);
+        good &= good_board(&wanted);
+        HOLDS(result != 0 || alike(&row[i], &wanted));
+    }
+    HOLDS(again == result && OPENS >> result & 1 && (result == 0) == good);
     both_alike();
     HOLDS(result == 0 || row_stays());
 }
 
-/* Cells that a board can have, mostly; else some that are they in their low byte alone, or any number. */
-static uint32_t cells_asked(void)
+/* A number from the lowest up that can be asked for, mostly; else one that is it in its low byte alone, or any. */
+static uint32_t asked(uint32_t lowest, uint32_t count)
 {
     const uint8_t how = byte();
+    const uint32_t good = lowest + how % count;
     if (how < 224)
-        return 5 + how % 6;
-    return how < 240 ? 256u * byte() + 5 + how % 6 : number();
+        return good;
+    return how < 240 ? 256u * byte() + good : number();
+}
+
+static uint32_t cells_asked(void)
+{
+    return asked(ADOMVIK_CELLS_MIN, ADOMVIK_CELLS_MAX - ADOMVIK_CELLS_MIN + 1);
 }
 
 static void open_row(void)
 {
     uint32_t counts[LONGEST];
+    adomvik_plan plans[LONGEST];
     const size_t count = byte() % 4 ? boards : byte() % LONGEST;
-    int good = 1;
     for (size_t i = 0; i < count; i++) {
         counts[i] = cells_asked();
-        good &= good_board(ADOMVIK_STAND_ALONE, counts[i]);
+        plans[i] = adomvik_stand_alone(counts[i]);
     }
     uint32_t *list = copy_of(counts, count * sizeof *list);
     const uint8_t result = adomvik_open(row, boards, list, count);
-    opened(result, adomvik_open(other, boards, list, count), count, good);
-    for (size_t i = 0; result == 0 && i < boards; i++)
-        HOLDS(started(&row[i], ADOMVIK_STAND_ALONE, counts[i]));
+    opened(result, adomvik_open(other, boards, list, count), plans, count);
     free(list);
 }
 
-/* A plan, mostly by its functions; else of a kind that there is not, as no caller should make it. */
-static adomvik_plan plan(void)
+static adomvik_plan garden_plan(void)
 {
-    const uint32_t cells = cells_asked();
-    const uint8_t how = byte();
-    adomvik_plan made = how & 1 ? adomvik_host(cells) : adomvik_stand_alone(cells);
-    if (how >= 240)
-        made.number += 256u * byte();
-    return made;
+    const uint32_t cells = asked(ADOMVIK_GARDEN_CELLS_MIN, ADOMVIK_GARDEN_CELLS_MAX - ADOMVIK_GARDEN_CELLS_MIN + 1);
+    const uint32_t row = asked(ADOMVIK_BQ7791500, ADOMVIK_BQ7791504 + 1), trigger = asked(ADOMVIK_TRIGGER_MIN, ADOMVIK_TRIGGER_MAX);
+    return adomvik_garden(cells, row, trigger);
 }
 
-/* The board that a plan is of, as it starts; there is none for a number that the two functions do not give. */
-static int planned(adomvik_plan plan, adomvik_board *board)
+/* A plan, mostly by its functions; else of any kind, row and trigger, as no caller should make it. */
+static adomvik_plan plan(void)
 {
-    memset(board, 0, sizeof *board);
-    for (uint32_t cells = ADOMVIK_CELLS_MIN; cells <= ADOMVIK_CELLS_MAX; cells++)
-        if (plan.number == adomvik_stand_alone(cells).number || plan.number == adomvik_host(cells).number) {
-            board->kind = plan.number == adomvik_host(cells).number;
-            board->count = (uint8_t)cells;
-            return 1;
-        }
-    return 0;
+    const uint8_t how = byte();
+    adomvik_plan made;
+    switch (how % 3) {
+    case ADOMVIK_STAND_ALONE: made = adomvik_stand_alone(cells_asked()); break;
+    case ADOMVIK_HOST: made = adomvik_host(cells_asked()); break;
+    default: made = garden_plan();
+    }
+    if (how >= 240)
+        made.number += 256u * word();
+    return made;
 }
 
 static void open_plans(void)
 {
     adomvik_plan plans[LONGEST];
-    adomvik_board wanted[LONGEST];
     const size_t count = byte() % 4 ? boards : byte() % LONGEST;
-    int good = 1;
-    for (size_t i = 0; i < count; i++) {
+    for (size_t i = 0; i < count; i++)
         plans[i] = plan();
-        good &= planned(plans[i], &wanted[i]);
-    }
     adomvik_plan *list = copy_of(plans, count * sizeof *list);
     const uint8_t result = adomvik_open_plans(row, boards, list, count);
-    opened(result, adomvik_open_plans(other, boards, list, count), count, good);
-    for (size_t i = 0; result == 0 && i < boards; i++)
-        HOLDS(started(&row[i], wanted[i].kind, wanted[i].count));
+    opened(result, adomvik_open_plans(other, boards, list, count), plans, count);
     free(list);
 }
 
@@ -312,8 +363,7 @@ static void sample_row(void)
     } else {
         const adomvik_board *moved = changed();
         HOLDS(board >= 1 && board <= boards && (!moved || moved == &row[board - 1]));
-        sampled(&row[board - 1], &before[board - 1], told);
-        kept_last(&row[board - 1].last, x.shunt, cells, count);
+        sampled(&row[board - 1], &before[board - 1], told, x.shunt, cells);
         HOLDS(told->status == again->status && told->bled == again->bled);
         /* the entry for one record, which looks at no row, does the same */
         adomvik_board *one = copy_of(&before[board - 1], sizeof *one);
@@ -338,14 +388,13 @@ static void sample_one(void)
     adomvik_sampled *told = blank(sizeof *told);
     const uint8_t result = adomvik_sample_board(&row[place], x, list, count, told);
     HOLDS(SAMPLES_ONE >> result & 1);
-    HOLDS((result == ADOMVIK_BAD_ROW) == !good_board(before[place].kind, before[place].count));
+    HOLDS((result == ADOMVIK_BAD_ROW) == !good_board(&before[place]));
     if (result) {
         HOLDS(row_stays() && is_blank(told, sizeof *told));
     } else {
         const adomvik_board *moved = changed();
         HOLDS(!moved || moved == &row[place]);
-        sampled(&row[place], &before[place], told);
-        kept_last(&row[place].last, x.shunt, cells, count);
+        sampled(&row[place], &before[place], told, x.shunt, cells);
     }
     free(told);
     free(list);
@@ -363,11 +412,15 @@ static uint8_t check(const uint8_t *bytes, size_t count)
     return (uint8_t)rest;
 }
 
-/* What an accepted frame leaves of a record: latches and register 1 but for a write to that register. */
+/* What an accepted frame leaves of a record: latches and register 1 but for a write to that register, and all of a garden board. */
 static void framed(const adomvik_board *now, const adomvik_board *was, const uint8_t *frame, const uint8_t *reply)
 {
+    if (was->kind == ADOMVIK_GARDEN) {
+        HOLDS(same(now, was) && frame[1] == 0 && frame[0] % 2 == 0);
+        return;
+    }
     HOLDS(now->count == was->count && now->kind == was->kind && now->flags == was->flags);
-    HOLDS(memcmp(&now->last, &was->last, sizeof now->last) == 0);
+    HOLDS(memcmp(&now->last, &was->last, sizeof now->last) == 0 && memcmp(&now->garden, &was->garden, sizeof now->garden) == 0);
     if (frame[1] == 1)
         HOLDS(now->kind == ADOMVIK_HOST && reply[2] == now->control);
     if (frame[1] != 1 || frame[0] % 2 == 0) {
@@ -425,6 +478,19 @@ static void reading(void)
     free(told);
 }
 
+/* The kind and the cells of a board that there can be, and its row and trigger. */
+static void make_good(adomvik_board *board, uint8_t how)
+{
+    board->kind = how % 3;
+    if (board->kind == ADOMVIK_GARDEN) {
+        board->count = (uint8_t)(ADOMVIK_GARDEN_CELLS_MIN + how / 3 % 3);
+        board->garden.row = how / 9 % 3;
+        board->garden.trigger = (uint8_t)(1 + how / 27);
+    } else {
+        board->count = (uint8_t)(ADOMVIK_CELLS_MIN + how / 3 % 6);
+    }
+}
+
 /* Garbage over a record, mostly one that a row may have. */
 static void overwrite(void)
 {
@@ -434,10 +500,8 @@ static void overwrite(void)
     const uint8_t how = byte();
     for (size_t i = 0; i < sizeof *place; i++)
         ((uint8_t *)place)[i] = byte();
-    if (how % 8) {
-        place->count = 5 + how % 6;
-        place->kind = how / 120;
-    }
+    if (byte() % 8)
+        make_good(place, how);
 }
 
 static void make_row(void)
@@ -447,11 +511,8 @@ static void make_row(void)
     before = lent(boards * sizeof *row);
     other = lent(boards * sizeof *row);
     memset(row, 0, boards * sizeof *row);
-    for (size_t i = 0; i < boards; i++) {
-        const uint8_t what = byte();
-        row[i].count = 5 + what % 6;
-        row[i].kind = what / 128;
-    }
+    for (size_t i = 0; i < boards; i++)
+        make_good(&row[i], byte());
 }
 
 int LLVMFuzzerTestOneInput(const uint8_t *data, size_t size)
