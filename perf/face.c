@@ -32,24 +32,29 @@ static unsigned random_below(unsigned n)
 static void same_sample(void)
 {
     static const uint32_t levels[] = {4000, 4151, 4051, 4049, 1399, 1601, 1599, 5000, 3000, 4600, 0};
+    /* past and inside the levels of each row of the device table, and just not */
+    static const uint32_t garden_levels[] = {4201, 4200, 3999, 4000, 2899, 2900, 3301, 3300, 4251, 4049, 2799, 3201, 4276, 4174, 1999, 2201, 3600};
+    const uint32_t place = random_below(boards);
+    const bool garden = theirs[place].kind == ADOMVIK_GARDEN;
+    const uint32_t *from = garden ? garden_levels : levels;
+    const unsigned marks = garden ? sizeof garden_levels / sizeof *garden_levels : sizeof levels / sizeof *levels;
     uint32_t mv[CELLS + 1];
-    const uint32_t usual = levels[random_below(11)];
+    const uint32_t usual = from[random_below(marks)];
     for (int i = 0; i <= CELLS; i++)
-        mv[i] = random_below(4) ? usual : levels[random_below(11)];
+        mv[i] = random_below(4) ? usual : from[random_below(marks)];
     if (random_below(50) == 0)
-        mv[3] = 5001;
-    const size_t count = random_below(60) ? CELLS : random_below(CELLS + 2);
+        mv[2] = 5001;
+    const size_t count = random_below(60) ? theirs[place].cells : random_below(CELLS + 2);
     adomvik_readings x = {random_below(20) ? 100000 : random_below(100003), (int32_t)random_below(200000) - 60000, random_below(9) ? 2000 : random_below(5003), random_below(40) ? random_below(2) : 2};
     if (random_below(3) == 0)
         x.shunt = 0;
     adomvik_sampled a = {7, 7}, b = {7, 7};
     unsigned one, other;
     if (random_below(2)) {
-        const uint32_t number = random_below(boards + 2);
+        const uint32_t number = random_below(20) ? place + 1 : random_below(boards + 2);
         one = adomvik_sample(ours, boards, number, x, mv, count, &a);
         other = peer_sample(theirs, boards, number, x, mv, count, &b);
     } else {
-        const uint32_t place = random_below(boards);
         one = adomvik_sample_board(&ours[place], x, mv, count, &a);
         other = peer_sample_board(&theirs[place], x, mv, count, &b);
     }
@@ -84,15 +89,30 @@ static void same_reading(void)
         fail("a reading is answered otherwise by the peer");
 }
 
-/* Openings by counts and by plans, of both kinds, now and then of cells that no board can have. */
+/* Mostly one from the lowest up, now and then one that no board can have. */
+static uint32_t usually(uint32_t lowest, uint32_t count)
+{
+    return random_below(100) ? lowest + random_below(count) : random_below(600);
+}
+
+static adomvik_plan plan_with(uint32_t cells)
+{
+    switch (random_below(3)) {
+    case ADOMVIK_STAND_ALONE: return adomvik_stand_alone(cells);
+    case ADOMVIK_HOST: return adomvik_host(cells);
+    default: return adomvik_garden(usually(3, 3), usually(0, 3), usually(1, random_below(2) ? 4 : 255));
+    }
+}
+
+/* Openings by counts and by plans, of every kind. */
 static void same_opening(void)
 {
     uint32_t counts[BOARDS];
     adomvik_plan plans[BOARDS];
     boards = 1 + random_below(BOARDS);
     for (size_t i = 0; i < boards; i++) {
-        counts[i] = random_below(100) ? CELLS : random_below(600);
-        plans[i] = random_below(2) ? adomvik_host(counts[i]) : adomvik_stand_alone(counts[i]);
+        counts[i] = usually(CELLS, 1);
+        plans[i] = plan_with(counts[i]);
     }
     const bool planned = random_below(4);
     const unsigned one = planned ? adomvik_open_plans(ours, boards, plans, boards) : adomvik_open(ours, boards, counts, boards);

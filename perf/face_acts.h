@@ -7,7 +7,7 @@
 #include "adomvik.h"
 #include "face_peer.h"
 
-enum { BOARDS = 16, CELLS = 10, KINDS = 8 };
+enum { BOARDS = 16, CELLS = 10, GARDEN_CELLS = 5, KINDS = 8 };
 
 typedef void act(int i);
 
@@ -31,7 +31,7 @@ static unsigned check(unsigned a, unsigned b, unsigned c)
     return crc;
 }
 
-/* A row of so many boards by the same plan; both switches of host boards may be on. */
+/* A row of so many boards by the same plan; both switches of host boards may be on, and OV of garden boards has let go. */
 static void open_both(size_t count, adomvik_plan plan)
 {
     adomvik_plan plans[BOARDS];
@@ -40,8 +40,10 @@ static void open_both(size_t count, adomvik_plan plan)
         plans[i] = plan;
     if (adomvik_open_plans(ours, count, plans, count) || peer_open_plans(theirs, count, plans, count))
         fail("an opening was refused");
-    for (size_t i = 0; i < count; i++)
+    for (size_t i = 0; i < count; i++) {
         ours[i].control = theirs[i].control = ADOMVIK_CONTROL_DSG | ADOMVIK_CONTROL_CHG;
+        ours[i].latches = theirs[i].latches = 0;
+    }
 }
 
 /* ---- the acts */
@@ -58,6 +60,13 @@ static void ours_one(int i) { sum += adomvik_sample_board(&ours[0], readings, mv
 static void theirs_one(int i) { sum += peer_sample_board(&theirs[0], readings, mv[i % KINDS], CELLS, &sampled); }
 static void ours_row(int i) { sum += adomvik_sample(ours, boards, (uint32_t)(i & (int)(boards - 1)) + 1, readings, mv[i % KINDS], CELLS, &sampled); }
 static void theirs_row(int i) { sum += peer_sample(theirs, boards, (uint32_t)(i & (int)(boards - 1)) + 1, readings, mv[i % KINDS], CELLS, &sampled); }
+
+/* of garden boards: one sample goes to every board before the next does, so that counts go up and down again and nothing latches */
+static void ours_garden(int i) { sum += adomvik_sample_board(&ours[0], readings, mv[i / BOARDS % KINDS], GARDEN_CELLS, &sampled); }
+static void theirs_garden(int i) { sum += peer_sample_board(&theirs[0], readings, mv[i / BOARDS % KINDS], GARDEN_CELLS, &sampled); }
+static void ours_garden_row(int i) { sum += adomvik_sample(ours, boards, (uint32_t)(i & (int)(boards - 1)) + 1, readings, mv[i / BOARDS % KINDS], GARDEN_CELLS, &sampled); }
+static void theirs_garden_row(int i) { sum += peer_sample(theirs, boards, (uint32_t)(i & (int)(boards - 1)) + 1, readings, mv[i / BOARDS % KINDS], GARDEN_CELLS, &sampled); }
+
 static void ours_frame(int i) { sum += adomvik_frame(ours, boards, frames[i % KINDS], 4, reply, 4); }
 static void theirs_frame(int i) { sum += peer_frame(theirs, boards, frames[i % KINDS], 4, reply, 4); }
 static void ours_read(int i) { (void)i; sum += adomvik_read(ours, boards, &whole); }
@@ -110,6 +119,15 @@ static void set_samples(int faults)
     readings = (adomvik_readings){.elapsed = 1000, .shunt = faults == CELLS ? 90000 : faults ? 20000 : 0, .thermistor = 2000, .load = faults > 0};
 }
 
+/* Samples with so many of a garden board's cells past a level, over and under it in turn. */
+static void set_garden_samples(int faults)
+{
+    for (int k = 0; k < KINDS; k++)
+        for (int i = 0; i < GARDEN_CELLS; i++)
+            mv[k][i] = (uint32_t)((i + 7 * k) % GARDEN_CELLS < faults ? (k % 2 ? 4300 : 2000) : 3900 + k);
+    readings = (adomvik_readings){.elapsed = 1000, .thermistor = 2000, .load = faults > 0};
+}
+
 static void set_frames(uint8_t address, uint8_t reg, uint8_t value)
 {
     for (int k = 0; k < KINDS; k++) {
@@ -123,6 +141,8 @@ static void set_frames(uint8_t address, uint8_t reg, uint8_t value)
 
 static adomvik_plan plan_of(int kind)
 {
+    if (kind == ADOMVIK_GARDEN)
+        return adomvik_garden(GARDEN_CELLS, ADOMVIK_BQ7791500, ADOMVIK_TRIGGER_MAX);
     return kind == ADOMVIK_HOST ? adomvik_host(CELLS) : adomvik_stand_alone(CELLS);
 }
 
@@ -143,6 +163,24 @@ static void samples(void)
         measure("sample in a row of 1, ", how[k].name, ours_row, theirs_row);
         open_both(BOARDS, plan);
         measure("sample in a row of 16, ", how[k].name, ours_row, theirs_row);
+    }
+}
+
+static void garden_samples(void)
+{
+    static const struct { const char *name; int faults; } how[] = {
+        {"quiet garden", 0},
+        {"two faulting, garden", 2},
+        {"all faulting, garden", GARDEN_CELLS},
+    };
+    const adomvik_plan plan = plan_of(ADOMVIK_GARDEN);
+    for (size_t k = 0; k < sizeof how / sizeof *how; k++) {
+        set_garden_samples(how[k].faults);
+        open_both(1, plan);
+        measure("sample of one record, ", how[k].name, ours_garden, theirs_garden);
+        measure("sample in a row of 1, ", how[k].name, ours_garden_row, theirs_garden_row);
+        open_both(BOARDS, plan);
+        measure("sample in a row of 16, ", how[k].name, ours_garden_row, theirs_garden_row);
     }
 }
 
@@ -182,11 +220,14 @@ static void readings_of_16(void)
     measure("reading of 16, ", "with latches", ours_read, theirs_read);
     open_both(BOARDS, plan_of(ADOMVIK_HOST));
     measure("reading of 16, ", "quiet hosts", ours_read, theirs_read);
+    open_both(BOARDS, plan_of(ADOMVIK_GARDEN));
+    measure("reading of 16, ", "quiet gardens", ours_read, theirs_read);
 }
 
 static void all_acts(void)
 {
     samples();
+    garden_samples();
     frames_in(1, "frame in a row of 1, ");
     frames_in(BOARDS, "frame in a row of 16, ");
     readings_of_16();
@@ -208,6 +249,9 @@ static void all_stacks(void)
     tell("stack of a sample", depth(ours_row) - base, depth(theirs_row) - base);
     tell("stack of a frame", depth(ours_frame) - base, depth(theirs_frame) - base);
     tell("stack of a reading", depth(ours_read) - base, depth(theirs_read) - base);
+    open_both(BOARDS, plan_of(ADOMVIK_GARDEN));
+    set_garden_samples(GARDEN_CELLS);
+    tell("stack of a sample, garden", depth(ours_garden_row) - base, depth(theirs_garden_row) - base);
 }
 
 #endif

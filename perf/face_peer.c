@@ -9,7 +9,7 @@
 
 enum { SCD = 1, OCD = 2, OV = 4, UV = 8, HOT = 16, DSG_ON = 64, CHG_ON = 128 };
 enum { RUN_MAX = 8000000, CYCLES_MAX = 3, PROGRAM = 0x41 };
-enum { STAND_ALONE = 0, HOST = 1 };
+enum { STAND_ALONE = 0, HOST = 1, GARDEN = 2 };
 enum { CLEAR_BIT = 1, DSG_BIT = 2, CHG_BIT = 4, CONTROL_MAX = 7 };
 enum { STOPS_DSG = UV | OCD | SCD | HOT, STOPS_CHG = OV | OCD | SCD | HOT };
 
@@ -20,6 +20,20 @@ static const int32_t uv_delay[16] = {
     1000000, 2000000, 3000000, 4000000, 5000000, 6000000, 7000000, 8000000,
 };
 
+/* The rows of garden boards: where each fault is past its level, and where it is inside level and hysteresis. */
+struct device {
+    uint16_t ov, ov_inside, uv, uv_inside;
+    bool load_removal;
+};
+
+enum { DEVICES = 3 };
+
+static const struct device devices[DEVICES] = {
+    {4200, 4000, 2900, 3300, true},
+    {4250, 4050, 2800, 3200, true},
+    {4275, 4175, 2000, 2200, false},
+};
+
 /* CRC-8 with polynomial 7 by halves: what four shifts make of each half byte, moved to the upper half of a byte. */
 static const uint8_t crc_table[16] = {
     0x00, 0x07, 0x0e, 0x09, 0x1c, 0x1b, 0x12, 0x15, 0x38, 0x3f, 0x36, 0x31, 0x24, 0x23, 0x2a, 0x2d,
@@ -27,9 +41,21 @@ static const uint8_t crc_table[16] = {
 
 /* ---- rows */
 
-static bool good_board(uint32_t kind, uint32_t cells)
+static inline bool good_board(uint32_t kind, uint32_t cells, uint32_t row, uint32_t trigger)
 {
+    if (kind == GARDEN)
+        return cells - 3 <= 2 && row < DEVICES && trigger;
     return kind <= HOST && cells - 5 <= 5;
+}
+
+static inline bool good_plan(uint32_t plan)
+{
+    return good_board(plan >> 8 & 255, plan & 255, plan >> 16 & 255, plan >> 24);
+}
+
+static inline bool good(const struct peer_board *b)
+{
+    return good_board(b->kind, b->cells, b->row, b->trigger);
 }
 
 static bool good_row(const struct peer_board *row, size_t boards)
@@ -38,16 +64,19 @@ static bool good_row(const struct peer_board *row, size_t boards)
         return false;
     unsigned bad = 0;
     for (size_t i = 0; i < boards; i++)
-        bad |= (row[i].cells - 5u > 5) | (row[i].kind > HOST);
+        bad |= !good(&row[i]);
     return !bad;
 }
 
-/* A board as it starts; no fault is over on a last sample such as this. */
-static void start(struct peer_board *b, uint32_t kind, uint32_t cells)
+/* A board as it starts by a good plan; no fault is over on a last sample such as this. */
+static void start(struct peer_board *b, uint32_t plan)
 {
     memset(b, 0, sizeof *b);
-    b->kind = (uint8_t)kind;
-    b->cells = (uint8_t)cells;
+    b->cells = (uint8_t)plan;
+    b->kind = (uint8_t)(plan >> 8);
+    b->row = (uint8_t)(plan >> 16);
+    b->trigger = (uint8_t)(plan >> 24);
+    b->latches = b->kind == GARDEN ? OV : 0;
     b->high = UINT16_MAX;
     b->shunt = INT32_MAX;
 }
@@ -57,10 +86,10 @@ uint8_t peer_open(struct peer_board *row, size_t boards, const uint32_t *counts,
     if (count != boards || count - 1 > 15)
         return 1;
     for (size_t i = 0; i < count; i++)
-        if (!good_board(STAND_ALONE, counts[i]))
+        if (!good_board(STAND_ALONE, counts[i], 0, 0))
             return 1;
     for (size_t i = 0; i < boards; i++)
-        start(&row[i], STAND_ALONE, counts[i]);
+        start(&row[i], counts[i]);
     return 0;
 }
 
@@ -69,10 +98,10 @@ uint8_t peer_open_plans(struct peer_board *row, size_t boards, const adomvik_pla
     if (count != boards || count - 1 > 15)
         return 1;
     for (size_t i = 0; i < count; i++)
-        if (!good_board(plans[i].number >> 8, plans[i].number & 255))
+        if (!good_plan(plans[i].number))
             return 1;
     for (size_t i = 0; i < boards; i++)
-        start(&row[i], plans[i].number >> 8, plans[i].number & 255);
+        start(&row[i], plans[i].number);
     return 0;
 }
 
@@ -146,6 +175,56 @@ static inline int32_t scd_uv(const uint8_t *settings)
     return 60000 + 5000 * (settings[4] & 15);
 }
 
+/* The counts of a fault that is not latched, zero where nothing was counted: whether one reaches the trigger. None passes it, so
+ * they need no cap. */
+static inline bool count_cells(int32_t *counts, uint16_t *counted, const uint32_t *cells, unsigned n, uint32_t level, bool above, int32_t trigger)
+{
+    const bool begun = *counted;
+    int32_t most = 0;
+    for (unsigned i = 0; i < n; i++) {
+        const bool past = above ? cells[i] > level : cells[i] < level;
+        const int32_t was = begun ? counts[i] : 0, now = past ? was + 1 : was - (was > 0);
+        counts[i] = now;
+        most = now > most ? now : most;
+    }
+    *counted = most > 0 && most < trigger;
+    return most >= trigger;
+}
+
+/* The recovery count of a fault that is latched: whether it stays so. */
+static inline bool stays(uint8_t *back, bool inside, int trigger)
+{
+    const int count = inside ? *back + 1 : *back - (*back > 0);
+    *back = (uint8_t)(count < trigger ? count : 0);
+    return count < trigger;
+}
+
+/* A sample of a garden board that was found in range. */
+static void grow(struct peer_board *b, bool load, const uint32_t *cells, uint32_t least, uint32_t most, adomvik_sampled *out)
+{
+    const struct device *d = &devices[b->row];
+    bool ov = false, uv = false;
+    if (b->latches & OV) {
+        ov = stays(&b->ov_back, most < d->ov_inside, b->trigger);
+        b->over = 0;
+    } else {
+        b->ov_back = 0;
+        if (b->over || most > d->ov)
+            ov = count_cells(b->ov_run, &b->over, cells, b->cells, d->ov, true, b->trigger);
+    }
+    if (b->latches & UV) {
+        uv = stays(&b->uv_back, least > d->uv_inside && !(load && d->load_removal), b->trigger);
+        b->under = 0;
+    } else {
+        b->uv_back = 0;
+        if (b->under || least < d->uv)
+            uv = count_cells(b->uv_run, &b->under, cells, b->cells, d->uv, false, b->trigger);
+    }
+    b->latches = (uint8_t)(ov * OV | uv * UV);
+    out->status = (uint8_t)(b->latches | !ov * CHG_ON | !uv * DSG_ON);
+    out->bled = 0;
+}
+
 static inline uint8_t step(struct peer_board *b, adomvik_readings x, const uint32_t *cells, size_t count, adomvik_sampled *out)
 {
     if (count != b->cells)
@@ -167,10 +246,13 @@ static inline uint8_t step(struct peer_board *b, adomvik_readings x, const uint3
     }
     if (most > 5000 || x.thermistor > 5000 || x.shunt < -500000 || x.shunt > 500000 || x.load > 1)
         return 5;
-
     b->low = (uint16_t)least;
     b->high = (uint16_t)most;
     b->shunt = x.shunt;
+    if (b->kind == GARDEN) {
+        grow(b, x.load, cells, least, most, out);
+        return 0;
+    }
 
     const int32_t elapsed = (int32_t)x.elapsed;
     unsigned over = 0, under = 0, ov_stood = 0, flags = b->flags;
@@ -234,7 +316,7 @@ static inline uint8_t step(struct peer_board *b, adomvik_readings x, const uint3
 
 uint8_t peer_sample_board(struct peer_board *board, adomvik_readings readings, const uint32_t *cells, size_t count, adomvik_sampled *out)
 {
-    if (!good_board(board->kind, board->cells))
+    if (!good(board))
         return 1;
     return step(board, readings, cells, count, out);
 }
@@ -330,13 +412,13 @@ uint8_t peer_frame(struct peer_board *row, size_t boards, const uint8_t *frame, 
     if (number - 1u >= boards)
         return 2;
     struct peer_board *b = &row[number - 1];
-    const bool setting = reg >= 6 && reg <= 10, control = reg == 1 && b->kind == HOST;
-    if (!setting && reg != 11 && !control && (reg != 0 || write))
+    const bool set = b->kind != GARDEN, setting = set && reg >= 6 && reg <= 10, cycles = set && reg == 11, control = reg == 1 && b->kind == HOST;
+    if (!setting && !cycles && !control && (reg != 0 || write))
         return 9;
     if (!write) {
         if (value != 0)
             return 10;
-        value = setting ? b->working[reg - 6] : reg == 11 ? b->cycles : control ? b->control : status(b);
+        value = setting ? b->working[reg - 6] : cycles ? b->cycles : control ? b->control : status(b);
     } else if (control) {
         if (value > CONTROL_MAX)
             return 10;

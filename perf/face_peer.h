@@ -8,10 +8,12 @@ struct peer_board {
     uint8_t cells, kind, cycles, latches;
     uint8_t working[5], staged[5];
     uint16_t flags;               /* bit 0 is cell 1, here and below */
-    uint16_t over, under;         /* cells with an OV run, with a UV run */
+    uint16_t over, under;         /* cells with an OV run, with a UV run; on a garden board 1 where a cell has a count */
     uint8_t currents;             /* which of OCD and SCD have a run */
     uint8_t control;              /* register 1 */
     uint16_t low, high;           /* of the last sample, with its shunt below */
+    uint8_t row, trigger;         /* of a garden board, with its recovery counts */
+    uint8_t ov_back, uv_back;
     int32_t ov_run[10], uv_run[10];
     int32_t ocd_run, scd_run;
     int32_t shunt;

@@ -23,7 +23,8 @@ enum {
 enum { SCD = 1, OCD = 2, OV = 4, UV = 8, HOT = 16, DSG_ON = 64, CHG_ON = 128 };
 enum { STOPS_DSG = UV | OCD | SCD | HOT, STOPS_CHG = OV | OCD | SCD | HOT };
 
-// The bench opens stand-alone boards only; its boards know both kinds, as the library's do.
+// The bench opens stand-alone boards only. Its boards know host boards too, which share every step with them; garden boards have
+// steps of their own, that no line reaches.
 enum { STAND_ALONE = 0, HOST = 1 };
 enum { CLEAR_BIT = 1, DSG_BIT = 2, CHG_BIT = 4, CONTROL_MAX = 7 };
 
