@@ -298,6 +298,30 @@ fn host_board() {
     sent(other, 2, 1, 0);
 }
 
+// A garden board: it starts with OV latched, counts up and down, and lets go by its recovery counts; UV waits for the load in this row.
+fn garden_board() {
+    let s = one_board(board::garden_plan(5, 0, 2));
+    let s = sent(s, 2, 0, 0);
+    let s = sampled(s, 100000, 3999, 3999, 0, 2000, 0);
+    let s = sampled(s, 100000, 3999, 3999, 0, 2000, 0);
+    let s = sampled(s, 100000, 4201, 3999, 0, 2000, 0);
+    let s = sampled(s, 100000, 4200, 3999, 0, 2000, 0);
+    let s = sampled(s, 100000, 4201, 3999, 0, 2000, 0);
+    let s = sampled(s, 100000, 4201, 3999, 0, 2000, 0);
+    let s = sampled(s, 100000, 2899, 3999, 0, 2000, 0);
+    let s = sampled(s, 100000, 2899, 3999, 0, 2000, 0);
+    let s = sampled(s, 100000, 3301, 3301, 0, 2000, 1);
+    let s = sampled(s, 100000, 3301, 3301, 60001, 100, 0);
+    let s = sampled(s, 100000, 3301, 3301, 60001, 100, 0);
+    let s = sent(s, 2, 1, 0);
+    let s = sent(s, 2, 6, 0);
+    let s = sent(s, 3, 11, 65);
+    let s = sent(s, 3, 0, 0);
+    sent(s, 2, 0, 1);
+    let large = one_board(board::garden_plan(6, 0, 2));
+    sent(large, 2, 0, 0);
+}
+
 fn main() {
     published();
     session();
@@ -308,4 +332,5 @@ fn main() {
     programming();
     crossed_levels();
     host_board();
+    garden_board();
 }
