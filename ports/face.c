@@ -84,6 +84,12 @@ COPIES void __aeabi_memcpy(void *to, const void *from, size_t bytes)
     copy(to, from, bytes);
 }
 
+/* where both places are known to lie at four bytes */
+COPIES void __aeabi_memcpy4(void *to, const void *from, size_t bytes)
+{
+    copy(to, from, bytes);
+}
+
 COPIES void __aeabi_memclr(void *to, size_t bytes)
 {
     fill(to, 0, bytes);
