@@ -1,17 +1,17 @@
 -- A quiet sample is in range, changes nothing of the board but the last sample and bleeds no cell: it is answered from the record.
 -- Assumes nothing.
 use Prim.Native.Nat.{ℕ}
-use native.Mathlib.Omega.{arith}
 use mathlib.Core.Path.{_≡_, sym, ap, _∙_}
 use mathlib.Core.Bool.{Bool, true, false, not, _&&_}
 use mathlib.Core.List.{List}
 use lib.Dec.{ltb, eqb}
-use borrow.Author.Tests.{le-ltb, eqb-true}
+use borrow.Author.Tests.{eqb-true}
 use Rattle.lists.proofs.Split.{split, both, not-yes}
 use Rattle.refusal.specs.Said.{accepts}
 use Rattle.settings.specs.Levels.{ocdLevel, scdLevel}
 use Rattle.settings.specs.Faults.{SCD, OCD, delay}
-use Rattle.runs.specs.Stored.{runNext, stood}
+use Rattle.runs.specs.Stored.{runNext}
+use Rattle.runs.proofs.Laws.{none-stood}
 use Rattle.lists.specs.Marks.{number}
 use Rattle.cells.specs.declared.Swept.{Swept}
 use Rattle.cells.specs.Cells.{spanOf}
@@ -117,8 +117,8 @@ module _ (b : Board) (x : Readings) (mv : List ℕ) (q : quietOf b x (spanOf mv)
   swept = rw no-flag (calm-sweep (b .working) (x .elapsed) (b .cells) mv calm)
 
   unlatched : latchesAfter b x mv ≡ latches (λ _. false)
-  unfolding latchesNext currentsNext runNext stood
-  unlatched = rw (swept, no-latch, no-ocd, no-scd, not-hot, le-ltb (delay SCD (b .working)) 0 (omega arith), le-ltb (delay OCD (b .working)) 0 (omega arith))
+  unfolding latchesNext currentsNext runNext
+  unlatched = rw (swept, no-latch, no-ocd, no-scd, not-hot, none-stood (delay SCD (b .working)), none-stood (delay OCD (b .working)))
 
   same-currents : currentsNext (b .working) (b .currents) x ≡ b .currents
   unfolding currentsNext runNext

@@ -4,7 +4,7 @@ use Prim.Native.Nat.{ℕ, zero, suc, _+_, _<_, _≤_}
 use native.Mathlib.Omega.{arith}
 use mathlib.Core.Path.{_≡_, refl, sym, ap, _∙_}
 use mathlib.Core.Bool.{Bool, true, false, _&&_}
-use mathlib.Core.List.{List, [], _∷_, _++_}
+use mathlib.Core.List.{List, _∷_, _++_}
 use lib.Dec.{ltb, eqb}
 use lib.ListN.{length, getD, drop}
 use lib.Seq.{drop-cons}
@@ -13,7 +13,8 @@ use Rattle.lists.proofs.Split.{both}
 use Rattle.lists.proofs.Every.{every-at}
 use Rattle.settings.specs.declared.Settings.{Settings}
 use Rattle.settings.specs.Levels.{ovLevel, ovRelease, uvLevel, uvRelease}
-use Rattle.runs.specs.Stored.{runNext, stood}
+use Rattle.runs.specs.Stored.{runNext}
+use Rattle.runs.proofs.Laws.{none-stood}
 use Rattle.lists.specs.Marks.{number}
 use Rattle.lists.proofs.Marks.{marked-above}
 use Rattle.cells.specs.declared.Cell.{Cell}
@@ -98,12 +99,12 @@ module _ (s : Settings) (elapsed : ℕ) (cells : List Cell) (mv : List ℕ) (cal
       rw (over k p, under k p) (λ i. record { ov = sym ov i; uv = sym uv i })
 
   no-ov : (k : ℕ) → k < cellCount mv → ovStoodAt (limitsOf s) elapsed cells 0 mv k ≡ false
-  unfolding cellBy runNext stood
-  no-ov k p = rw (over k p) (le-ltb (limitsOf s .ovDelay) 0 (omega arith))
+  unfolding cellBy runNext
+  no-ov k p = rw (over k p) (none-stood (limitsOf s .ovDelay))
 
   no-uv : (k : ℕ) → k < cellCount mv → uvStoodAt (limitsOf s) elapsed cells 0 mv k ≡ false
-  unfolding cellBy runNext stood
-  no-uv k p = rw (under k p) (le-ltb (limitsOf s .uvDelay) 0 (omega arith))
+  unfolding cellBy runNext
+  no-uv k p = rw (under k p) (none-stood (limitsOf s .uvDelay))
 
   no-flag : (k : ℕ) → k < cellCount mv → flaggedAt (limitsOf s) elapsed cells 0 mv k ≡ false
   no-flag k p = rw (no-ov k p, marked-above 0 0 k (omega arith) (omega arith))

@@ -4,9 +4,9 @@ use Prim.Native.Nat.{ℕ, _+_, _<_, _≤_}
 use native.Mathlib.Omega.{arith}
 use mathlib.Core.Path.{_≡_, refl, ap, ap₂, sym, _∙_}
 use mathlib.Core.Bool.{Bool, true, false, true≢false, cond, not, _&&_, _||_, or-false}
-use mathlib.Core.List.{List, [], _∷_, _++_, dropLast}
+use mathlib.Core.List.{List, [], _∷_, _++_}
 use mathlib.Core.Option.{Option, some as just, none}
-use lib.Dec.{leb, ltb, eqb, leb·zero}
+use lib.Dec.{leb, ltb, eqb}
 use lib.ListN.{length, drop}
 use borrow.Author.Tests.{eqb-true, ne-eqb, lt-ltb, le-ltb}
 use Rattle.lists.proofs.Split.{split, both}
@@ -17,7 +17,7 @@ use Rattle.settings.specs.declared.Settings.{Settings}
 use Rattle.settings.specs.Bytes.{withByte, same}
 use Rattle.settings.specs.Faults.{Fault, SCD, OCD, OV, UV, OT, delay}
 use Rattle.lists.specs.Marks.{number, marked}
-use Rattle.runs.specs.Run.{past, lasting, stretch, total}
+use Rattle.runs.specs.Run.{past, lasting, stretch}
 use Rattle.runs.specs.Stored.{stored, runNext, stood}
 use Rattle.runs.proofs.Laws.{kept-run, stood-delay}
 use Rattle.cells.specs.declared.Cell.{Cell}
@@ -119,7 +119,7 @@ and-yes false = refl
 -- a condition without delay has stood it exactly if it holds
 no-delay : (b : Bool) (x : Sample) (older : List Sample) → b ≡ past 0 (lasting (λ y. y .readings .elapsed) (cond b (x ∷ older) []))
 no-delay false x older = refl
-no-delay true x older = sym (leb·zero (total (λ y. y .readings .elapsed) (dropLast (x ∷ older))))
+no-delay true x older = refl
 
 module _ (p : Plan) (settled : isGarden (p .kind) ≡ false) (few : p .cells ≤ 10) (h : History) (x : Readings) (mv : List ℕ) (long : length mv ≡ p .cells) where
   abbrev n : ℕ

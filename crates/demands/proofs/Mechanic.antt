@@ -3,14 +3,14 @@
 use Prim.Native.Nat.{ℕ, _<_, _≤_}
 use native.Mathlib.Omega.{arith}
 use mathlib.Core.Path.{_≡_, refl, sym, ap, _∙_, subst}
-use mathlib.Core.Logic.{_↔_}
+use mathlib.Core.Logic.{_⊎_, inl, inr, _↔_}
 use mathlib.Core.Bool.{Bool, true, false, true≢false, cond, not, _&&_, _||_}
 use mathlib.Core.List.{List, [], _∷_}
 use mathlib.Core.Option.{Option, some, none}
 use lib.Dec.{leb, ltb, eqb}
 use lib.ListN.{length, set, length-set, List·getD-eq-default}
 use lib.Seq.{set-getD, getD-set-same, getD-set-other}
-use borrow.Author.Tests.{leb-true, le-leb, eq-eqb, ne-eqb, eqb-true, eqb-false, ltb-true, ltb-false}
+use borrow.Author.Tests.{leb-true, le-leb, lt-ltb, eq-eqb, ne-eqb, eqb-true, eqb-false, ltb-true, ltb-false}
 use Rattle.refusal.specs.Said.{Said, Bar, accepts, refuses, first}
 use Rattle.lists.proofs.Split.{split, both, not-yes}
 use Rattle.settings.specs.Bytes.{same}
@@ -43,13 +43,18 @@ use Rattle.demands.proofs.Turns.{never-latched, calm-never}
 
 -- ---- a condition that has stood its delay
 
--- a run is at or past a delay exactly if there is one so long
-past-yes : (d : ℕ) (o : Option ℕ) → past d o ≡ true → (t : ℕ) × (o ≡ some t) × (d ≤ t)
+-- a run has stood a delay exactly if there is one that is longer, or there is one and the delay is zero
+past-yes : (d : ℕ) (o : Option ℕ) → past d o ≡ true → (t : ℕ) × (o ≡ some t) × ((d < t) ⊎ (d ≡ 0))
 past-yes d none e = absurd (true≢false (sym e))
-past-yes d (some t) e = (t, refl, leb-true d t e)
+past-yes d (some t) e = split (eqb d 0) (λ z. (t, refl, inr (eqb-true d 0 z))) (λ z. (t, refl, inl (ltb-true d t (rw z at e))))
 
-is-past : (d : ℕ) (o : Option ℕ) (t : ℕ) → o ≡ some t → d ≤ t → past d o ≡ true
-is-past d o t e h = ap (past d) e ∙ le-leb d t h
+is-past : (d : ℕ) (o : Option ℕ) (t : ℕ) → o ≡ some t → (d < t) ⊎ (d ≡ 0) → past d o ≡ true
+is-past d o t e (inl longer) = ap (past d) e ∙ rw (lt-ltb d t longer) (or-yes (eqb d 0))
+  where
+    or-yes : (b : Bool) → (b || true) ≡ true
+    or-yes true = refl
+    or-yes false = refl
+is-past d o t e (inr zero) = ap (past d) e ∙ rw (eq-eqb d 0 zero)
 
 stood : (n : ℕ) (f : Fault) (h : History) → (stands n f h ≡ true) ↔ Stood n f h
 stood n f h = (

@@ -8,7 +8,7 @@ use mathlib.Core.Bool.{Bool, true, false, cond, not, _&&_}
 use mathlib.Core.List.{List, [], _∷_}
 use mathlib.Core.Option.{none}
 use lib.Dec.{ltb}
-use borrow.Author.Tests.{le-ltb, lt-leb}
+use borrow.Author.Tests.{le-ltb, ne-eqb}
 use Rattle.settings.specs.declared.Settings.{Settings}
 use Rattle.lists.proofs.Split.{split}
 use Rattle.settings.specs.Levels.{ovLevel, ocdLevel, scdLevel}
@@ -121,7 +121,7 @@ module _ (x : Readings) (v low : ℕ) (below : low ≤ 4150) where
 
   -- a stretch of one sample at most has not stood the OV delay
   short : (s : Settings) (y : Sample) (t : Bool) → past (delay OV s) (lasting (λ z. z .readings .elapsed) (cond t (y ∷ []) [])) ≡ false
-  short s y true = lt-leb (delay OV s) 0 (omega arith)
+  short s y true = rw (ne-eqb (delay OV s) 0 (λ z. omega arith), le-ltb (delay OV s) 0 (omega arith))
   short s y false = refl
 
   under-at : (r : ℕ) (first : Bool) (k : ℕ) → stoodDelay OV k (alternate x v low (suc r) first) ≡ false

@@ -1,4 +1,4 @@
--- M1 to M12, shown of the definitions from histories: one table, one statement (01, Both sides of the line).
+-- M1 to M12, shown of the definitions from histories: one table, one statement (01, Both sides of the line; 02, ticket 6).
 -- Assumes nothing.
 use Prim.Native.Nat.{ℕ, zero, suc}
 use mathlib.Core.Bool.{Bool, true, _&&_}
@@ -72,11 +72,11 @@ latch f h = bit (latched board f h)
 
 abbrev pub marked : List Case
 marked =
-    is 1 (latch OV (more 5 (one 4151) [])) 0
-    ∷ is 1 (latch OV (more 6 (one 4151) [])) 1
+    is 1 (latch OV (more 6 (one 4151) [])) 0
+    ∷ is 1 (latch OV (more 7 (one 4151) [])) 1
     ∷ is 2 (latch OV (more 40 (one 4150) [])) 0
-    ∷ is 3 (latch OV (five 4050 ∷ more 6 (one 4151) [])) 1
-    ∷ is 4 (latch OV (five 4049 ∷ more 6 (one 4151) [])) 0
+    ∷ is 3 (latch OV (five 4050 ∷ more 7 (one 4151) [])) 1
+    ∷ is 4 (latch OV (five 4049 ∷ more 7 (one 4151) [])) 0
     ∷ is 5 (uvRelease (with 7 0x38)) 3300
     ∷ is 6 (uvRelease (with 7 0)) 1600
     ∷ is 7 (ocdDelay (with 8 15)) 320000
@@ -84,8 +84,8 @@ marked =
     ∷ is 9 (ocdDelay (with 8 31)) 1600000
     ∷ is 10 (status board (more 20 (shunt (negsuc 60000)) [])) 192
     ∷ is 11 (latch SCD (more 20 (shunt (pos 60000)) [])) 0
-    ∷ is 12 (number (bled (flagsAt (alone 8) (more 6 three [])))) 132
-    ∷ is 12 (number (bled (flagsAt (alone 8) (more 6 apart [])))) 144
+    ∷ is 12 (number (bled (flagsAt (alone 8) (more 7 three [])))) 132
+    ∷ is 12 (number (bled (flagsAt (alone 8) (more 7 apart [])))) 144
     ∷ []
 
 abbrev pub right : List Case → Bool

@@ -2,7 +2,7 @@
 -- Assumes nothing.
 use Prim.Native.Nat.{ℕ, _+_, _<_, _≤_}
 use mathlib.Core.Path.{_≡_}
-use mathlib.Core.Logic.{_↔_}
+use mathlib.Core.Logic.{_⊎_, _↔_}
 use mathlib.Core.Bool.{Bool, true, false}
 use mathlib.Core.List.{List, _∷_}
 use mathlib.Core.Option.{some, none}
@@ -46,9 +46,9 @@ pub record Cycles (e : Entry) (h : History) : Type 0 where
   pub one-at-unlike : programming e ≡ true → same (staged h) (working h) ≡ false → spent (e ∷ h) ≡ spent h + 1
   pub none-else : programming e ≡ false → spent (e ∷ h) ≡ spent h
 
--- some one run is at or past the delay: that of a cell with OV and UV, of n cells
+-- there is a run, that of some one cell with OV and UV, of n cells; and it is longer than the delay or the delay is zero (02, ticket 6)
 abbrev pub Stood : ℕ → Fault → History → Type 0
-Stood n f h = (k : ℕ) × (k < places f n) × (t : ℕ) × (runOf f k h ≡ some t) × (delay f (working h) ≤ t)
+Stood n f h = (k : ℕ) × (k < places f n) × (t : ℕ) × (runOf f k h ≡ some t) × ((delay f (working h) < t) ⊎ (delay f (working h) ≡ 0))
 
 -- ---- the library after an opening and acts
 

@@ -11,7 +11,7 @@ use Rattle.settings.specs.Faults.{Fault}
 use Rattle.board.specs.declared.Readings.{Readings}
 use Rattle.demands.specs.Paper.{sampled, framed, History, sampleOf, holds, places, stoodDelay}
 
--- each for less than the delay: after no act has the run of any one of n cells stood it
+-- none for longer than its delay: after no act has the run of any one of n cells stood it
 abbrev pub Under : ℕ → Fault → History → Type 0
 Under n f [] = Unit {0}
 Under n f (e ∷ h) = ((k : ℕ) → k < places f n → stoodDelay f k (e ∷ h) ≡ false) × Under n f h

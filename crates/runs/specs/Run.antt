@@ -1,10 +1,11 @@
--- The run of a condition, from the accepted samples alone, newest first, with no state (01, When a fault latches and lets go).
+-- The run of a condition, from the accepted samples alone, newest first, with no state (01, When a fault latches and lets go; 02, ticket 6).
 -- Assumes nothing.
 use Prim.Native.Nat.{ℕ, _+_}
-use mathlib.Core.Bool.{Bool, false, cond}
+use mathlib.Core.Bool.{Bool, false, cond, _||_}
 use mathlib.Core.List.{List, [], _∷_, dropLast}
 use mathlib.Core.Option.{Option, some, none}
-use Rattle.lists.specs.Compare.{_atOrAbove_}
+use lib.Dec.{eqb}
+use Rattle.lists.specs.Compare.{_above_}
 
 -- the unbroken stretch of samples on which the condition holds, ending at the newest
 abbrev pub stretch : {X : Type 0} → (X → Bool) → List X → List X
@@ -25,7 +26,7 @@ lasting elapsed (x ∷ older) = some (total elapsed (dropLast (x ∷ older)))
 abbrev pub run : {X : Type 0} → (X → ℕ) → (X → Bool) → List X → Option ℕ
 run elapsed holds samples = lasting elapsed (stretch holds samples)
 
--- the condition has stood its delay when its run is at or past the delay
+-- the condition has stood its delay when its run is longer than the delay; a zero delay acts on the first sample (02, ticket 6)
 abbrev pub past : ℕ → Option ℕ → Bool
 past delay none = false
-past delay (some t) = t atOrAbove delay
+past delay (some t) = eqb delay 0 || t above delay

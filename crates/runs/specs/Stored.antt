@@ -17,6 +17,6 @@ stored (some t) = min runCap (t + 1)
 unfoldable pub runNext : ℕ → Bool → ℕ → ℕ
 runNext run holds elapsed = cond holds (cond (eqb run 0) 1 (min runCap (run + elapsed))) 0
 
--- the stored run is at or past the delay
+-- the stored run is longer than the delay, or there is one and the delay is zero
 unfoldable pub stood : ℕ → ℕ → Bool
-stood delay run = ltb delay run
+stood delay run = ltb (cond (eqb delay 0) 0 (delay + 1)) run
