@@ -133,9 +133,9 @@ def run(samples, holds):
 
 
 def stood(samples, holds, delay):
-    """Has the condition stood its delay (01, When a fault latches)?"""
+    """Has the condition stood its delay (01, When a fault latches; 02, ticket 6)? A zero delay acts on the first sample."""
     length = run(samples, holds)
-    return length is not None and length >= delay
+    return length is not None and (length > delay or delay == 0)
 
 
 def cells_over(samples, settings):

@@ -116,7 +116,7 @@ def marked_cases():
     """01, Both sides of the line: M1 to M12."""
     session("M1, M3, M4", """
         O 5 -> ok
-        5: S 1 100000 0 2000 0 {one} -> st 192 bal 0
+        6: S 1 100000 0 2000 0 {one} -> st 192 bal 0
         S 1 100000 0 2000 0 {one} -> st 68 bal 1
         3: S 1 100000 0 2000 0 4050 4050 4050 4050 4050 -> st 68 bal 1
         S 1 100000 0 2000 0 4049 4049 4049 4049 4050 -> st 68 bal 0
@@ -148,23 +148,21 @@ def marked_cases():
         F 3 8 15 * -> re 3 8 15 *
         F 3 11 65 * -> re 3 11 1 *
         4: S 1 100000 0 2000 10001 {calm} -> st 192 bal 0
-        S 1 19999 0 2000 10001 {calm} -> st 192 bal 0
+        S 1 20000 0 2000 10001 {calm} -> st 192 bal 0
         S 1 1 0 2000 10001 {calm} -> st 2 bal 0
         """, **FIVE)
     session("M8", """
         O 5 -> ok
         F 3 8 16 * -> re 3 8 16 *
         F 3 11 65 * -> re 3 11 1 *
-        S 1 100000 0 2000 10001 {calm} -> st 192 bal 0
-        S 1 99999 0 2000 10001 {calm} -> st 192 bal 0
+        2: S 1 100000 0 2000 10001 {calm} -> st 192 bal 0
         S 1 1 0 2000 10001 {calm} -> st 2 bal 0
         """, **FIVE)
     session("M9", """
         O 5 -> ok
         F 3 8 31 * -> re 3 8 31 *
         F 3 11 65 * -> re 3 11 1 *
-        16: S 1 100000 0 2000 10001 {calm} -> st 192 bal 0
-        S 1 99999 0 2000 10001 {calm} -> st 192 bal 0
+        17: S 1 100000 0 2000 10001 {calm} -> st 192 bal 0
         S 1 1 0 2000 10001 {calm} -> st 2 bal 0
         """, **FIVE)
     session("M10", """
@@ -175,13 +173,13 @@ def marked_cases():
     session("M11", """
         O 5 -> ok
         S 1 100000 1 2000 60000 {calm} -> st 192 bal 0
-        S 1 19999 1 2000 60000 {calm} -> st 192 bal 0
+        S 1 20000 1 2000 60000 {calm} -> st 192 bal 0
         S 1 1 1 2000 60000 {calm} -> st 2 bal 0
         S 1 1 1 2000 60001 {calm} -> st 3 bal 0
         """, **FIVE)
     session("M12", """
         O 8 -> ok
-        5: S 1 100000 0 2000 0 {high} -> st 192 bal 0
+        6: S 1 100000 0 2000 0 {high} -> st 192 bal 0
         S 1 100000 0 2000 0 {high} -> st 68 bal 132
         R -> ln 1 chg 0 dsg 1 at 1 3
         """, high="4000 4000 4151 4000 4000 4000 4151 4151")
@@ -196,40 +194,41 @@ def run_cases():
         S 1 0 0 2000 0 {calm} -> no 4
         S 1 100000 0 2000 0 4000 4000 4000 4000 -> no 3
         S 1 100000 2 2000 0 {calm} -> no 5
-        2: S 1 100000 0 2000 0 {one} -> st 192 bal 0
+        3: S 1 100000 0 2000 0 {one} -> st 192 bal 0
         S 1 100000 0 2000 0 {one} -> st 68 bal 1
         """, **FIVE)
     session("the last microsecond", """
         O 5 -> ok
         5: S 1 100000 0 2000 0 {one} -> st 192 bal 0
         S 1 99999 0 2000 0 {one} -> st 192 bal 0
+        S 1 1 0 2000 0 {one} -> st 192 bal 0
         S 1 1 0 2000 0 {one} -> st 68 bal 1
         """, **FIVE)
     session("one sample at the level breaks the stretch", """
         O 5 -> ok
-        5: S 1 100000 0 2000 0 {one} -> st 192 bal 0
+        6: S 1 100000 0 2000 0 {one} -> st 192 bal 0
         S 1 100000 0 2000 0 4150 4000 4000 4000 4000 -> st 192 bal 0
-        5: S 1 100000 0 2000 0 {one} -> st 192 bal 0
+        6: S 1 100000 0 2000 0 {one} -> st 192 bal 0
         S 1 100000 0 2000 0 {one} -> st 68 bal 1
         """, **FIVE)
     session("two cells take turns", """
         O 5 -> ok
-        5: S 1 100000 0 2000 0 {one} -> st 192 bal 0
-        5: S 1 100000 0 2000 0 {two} -> st 192 bal 0
-        5: S 1 100000 0 2000 0 {one} -> st 192 bal 0
-        5: S 1 100000 0 2000 0 {two} -> st 192 bal 0
+        6: S 1 100000 0 2000 0 {one} -> st 192 bal 0
+        6: S 1 100000 0 2000 0 {two} -> st 192 bal 0
+        6: S 1 100000 0 2000 0 {one} -> st 192 bal 0
+        6: S 1 100000 0 2000 0 {two} -> st 192 bal 0
         """, **FIVE)
     session("two cells overlap: the second has its own run", """
         O 5 -> ok
-        4: S 1 100000 0 2000 0 {one} -> st 192 bal 0
+        5: S 1 100000 0 2000 0 {one} -> st 192 bal 0
         S 1 100000 0 2000 0 {both} -> st 192 bal 0
-        4: S 1 100000 0 2000 0 {two} -> st 192 bal 0
+        5: S 1 100000 0 2000 0 {two} -> st 192 bal 0
         S 1 100000 0 2000 0 {two} -> st 68 bal 2
         """, **FIVE)
     session("a run goes on while its fault is latched", """
         O 5 -> ok
         3: S 1 100000 0 2000 0 {one} -> st 192 bal 0
-        2: S 1 100000 0 2000 0 {both} -> st 192 bal 0
+        3: S 1 100000 0 2000 0 {both} -> st 192 bal 0
         3: S 1 100000 0 2000 0 {both} -> st 68 bal 1
         S 1 100000 0 2000 0 {both} -> st 68 bal 2
         R -> ln 1 chg 0 dsg 1 at 1 1
@@ -238,30 +237,30 @@ def run_cases():
         """, **FIVE)
     session("a stack of two: another board's samples are not in the stretch", """
         O 5 5 -> ok
-        5: S 1 100000 0 2000 0 {one} -> st 192 bal 0
+        6: S 1 100000 0 2000 0 {one} -> st 192 bal 0
         5: S 2 100000 0 2000 0 {calm} -> st 192 bal 0
         S 1 100000 0 2000 0 {one} -> st 68 bal 1
-        5: S 2 100000 0 2000 0 {one} -> st 192 bal 0
+        6: S 2 100000 0 2000 0 {one} -> st 192 bal 0
         S 2 100000 0 2000 0 {one} -> st 68 bal 1
         R -> ln 1 chg 0 dsg 1 at 1 1
         """, **FIVE)
     session("programming unlike sets starts every run over", """
         O 5 -> ok
-        5: S 1 100000 0 2000 0 {one} -> st 192 bal 0
+        6: S 1 100000 0 2000 0 {one} -> st 192 bal 0
         F 3 10 1 * -> re 3 10 1 *
         F 3 11 65 * -> re 3 11 1 *
-        5: S 1 100000 0 2000 0 {one} -> st 192 bal 0
+        6: S 1 100000 0 2000 0 {one} -> st 192 bal 0
         S 1 100000 0 2000 0 {one} -> st 68 bal 1
         """, **FIVE)
     session("programming equal sets starts nothing over", """
         O 5 -> ok
-        5: S 1 100000 0 2000 0 {one} -> st 192 bal 0
+        6: S 1 100000 0 2000 0 {one} -> st 192 bal 0
         F 3 11 65 234 -> re 3 11 0 42
         S 1 100000 0 2000 0 {one} -> st 68 bal 1
         """, **FIVE)
     session("staging alone starts nothing over and changes no level", """
         O 5 -> ok
-        5: S 1 100000 0 2000 0 {one} -> st 192 bal 0
+        6: S 1 100000 0 2000 0 {one} -> st 192 bal 0
         F 3 6 255 * -> re 3 6 255 *
         S 1 100000 0 2000 0 {one} -> st 68 bal 1
         """, **FIVE)
@@ -324,7 +323,7 @@ def fault_cases():
         O 5 -> ok
         F 3 6 24 * -> re 3 6 24 *
         F 3 11 65 * -> re 3 11 1 *
-        5: S 1 100000 0 2000 0 {one} -> st 192 bal 0
+        6: S 1 100000 0 2000 0 {one} -> st 192 bal 0
         S 1 100000 0 2000 0 {one} -> st 68 bal 1
         9: S 1 100000 0 2000 0 4150 4150 4150 4150 4150 -> st 68 bal 1
         S 1 100000 0 2000 0 4149 4149 4149 4149 4149 -> st 192 bal 0
@@ -335,14 +334,14 @@ def fault_cases():
         F 3 11 65 * -> re 3 11 1 *
         30: S 1 100000 0 2000 0 4500 4500 4500 4500 4500 -> st 192 bal 0
         23: S 1 100000 0 2000 0 4000 4501 4000 4000 4000 -> st 192 bal 0
-        S 1 49999 0 2000 0 4000 4501 4000 4000 4000 -> st 192 bal 0
+        S 1 50000 0 2000 0 4000 4501 4000 4000 4000 -> st 192 bal 0
         S 1 1 0 2000 0 4000 4501 4000 4000 4000 -> st 68 bal 2
         """, **FIVE)
     session("OV byte 17: level 4200, hysteresis 300", """
         O 5 -> ok
         F 3 6 17 * -> re 3 6 17 *
         F 3 11 65 * -> re 3 11 1 *
-        5: S 1 100000 0 2000 0 4201 3800 3800 3800 3800 -> st 192 bal 0
+        6: S 1 100000 0 2000 0 4201 3800 3800 3800 3800 -> st 192 bal 0
         S 1 100000 0 2000 0 4201 3800 3800 3800 3800 -> st 68 bal 1
         S 1 100000 0 2000 0 3900 3800 3800 3800 3800 -> st 68 bal 1
         S 1 100000 0 2000 0 3899 3900 3899 3899 3899 -> st 68 bal 0
@@ -353,7 +352,7 @@ def fault_cases():
         F 3 9 16 * -> re 3 9 16 *
         F 3 11 65 * -> re 3 11 1 *
         S 1 100000 0 2000 0 4000 0 4000 4000 4000 -> st 192 bal 0
-        S 1 1249 0 2000 0 4000 0 4000 4000 4000 -> st 192 bal 0
+        S 1 1250 0 2000 0 4000 0 4000 4000 4000 -> st 192 bal 0
         S 1 1 0 2000 0 4000 0 4000 4000 4000 -> st 136 bal 0
         """)
     session("UV cells take turns", """
@@ -361,27 +360,39 @@ def fault_cases():
         F 3 9 16 * -> re 3 9 16 *
         F 3 11 65 * -> re 3 11 1 *
         S 1 1000 0 2000 0 4000 0 4000 4000 4000 -> st 192 bal 0
-        S 1 1249 0 2000 0 4000 0 4000 4000 4000 -> st 192 bal 0
+        S 1 1250 0 2000 0 4000 0 4000 4000 4000 -> st 192 bal 0
         S 1 1000 0 2000 0 4000 4000 0 4000 4000 -> st 192 bal 0
-        S 1 1249 0 2000 0 4000 4000 0 4000 4000 -> st 192 bal 0
-        S 1 1249 0 2000 0 4000 0 4000 4000 4000 -> st 192 bal 0
+        S 1 1250 0 2000 0 4000 4000 0 4000 4000 -> st 192 bal 0
+        S 1 1250 0 2000 0 4000 0 4000 4000 4000 -> st 192 bal 0
         """)
     session("UV delay 8 s and OCD level 85 mV, SCD level 135 mV after 900 us", """
         O 5 -> ok
         F 3 9 255 * -> re 3 9 255 *
         F 3 10 255 * -> re 3 10 255 *
         F 3 11 65 * -> re 3 11 1 *
-        80: S 1 100000 0 2000 85000 4000 0 4000 4000 4000 -> st 192 bal 0
-        S 1 99999 0 2000 85000 4000 0 4000 4000 4000 -> st 192 bal 0
+        81: S 1 100000 0 2000 85000 4000 0 4000 4000 4000 -> st 192 bal 0
         S 1 1 0 2000 85000 4000 0 4000 4000 4000 -> st 136 bal 0
         S 1 1 0 2000 135001 {calm} -> st 192 bal 0
-        S 1 899 0 2000 135001 {calm} -> st 192 bal 0
+        S 1 900 0 2000 135001 {calm} -> st 192 bal 0
         S 1 1 0 2000 135001 {calm} -> st 1 bal 0
         S 1 19098 0 2000 135001 {calm} -> st 1 bal 0
         S 1 1 0 2000 135001 {calm} -> st 1 bal 0
         S 1 1 0 2000 135001 {calm} -> st 3 bal 0
         S 1 1 0 2000 85001 {calm} -> st 2 bal 0
         S 1 1 0 2000 85000 {calm} -> st 192 bal 0
+        """, **FIVE)
+    # runs of 0, 60 and 61 us; at the factory's byte again the delay is zero, and a run of 0 is enough
+    session("SCD delay of 60 us, and none", """
+        O 5 -> ok
+        F 3 10 16 * -> re 3 10 16 *
+        F 3 11 65 * -> re 3 11 1 *
+        S 1 100000 0 2000 60001 {calm} -> st 192 bal 0
+        S 1 60 0 2000 60001 {calm} -> st 192 bal 0
+        S 1 1 0 2000 60001 {calm} -> st 1 bal 0
+        S 1 1 0 2000 10000 {calm} -> st 192 bal 0
+        F 3 10 0 * -> re 3 10 0 *
+        F 3 11 65 * -> re 3 11 2 *
+        S 1 1 0 2000 60001 {calm} -> st 1 bal 0
         """, **FIVE)
     session("the load holds a current fault", """
         O 5 -> ok
@@ -406,7 +417,7 @@ def fault_cases():
         O 5 -> ok
         6: S 1 0 0 0 0 {calm} -> no 4
         S 1 1 1 0 500000 5000 0 0 0 0 -> st 25 bal 0
-        4: S 1 100000 1 0 500000 5000 0 0 0 0 -> st 27 bal 0
+        5: S 1 100000 1 0 500000 5000 0 0 0 0 -> st 27 bal 0
         S 1 100000 1 0 500000 5000 0 0 0 0 -> st 31 bal 1
         F 2 0 0 214 -> re 2 0 31 *
         R -> ln 1 chg 0 dsg 0 at 1 1
@@ -420,19 +431,19 @@ def bleeding_cases():
     give 10, 7, 4 and 1, 512, 64, 8 and 1."""
     session("all five, all ten", """
         O 5 10 -> ok
-        5: S 1 100000 0 2000 0 {five} -> st 192 bal 0
+        6: S 1 100000 0 2000 0 {five} -> st 192 bal 0
         S 1 100000 0 2000 0 {five} -> st 68 bal 18
-        5: S 2 100000 0 2000 0 {five} {five} -> st 192 bal 0
+        6: S 2 100000 0 2000 0 {five} {five} -> st 192 bal 0
         S 2 100000 0 2000 0 {five} {five} -> st 68 bal 585
         """, five="4200 4200 4200 4200 4200")
     # 7 is flagged and not bled, so it shuts nothing out: 8 and 5, 128 and 16
     session("8, 6 and 5; 8, 7, 6 and 5; 6 alone once 8 and 5 let go", """
         O 8 8 -> ok
-        5: S 1 100000 0 2000 0 {apart} -> st 192 bal 0
+        6: S 1 100000 0 2000 0 {apart} -> st 192 bal 0
         S 1 100000 0 2000 0 {apart} -> st 68 bal 144
         R -> ln 1 chg 0 dsg 1 at 1 5
         S 1 1 0 2000 0 4000 4000 4000 4000 4000 4151 4000 4000 -> st 68 bal 32
-        5: S 2 100000 0 2000 0 {four} -> st 192 bal 0
+        6: S 2 100000 0 2000 0 {four} -> st 192 bal 0
         S 2 100000 0 2000 0 {four} -> st 68 bal 144
         """, apart="4000 4000 4000 4000 4151 4151 4000 4151",
             four="4000 4000 4000 4000 4151 4151 4151 4151")
@@ -441,10 +452,10 @@ def bleeding_cases():
         R -> ln 0 chg 1 dsg 1 at 0 0
         S 3 1 0 2000 0 0 4000 4000 4000 4000 -> st 136 bal 0
         R -> ln 1 chg 1 dsg 0 at 0 0
-        5: S 3 100000 0 2000 0 4000 4000 4000 4151 4000 -> st 192 bal 0
+        6: S 3 100000 0 2000 0 4000 4000 4000 4151 4000 -> st 192 bal 0
         S 3 100000 0 2000 0 4000 4000 4000 4151 4000 -> st 68 bal 8
         R -> ln 1 chg 0 dsg 1 at 3 4
-        5: S 2 100000 0 2000 0 4000 4000 4000 4000 4151 4151 -> st 192 bal 0
+        6: S 2 100000 0 2000 0 4000 4000 4000 4000 4151 4151 -> st 192 bal 0
         S 2 100000 0 2000 0 4000 4000 4000 4000 4151 4151 -> st 68 bal 32
         R -> ln 1 chg 0 dsg 1 at 2 5
         S 3 1 0 2000 0 {calm} -> st 192 bal 0
@@ -456,7 +467,7 @@ def bleeding_cases():
         """, **FIVE)
     session("latches and flags outlast a programming", """
         O 5 -> ok
-        5: S 1 100000 0 2000 0 {one} -> st 192 bal 0
+        6: S 1 100000 0 2000 0 {one} -> st 192 bal 0
         S 1 100000 0 2000 0 {one} -> st 68 bal 1
         F 3 6 7 214 -> re 3 6 7 214
         F 3 11 65 234 -> re 3 11 1 45
@@ -582,13 +593,13 @@ def crossed_cases():
         F 3 10 13 * -> re 3 10 13 *
         F 3 11 65 234 -> re 3 11 3 *
         """)
-    # five samples of 100 ms behind the first are 500 ms, the OV delay: no run starts over where 13 was given
+    # six samples of 100 ms behind the first are 600 ms, past the OV delay of 500: no run starts over where 13 was given
     session("13 leaves the runs, and is the named board's alone", """
         O 5 5 -> ok
         3: S 1 100000 0 2000 0 {one} -> st 192 bal 0
         F 3 9 15 * -> re 3 9 15 *
         F 3 11 65 234 -> no 13
-        2: S 1 100000 0 2000 0 {one} -> st 192 bal 0
+        3: S 1 100000 0 2000 0 {one} -> st 192 bal 0
         S 1 100000 0 2000 0 {one} -> st 68 bal 1
         F 5 11 65 * -> re 5 11 0 *
         F 5 6 1 * -> re 5 6 1 *

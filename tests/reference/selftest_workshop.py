@@ -213,7 +213,7 @@ def host_register():
 
 
 def host_clears():
-    """02, ticket 3: latched by the old rule, kept at every sample, cleared where b0 goes from 1 to 0.
+    """02, ticket 3: latched as on other boards, kept at every sample, cleared where b0 goes from 1 to 0.
 
     OV and UV stay at their level, the current faults go at theirs.
     """
@@ -221,7 +221,7 @@ def host_clears():
     told("OV", """
         X h5 -> ok
         F 3 1 6 * -> re 3 1 6 *
-        5: S 1 100000 0 2000 0 {one} -> st 192 bal 0
+        6: S 1 100000 0 2000 0 {one} -> st 192 bal 0
         S 1 100000 0 2000 0 {one} -> st 68 bal 1
         F 2 1 0 * -> re 2 1 2 *
         R -> ln 1 chg 0 dsg 1 at 1 1
@@ -295,12 +295,12 @@ def host_clears():
         F 3 1 6 * -> re 3 1 6 *
         F 2 0 0 214 -> re 2 0 192 *
         """, **FIVE)
-    # level 10,000, delay 20 ms behind the first sample
+    # level 10,000, and more than the delay of 20 ms behind the first sample
     told("OCD", """
         X h5 -> ok
         F 3 1 6 * -> re 3 1 6 *
         S 1 1 1 2000 10001 {calm} -> st 192 bal 0
-        S 1 19999 1 2000 10001 {calm} -> st 192 bal 0
+        S 1 20000 1 2000 10001 {calm} -> st 192 bal 0
         S 1 1 1 2000 10001 {calm} -> st 2 bal 0
         F 2 1 0 * -> re 2 1 0 *
         S 1 1 0 2000 10000 {calm} -> st 2 bal 0
@@ -315,7 +315,7 @@ def host_clears():
         F 3 1 6 * -> re 3 1 6 *
         F 2 0 0 214 -> re 2 0 192 *
         S 1 1 1 2000 10001 {calm} -> st 192 bal 0
-        S 1 20000 1 2000 10001 {calm} -> st 2 bal 0
+        S 1 20001 1 2000 10001 {calm} -> st 2 bal 0
         S 1 1 1 2000 9999 {calm} -> st 2 bal 0
         F 3 1 1 * -> re 3 1 1 *
         F 3 1 0 * -> re 3 1 0 *
@@ -326,7 +326,7 @@ def host_clears():
         X h5 -> ok
         F 3 1 6 * -> re 3 1 6 *
         S 1 1 0 2000 60001 {calm} -> st 1 bal 0
-        S 1 19999 0 2000 60000 {calm} -> st 1 bal 0
+        S 1 20000 0 2000 60000 {calm} -> st 1 bal 0
         F 3 1 7 * -> re 3 1 7 *
         F 3 1 6 * -> re 3 1 6 *
         F 2 0 0 214 -> re 2 0 192 *
@@ -353,7 +353,7 @@ def host_levels():
         F 3 6 2 * -> re 3 6 2 *
         F 3 11 65 234 -> re 3 11 1 *
         F 3 1 6 * -> re 3 1 6 *
-        5: S 1 100000 0 2000 0 4251 4000 4000 4000 4000 -> st 192 bal 0
+        6: S 1 100000 0 2000 0 4251 4000 4000 4000 4000 -> st 192 bal 0
         S 1 100000 0 2000 0 4251 4000 4000 4000 4000 -> st 68 bal 1
         S 1 100000 0 2000 0 4200 4000 4000 4000 4000 -> st 68 bal 1
         F 3 6 1 * -> re 3 6 1 *
@@ -409,7 +409,7 @@ def host_levels():
         F 3 1 6 * -> re 3 1 6 *
         F 2 0 0 214 -> re 2 0 192 *
         S 1 1 1 2000 15001 {calm} -> st 192 bal 0
-        S 1 20000 1 2000 15001 {calm} -> st 2 bal 0
+        S 1 20001 1 2000 15001 {calm} -> st 2 bal 0
         S 1 1 1 2000 15000 {calm} -> st 2 bal 0
         F 3 9 0 * -> re 3 9 0 *
         F 3 11 65 234 -> re 3 11 2 *
@@ -447,7 +447,7 @@ def host_bits():
     told("bits under a latch", """
         X h5 -> ok
         F 3 1 6 * -> re 3 1 6 *
-        5: S 1 100000 0 2000 0 {one} -> st 192 bal 0
+        6: S 1 100000 0 2000 0 {one} -> st 192 bal 0
         S 1 100000 0 2000 0 {one} -> st 68 bal 1
         F 3 1 6 * -> re 3 1 6 *
         F 2 0 0 214 -> re 2 0 68 *
@@ -861,7 +861,7 @@ def garden_rows():
         S 1 1 0 2000 0 {calm} -> st 68 bal 0
         9: S 1 100000 0 2000 0 5000 5000 5000 5000 5000 -> st 68 bal 0
         R -> ln 1 chg 0 dsg 1 at 0 0
-        5: S 2 100000 0 2000 0 {two} -> st 192 bal 0
+        6: S 2 100000 0 2000 0 {two} -> st 192 bal 0
         S 2 100000 0 2000 0 {two} -> st 68 bal 2
         R -> ln 1 chg 0 dsg 1 at 2 2
         S 1 1 0 2000 0 3999 3999 3999 3999 3999 -> st 192 bal 0
