@@ -160,7 +160,7 @@ class DeskMaker(Maker):
             self.write(number, 1, self.pick(6, 7))
         for one in [fault] + self.rng.sample(quick, self.pick(0, 0, 1)):
             delay, fields = self.condition(aim, one)
-            for elapsed in self.parts(delay, delay):
+            for elapsed in self.parts(delay, delay + 1):
                 self.sample(number, elapsed, fields)
         if self.chance(0.3):
             self.write(number, 1, self.pick(6, 7, 2, 4, 3, 5))

@@ -361,7 +361,7 @@ class Maker:
         The order is mixed, so that the odd part may stand anywhere.
         """
         first = self.pick(1, LONGEST_ELAPSED, self.rng.randint(1, LONGEST_ELAPSED),
-                          min(max(delay, 1), LONGEST_ELAPSED))
+                          min(delay + 1, LONGEST_ELAPSED))
         rest = []
         while target > 0:
             part = LONGEST_ELAPSED
@@ -374,9 +374,9 @@ class Maker:
         return [first] + rest
 
     def near(self, delay):
-        """Elapsed times that meet a delay, or miss it by one and then pass it."""
+        """Elapsed times that pass a delay, or just meet it and then pass it."""
         tail = [1] * self.pick(0, 1, 1, 2) + [self.elapsed()] * self.pick(0, 0, 1)
-        return self.parts(delay, delay + self.pick(-1, -1, 0, 1)) + tail
+        return self.parts(delay, delay + self.pick(0, 0, 1, 2)) + tail
 
     def condition(self, aim, fault):
         """Delay and fields that hold a fault's condition."""
@@ -458,7 +458,7 @@ class Maker:
             "OCD": (s.ocd_level, s.ocd_level + 1, s.ocd_level + 1, s.ocd_level, s.ocd_delay),
             "SCD": (s.scd_level, s.scd_level + 1, s.scd_level + 1, s.scd_level, s.scd_delay),
         }[fault]
-        times = [1] + self.parts(delay, delay - 1) + [1, 1, 1]
+        times = [1] + self.parts(delay, delay) + [1, 1, 1]
         values = [at] + [beyond] * (len(times) - 3) + [release, gone]
         for elapsed, value in zip(times, values):
             fields = {"load": 0, "thermistor": 2000, "shunt": 0, "cells": [3500] * aim.count}
@@ -477,7 +477,7 @@ class Maker:
             self.program(number)
 
     def turns(self, number):
-        """Two cells take turns, each for less than the delay."""
+        """Two cells take turns, each mostly no longer than the delay."""
         aim = self.boards[number - 1]
         s, fault = aim.settings, self.pick("OV", "UV")
         delay, mv = ((s.ov_delay, s.ov_level + 1) if fault == "OV"
@@ -487,7 +487,7 @@ class Maker:
         for turn in range(self.pick(2, 3)):
             fields = self.calm(aim)
             fields["cells"][pair[turn % 2]] = mv
-            for elapsed in self.parts(delay, delay - self.pick(1, 1, 0)):
+            for elapsed in self.parts(delay, delay + self.pick(0, 0, 1)):
                 self.sample(number, elapsed, fields)
             if overlap:
                 both = dict(fields, cells=list(fields["cells"]))
