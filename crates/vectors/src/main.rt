@@ -173,9 +173,10 @@ fn session() {
     shunt_at(s, 20000, 0, 0);
 }
 
-// M1 to M4: the first cell at 4,151 latches on the sixth sample; then all at 4,050, then all at 4,049.
+// M1 to M4: the first cell at 4,151 latches on the seventh sample; then all at 4,050, then all at 4,049.
 fn over_voltage() {
     let s = one_board(board::stand_alone(5));
+    let s = first_cell(s, 100000, 4151);
     let s = first_cell(s, 100000, 4151);
     let s = first_cell(s, 100000, 4151);
     let s = first_cell(s, 100000, 4151);
@@ -195,13 +196,13 @@ fn under_voltage() {
     first_cell(s, 1, 1601);
 }
 
-// The shunt at zero, at the OCD and SCD levels, at both ends and past them; OCD stands 20 ms.
+// The shunt at zero, at the OCD and SCD levels, at both ends and past them; OCD latches after more than 20 ms.
 fn currents() {
     let s = one_board(board::stand_alone(5));
     let s = shunt_at(s, 20000, 0, 1);
     let s = shunt_at(s, 20000, 10000, 1);
     let s = shunt_at(s, 20000, 10001, 1);
-    let s = shunt_at(s, 19999, 10001, 1);
+    let s = shunt_at(s, 20000, 10001, 1);
     let s = shunt_at(s, 1, 10001, 1);
     let s = shunt_at(s, 1, 60000, 1);
     let s = shunt_at(s, 1, 500000, 1);
@@ -280,6 +281,7 @@ fn host_board() {
     let s = sent(s, 3, 1, 6);
     let s = sent(s, 2, 0, 0);
     let s = sent(s, 3, 1, 8);
+    let s = first_cell(s, 100000, 4151);
     let s = first_cell(s, 100000, 4151);
     let s = first_cell(s, 100000, 4151);
     let s = first_cell(s, 100000, 4151);
