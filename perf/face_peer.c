@@ -8,7 +8,8 @@
 #include <string.h>
 
 enum { SCD = 1, OCD = 2, OV = 4, UV = 8, HOT = 16, DSG_ON = 64, CHG_ON = 128 };
-enum { RUN_MAX = 8000000, CYCLES_MAX = 3, PROGRAM = 0x41 };
+enum { CYCLES_MAX = 3, PROGRAM = 0x41 };
+enum { RUN_MAX = 8000001 }; /* past the longest delay: counting on would tell nothing more */
 enum { STAND_ALONE = 0, HOST = 1, GARDEN = 2 };
 enum { CLEAR_BIT = 1, DSG_BIT = 2, CHG_BIT = 4, CONTROL_MAX = 7 };
 enum { STOPS_DSG = UV | OCD | SCD | HOT, STOPS_CHG = OV | OCD | SCD | HOT };
@@ -144,6 +145,12 @@ static inline int32_t next_run(int32_t run, bool running, int32_t elapsed)
     return run < RUN_MAX ? run : RUN_MAX;
 }
 
+/* The shortest run that has stood a delay: one that is longer, but any where there is no delay. */
+static inline int32_t least_run(int32_t delay)
+{
+    return delay ? delay + 1 : 0;
+}
+
 static unsigned bled(unsigned flags)
 {
     unsigned taken = 0;
@@ -258,25 +265,25 @@ static inline uint8_t step(struct peer_board *b, adomvik_readings x, const uint3
     unsigned over = 0, under = 0, ov_stood = 0, flags = b->flags;
     bool uv_stood = false;
     if (most > ov_level || flags) {
-        const int32_t delay = 500000 + 250000 * (w[0] >> 5);
+        const int32_t wait = least_run(500000 + 250000 * (w[0] >> 5));
         unsigned low = 0;
         for (size_t i = 0; i < count; i++) {
             if (cells[i] > ov_level) {
                 const int32_t run = b->ov_run[i] = next_run(b->ov_run[i], b->over >> i & 1, elapsed);
                 over |= 1u << i;
-                ov_stood |= (unsigned)(run >= delay) << i;
+                ov_stood |= (unsigned)(run >= wait) << i;
             }
             low |= (unsigned)(cells[i] < ov_low) << i;
         }
         flags = (flags & ~low) | ov_stood;
     }
     if (least < uv_level) {
-        const int32_t delay = uv_delay[w[3] >> 4];
+        const int32_t wait = least_run(uv_delay[w[3] >> 4]);
         for (size_t i = 0; i < count; i++)
             if (cells[i] < uv_level) {
                 const int32_t run = b->uv_run[i] = next_run(b->uv_run[i], b->under >> i & 1, elapsed);
                 under |= 1u << i;
-                uv_stood |= run >= delay;
+                uv_stood |= run >= wait;
             }
     }
     b->over = (uint16_t)over;
@@ -289,11 +296,11 @@ static inline uint8_t step(struct peer_board *b, adomvik_readings x, const uint3
     if (ocd_over) {
         const int32_t code = w[2] & 31;
         b->ocd_run = next_run(b->ocd_run, b->currents & OCD, elapsed);
-        ocd_stood = b->ocd_run >= (code < 16 ? 20000 * (code + 1) : 100000 * (code - 15));
+        ocd_stood = b->ocd_run >= least_run(code < 16 ? 20000 * (code + 1) : 100000 * (code - 15));
     }
     if (scd_over) {
         b->scd_run = next_run(b->scd_run, b->currents & SCD, elapsed);
-        scd_stood = b->scd_run >= 60 * (w[4] >> 4);
+        scd_stood = b->scd_run >= least_run(60 * (w[4] >> 4));
     }
     b->currents = (uint8_t)(ocd_over * OCD | scd_over * SCD);
 

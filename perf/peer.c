@@ -39,8 +39,8 @@ enum {
 };
 
 enum {
-    NO_RUN = -1,        // below every delay, so a zero delay needs no case of its own
-    RUN_MAX = 8000000,  // the longest delay: counting on would tell nothing more
+    NO_RUN = -1,        // shorter than any run, so that it has not stood a zero delay either
+    RUN_MAX = 8000001,  // past the longest delay: counting on would tell nothing more
 };
 
 // One line, taken apart. The list holds counts, cells or frame bytes.
@@ -260,6 +260,12 @@ static inline int32_t next_run(int32_t run, int32_t elapsed)
     return run < RUN_MAX ? run : RUN_MAX;
 }
 
+// The shortest run that has stood a delay: one that is longer, but any where there is no delay.
+static inline int32_t least_run(int32_t delay)
+{
+    return delay ? delay + 1 : 0;
+}
+
 static inline uint8_t next_latch(uint8_t latches, uint8_t fault, bool stood, bool lets_go)
 {
     if (latches & fault)
@@ -326,11 +332,11 @@ static void step(struct board *b, const struct line *l)
 
     const int32_t ov_level = ov_mv(w);
     const int32_t ov_low = ov_level - ov_hysteresis[w[0] >> 3 & 3];
-    const int32_t ov_wait = 500000 + 250000 * (w[0] >> 5);
+    const int32_t ov_wait = least_run(500000 + 250000 * (w[0] >> 5));
     const int32_t uv_level = uv_mv(w);
     const int32_t uv_sum = uv_level + uv_hysteresis[w[1] >> 4 & 3];
     const int32_t uv_release = uv_sum < 3300 ? uv_sum : 3300;
-    const int32_t uv_wait = uv_delay[w[3] >> 4];
+    const int32_t uv_wait = least_run(uv_delay[w[3] >> 4]);
 
     // No OV level is below a UV level, so a cell is on one side at most. Which
     // cells lie low is gathered without a branch: it is hard to foretell where
@@ -360,9 +366,9 @@ static void step(struct board *b, const struct line *l)
     b->shunt = l->shunt;
 
     const int32_t ocd_code = w[2] & 31;
-    const int32_t ocd_wait = ocd_code < 16 ? 20000 * (ocd_code + 1) : 100000 * (ocd_code - 15);
+    const int32_t ocd_wait = least_run(ocd_code < 16 ? 20000 * (ocd_code + 1) : 100000 * (ocd_code - 15));
     const int32_t ocd_level = ocd_uv(w);
-    const int32_t scd_wait = 60 * (w[4] >> 4);
+    const int32_t scd_wait = least_run(60 * (w[4] >> 4));
     const int32_t scd_level = scd_uv(w);
     const bool ocd_over = l->shunt > ocd_level, scd_over = l->shunt > scd_level;
     b->ocd_run = ocd_over ? next_run(b->ocd_run, elapsed) : NO_RUN;

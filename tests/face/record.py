@@ -28,6 +28,11 @@ def run_next(run, holds, elapsed):
     return min(run + elapsed, RUN_CAP) if run else 1
 
 
+def stood(run, delay):
+    """Is there a run, and is it longer than the delay or the delay zero?"""
+    return run != 0 and (run > delay + 1 or delay == 0)
+
+
 def count_next(count, up):
     """A garden board's count or recovery count, one sample on."""
     return min(COUNT_CAP, count + 1) if up else max(0, count - 1)
@@ -140,13 +145,14 @@ class Record:
         for i, mv in enumerate(cells):
             self.runs[2 + 2 * i] = run_next(self.runs[2 + 2 * i], mv > s.ov_level, elapsed)
             self.runs[3 + 2 * i] = run_next(self.runs[3 + 2 * i], mv < s.uv_level, elapsed)
-            if self.runs[2 + 2 * i] > s.ov_delay:
+            if stood(self.runs[2 + 2 * i], s.ov_delay):
                 over.add(i)
-            under = under or self.runs[3 + 2 * i] > s.uv_delay
+            under = under or stood(self.runs[3 + 2 * i], s.uv_delay)
         self.runs[0] = run_next(self.runs[0], shunt > s.ocd_level, elapsed)
         self.runs[1] = run_next(self.runs[1], shunt > s.scd_level, elapsed)
         hot = thermistor < HOT_BELOW_MV
-        stands = {"OV": bool(over), "UV": under, "OCD": self.runs[0] > s.ocd_delay, "SCD": self.runs[1] > s.scd_delay, "OT": hot}
+        stands = {"OV": bool(over), "UV": under, "OCD": stood(self.runs[0], s.ocd_delay), "SCD": stood(self.runs[1], s.scd_delay),
+                  "OT": hot}
         goes = {"OV": max(cells) < s.ov_release, "UV": min(cells) > s.uv_release, "OCD": load == 0 and shunt <= s.ocd_level,
                 "SCD": load == 0 and shunt <= s.scd_level, "OT": not hot}
         if self.kind == HOST:
