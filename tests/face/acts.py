@@ -15,6 +15,7 @@ from sessions import make_session
 from workshop import Workshop
 
 LONGEST_LIST = 100      # that the drivers are told
+ELAPSED = 1, 1000, 100_000      # of samples on garbage, mostly
 
 
 class Script:
@@ -159,6 +160,15 @@ def last_garbage(rng, working):
     return struct.pack("<IIi", low % 2**32, high % 2**32, shunt)
 
 
+def runs_garbage(rng, working):
+    """The bytes of runs that one more sample brings to their delays or past them, and of runs near the cap."""
+    s, runs = Settings(working), []
+    for delay in [s.ocd_delay, s.scd_delay] + [s.ov_delay, s.uv_delay] * 10:
+        near = max(0, delay + rng.choice((1, 2)) - rng.choice(ELAPSED))
+        runs.append(rng.choice((near, near, 0, 1, 9_999_999, 10_000_000, 2**32 - 1)))
+    return struct.pack("<22I", *runs)
+
+
 def garden_garbage(rng, data):
     """A garden board's cells, row and trigger, mostly good ones, and counts and recovery counts about the trigger."""
     if rng.random() < 0.95:
@@ -185,14 +195,14 @@ def garbage(rng):
         data[3] = GARDEN + 1
     if rng.random() < 0.5:
         data[2] = rng.randint(0, 4)
-    if rng.random() < 0.3:      # runs near the delays and the cap
-        data[16:104] = struct.pack("<22I", *rng.choices((0, 1, 499_999, 500_000, 500_001, 9_999_999, 10_000_000, 2**32 - 1), k=22))
     if rng.random() < 0.3:      # staged levels crossed, equal or a step apart
         short = rng.randrange(7)
         data[14] = data[14] & 0xF0 | min(15, short + rng.choice((9, 10, 11)))
         data[15] = data[15] & 0xF0 | short
     if rng.random() < 0.3:      # equal settings
         data[6:11] = data[11:16]
+    if rng.random() < 0.4:
+        data[16:104] = runs_garbage(rng, data[6:11])
     if rng.random() < 0.7:
         data[104:116] = last_garbage(rng, data[6:11])
     if data[3] == GARDEN:
@@ -215,7 +225,7 @@ def fields(rng, record):
     cells = [rng.choice((rng.randint(0, top), 4151, 4200, 4500, 1399, 1000, 3000)) for _ in range(count)]
     if record.kind == GARDEN and count == record.count and rng.random() < 0.8:
         cells = garden_cells(rng, record)
-    return (rng.choice((1, 1000, 100_000, 100_000, rng.choice((0, 100_001, 2**32 - 1)))),
+    return (rng.choice((*ELAPSED, 100_000, rng.choice((0, 100_001, 2**32 - 1)))),
             rng.choice((0, -1, 60_000, 60_001, 500_000, -500_000, rng.randint(-600_000, 600_000), -2**31, 2**31 - 1)),
             rng.choice((2000, 974, 975, 5000, 5001)), rng.choice((0, 0, 1, 1, 2)), cells)
 
