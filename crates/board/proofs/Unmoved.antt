@@ -1,7 +1,7 @@
 -- A quiet sample is in range, changes nothing of the board but the last sample and bleeds no cell: it is answered from the record.
 -- Assumes nothing.
 use Prim.Native.Nat.{ℕ}
-use mathlib.Core.Path.{_≡_, sym, ap, _∙_}
+use mathlib.Core.Path.{_≡_, refl, sym, ap, _∙_}
 use mathlib.Core.Bool.{Bool, true, false, not, _&&_}
 use mathlib.Core.List.{List}
 use lib.Dec.{ltb, eqb}
@@ -19,12 +19,14 @@ use Rattle.cells.specs.Way.{calmOf}
 use Rattle.cells.proofs.Stays.{calm-readable, calm-sweep}
 use Rattle.latches.specs.Latches.{latches, latchesByte}
 use Rattle.latches.specs.Control.{controlNext}
+use Rattle.latches.specs.Tallies.{talliesNext}
+use Rattle.latches.proofs.Tallied.{none-latched}
 use Rattle.board.specs.declared.Board.{Board}
 use Rattle.board.specs.declared.Readings.{Readings}
 use Rattle.board.specs.Shunt.{shuntAbove, shuntOutside}
 use Rattle.board.specs.Plan.{isHost, isGarden}
 use Rattle.board.specs.Host.{lastOf}
-use Rattle.board.specs.Sample.{currentsNext, latchesNext, hot, sweptAt, latchesAfter, controlWith, boardWith, runsNext, boardNext, sampleValues, answerSaying, outOfRange}
+use Rattle.board.specs.Sample.{currentsNext, latchesNext, hot, sweptAt, latchesAfter, risenBy, controlWith, boardWith, runsNext, boardNext, sampleValues, answerSaying, outOfRange}
 use Rattle.board.specs.Way.{clear, idle, currentsBelow, warm, quietOf, keeping, restedOf}
 
 module _ (b : Board) (x : Readings) (mv : List ℕ) (q : quietOf b x (spanOf mv) ≡ true) where
@@ -129,6 +131,9 @@ module _ (b : Board) (x : Readings) (mv : List ℕ) (q : quietOf b x (spanOf mv)
   unfolding controlNext
   same-control = rw unlatched (split (isHost (b .kind)) (λ e. rw e) (λ e. rw e))
 
+  same-tallies : talliesNext (risenBy b (latchesAfter b x mv)) (b .tallies) ≡ b .tallies
+  same-tallies = rw unlatched (sym (none-latched (latches (λ f. false)) (b .tallies) refl))
+
   kept-board : runsNext b x mv ≡ keeping b (lastOf x mv)
   unfolding boardWith latchesByte number
   kept-board =
@@ -148,6 +153,7 @@ module _ (b : Board) (x : Readings) (mv : List ℕ) (q : quietOf b x (spanOf mv)
         last = lastOf x mv;
         control = same-control i;
         garden = b .garden;
+        tallies = same-tallies i;
       }
 
   pub in-range : outOfRange x mv ≡ false

@@ -1,4 +1,4 @@
--- A sample of one board (01, The stack and its readings; Refusal numbers 1, 3, 4, 5; When a fault latches and lets go; 02, tickets 3 and 5).
+-- A sample of one board (01, The stack and its readings; Refusal numbers 1, 3, 4, 5; When a fault latches and lets go; 02, tickets 3, 5 and 7).
 -- Assumes nothing.
 use Prim.Native.Nat.{ℕ}
 use mathlib.Core.Bool.{Bool, false, cond, not, _&&_, _||_}
@@ -30,12 +30,13 @@ use Rattle.board.specs.Shunt.{shuntAbove, shuntOutside}
 use Rattle.board.specs.Host.{statusBy, holdsOn, lastOf, noLast}
 use Rattle.latches.specs.Latches.{latch, latches, latchNext, risen, latchesOf, latchesByte}
 use Rattle.latches.specs.Control.{controlNext}
+use Rattle.latches.specs.Tallies.{tallies, talliesNext}
 
 -- a garden board starts with OV latched, b2 of register 0; any other with no latch
 abbrev pub firstLatches : ℕ → ℕ
 firstLatches kind = cond (isGarden kind) 4 0
 
--- a board starts from the factory settings, with no flagged cell, no cycle spent, staged equal to working; register 1 starts with 0
+-- a board starts from the factory settings, with no flagged cell, no cycle spent, no latching counted, staged equal to working; register 1 starts with 0
 unfoldable pub fresh : ℕ → Board
 fresh plan =
     record {
@@ -51,6 +52,7 @@ fresh plan =
       last = noLast;
       control = 0;
       garden = record { row = planOf plan .row; trigger = planOf plan .trigger; «ov_back» = 0; «uv_back» = 0 };
+      tallies = tallies (λ f. 0);
     }
 
 -- OCD and SCD: the shunt above the level
@@ -98,9 +100,15 @@ abbrev pub latchesAfter : Board → Readings → List ℕ → Latches
 latchesAfter b x mv =
     latchesNext (b .working) (sweptAt b x mv) (currentsNext (b .working) (b .currents) x) x (b .kind) mv (latchesOf (b .latches))
 
--- register 1 after it, with the latches that it leaves
+-- what latched at it, with the latches that it leaves; register 1 and the tallies go by that
+abbrev pub risenBy : Board → Latches → Latches
+risenBy b left = risen (latchesOf (b .latches)) left
+
+abbrev pub controlUp : Board → Latches → ℕ
+controlUp b up = cond (isHost (b .kind)) (controlNext (b .control) up) (b .control)
+
 abbrev pub controlWith : Board → Latches → ℕ
-controlWith b left = cond (isHost (b .kind)) (controlNext (b .control) (risen (latchesOf (b .latches)) left)) (b .control)
+controlWith b left = controlUp b (risenBy b left)
 
 -- the board after an accepted sample, with the latches that it leaves and what is kept of it: settings and cycles stay
 unfoldable pub boardWith : Board → Readings → List ℕ → Latches → Last → Board
@@ -118,6 +126,7 @@ boardWith b x mv left last =
       last = last;
       control = controlWith b left;
       garden = b .garden;
+      tallies = talliesNext (risenBy b left) (b .tallies);
     }
 
 abbrev pub runsNext : Board → Readings → List ℕ → Board
@@ -130,7 +139,7 @@ grownAt b x mv = growOf (b .garden) (b .cells) (latch OV (latchesOf (b .latches)
 abbrev pub grownLatches : Grown → Latches
 grownLatches w = record { scd = false; ocd = false; ov = w .ov; uv = w .uv; ot = false }
 
--- the counts lie where another board has its runs; of the rest only what is kept of the sample changes
+-- the counts lie where another board has its runs; of the rest only what is kept of the sample and the tallies change
 unfoldable pub gardenWith : Board → Grown → Last → Board
 gardenWith b w last =
     record {
@@ -146,6 +155,7 @@ gardenWith b w last =
       last = last;
       control = b .control;
       garden = w .garden;
+      tallies = talliesNext (risenBy b (grownLatches w)) (b .tallies);
     }
 
 abbrev pub gardenNext : Board → Readings → List ℕ → Board

@@ -115,6 +115,7 @@ keeping b last =
       last = last;
       control = b .control;
       garden = b .garden;
+      tallies = b .tallies;
     }
 
 unfoldable pub restedOf : Board → Readings → Span → Stepped

@@ -1,16 +1,17 @@
-// One board: its record, and a sample of it, by value and then where the record lies (01, The stack and its readings; When a fault latches and lets go; 02, tickets 3 and 5).
+// One board: its record, and a sample of it, by value and then where the record lies (01, The stack and its readings; When a fault latches and lets go; 02, tickets 3, 5 and 7).
 ghost use mathlib.Core.Path.{_≡_};
 ghost use Rattle.latches.specs.Latches.{latchesOf, latchesByte};
 ghost use Rattle.board.specs.Shunt.{shuntAbove, shuntOutside};
 ghost use Rattle.board.specs.Plan.{planOf, badPlan, standAlone, host, gardenPlan, isHost, isGarden};
 ghost use Rattle.board.specs.Host.{mayDsg, mayChg, statusBy, clearedOf};
-ghost use Rattle.board.specs.Sample.{firstLatches, fresh, currentsNext, badBoard, controlWith, sampleOf};
+ghost use Rattle.board.specs.Sample.{firstLatches, fresh, currentsNext, badBoard, controlUp, sampleOf};
 ghost use Rattle.board.specs.Way.{outOfRangeBy, quietOf, lookOf, isRefused, isQuiet, isGrowing, answerOf, spanFound, lastBy, restedOf, latchesBy, acceptedBy, grownOf};
 use cells::Cell;
 use cells::Span;
 use cells::Swept;
 use garden::Garden;
 use latches::Latches;
+use latches::Tallies;
 use refusal::Refusal;
 use settings::Settings;
 
@@ -44,6 +45,7 @@ pub struct Board {
     pub last: Last,
     pub control: u8,
     pub garden: Garden,
+    pub tallies: Tallies,
 }
 
 // What a sample reads beside the cells.
@@ -144,6 +146,13 @@ pub fn fresh_board(plan: u32) -> Board
         ov_back: 0,
         uv_back: 0,
     };
+    let tallies = Tallies {
+        scd: 0,
+        ocd: 0,
+        ov: 0,
+        uv: 0,
+        ot: 0,
+    };
     Board {
         count: (plan % 256) as u8,
         latches: latches,
@@ -157,6 +166,7 @@ pub fn fresh_board(plan: u32) -> Board
         last: last,
         control: 0,
         garden: garden,
+        tallies: tallies,
     }
 }
 
@@ -227,12 +237,11 @@ pub fn cleared(s: Settings, last: Last, latches: u8) -> u8
     })
 }
 
-// Register 1 after a sample that leaves these latches.
-fn control_with(b: Board, left: Latches) -> u8
-    ensures { λ r. ⌜ r ≡ controlWith b left ⌝ }
+// Register 1 after a sample at which these faults latched.
+fn control_up(b: Board, up: Latches) -> u8
+    ensures { λ r. ⌜ r ≡ controlUp b up ⌝ }
 {
     if is_host(b.kind) {
-        let up = latches::risen(latches::latches_of(b.latches), left);
         return latches::control_next(b.control, up);
     }
     b.control
@@ -328,17 +337,12 @@ fn accept(b: Board, x: Readings, span: Span, mv: &[u32]) -> Stepped
     let old = b.cells;
     let swept = cells::sweep(b.working, x.elapsed, old, b.flags, mv);
     let currents = currents_next(b.working, b.currents, x);
-    let latches = latches_next(
-        b.working,
-        swept,
-        span,
-        currents,
-        x,
-        b.kind,
-        latches::latches_of(b.latches),
-    );
+    let was = latches::latches_of(b.latches);
+    let latches = latches_next(b.working, swept, span, currents, x, b.kind, was);
     let byte = latches::byte_of(latches);
-    let control = control_with(b, latches);
+    let up = latches::risen(was, latches);
+    let control = control_up(b, up);
+    let tallies = latches::tallies_next(up, b.tallies);
     let cells = swept.cells;
     let last = last_by(x, span);
     let mut next = b;
@@ -348,6 +352,7 @@ fn accept(b: Board, x: Readings, span: Span, mv: &[u32]) -> Stepped
     next.cells = cells;
     next.last = last;
     next.control = control;
+    next.tallies = tallies;
     Stepped {
         board: next,
         answer: Answer::Sampled {
@@ -364,13 +369,15 @@ fn grow(b: Board, x: Readings, span: Span, mv: &[u32]) -> Stepped
     let old = latches::latches_of(b.latches);
     let before = b.cells;
     let grown = garden::grow(b.garden, before, old.ov, old.uv, x.load == 1, span, mv);
-    let latched = latches::byte_of(Latches {
+    let left = Latches {
         scd: false,
         ocd: false,
         ov: grown.ov,
         uv: grown.uv,
         ot: false,
-    });
+    };
+    let latched = latches::byte_of(left);
+    let tallies = latches::tallies_next(latches::risen(old, left), b.tallies);
     let counts = grown.cells;
     let garden = grown.garden;
     let last = last_by(x, span);
@@ -379,6 +386,7 @@ fn grow(b: Board, x: Readings, span: Span, mv: &[u32]) -> Stepped
     next.cells = counts;
     next.last = last;
     next.garden = garden;
+    next.tallies = tallies;
     Stepped {
         board: next,
         answer: Answer::Sampled {

@@ -32,6 +32,7 @@ use Rattle.cells.specs.Cells.{cellBy, cellAt, readingAt, cellCount, noCells, li
 use Rattle.latches.specs.declared.Latches.{Latches}
 use Rattle.latches.specs.Latches.{latches, latchNext, risen, latchesByte, latchesOf, anyLatch, register0}
 use Rattle.latches.specs.Control.{clearBit, dsgBit, chgBit, controlNext}
+use Rattle.latches.specs.Tallies.{tallies, tallyNext, talliesNext}
 use Rattle.latches.proofs.Packed.{latches-kept}
 use Rattle.board.specs.declared.Board.{Board}
 use Rattle.board.specs.declared.Currents.{Currents}
@@ -41,11 +42,11 @@ use Rattle.board.specs.Shunt.{shuntAbove}
 use Rattle.board.specs.Host as host
 use Rattle.board.specs.Host.{statusBy, holdsOn, lastOf, clearedOf}
 use Rattle.board.specs.Sample as board
-use Rattle.board.specs.Sample.{fresh, hot, currentsNext, latchesNext, sweptAt, latchesAfter, controlWith, boardWith, runsNext}
+use Rattle.board.specs.Sample.{fresh, hot, currentsNext, latchesNext, sweptAt, latchesAfter, risenBy, controlWith, boardWith, runsNext}
 use Rattle.frame.specs.Frame.{writes}
 use Rattle.registers.specs.Registers as registers
 use Rattle.registers.specs.Registers.{staging, boardAfter}
-use Rattle.demands.specs.Paper.{Entry, sampled, framed, History, staged, working, spends, spent, Sample, sampleOf, since, holds, runOf, stoodDelay, stands, letsGo, steers, clearSet, lastSample, overBy, counted, filter, latched, latchesAt, rises, dsgSet, chgSet, control, mayDsg, mayChg, flagged, flagsAt, lastGiven, kept, cellGiven, currentGiven, gardenGiven, given}
+use Rattle.demands.specs.Paper.{Entry, sampled, framed, History, staged, working, spends, spent, Sample, sampleOf, since, holds, runOf, stoodDelay, stands, letsGo, steers, clearSet, lastSample, overBy, counted, filter, latched, latchesAt, rises, tallied, dsgSet, chgSet, control, mayDsg, mayChg, flagged, flagsAt, lastGiven, kept, cellGiven, currentGiven, gardenGiven, given}
 use Rattle.demands.proofs.Runs.{working-stays, runs}
 use Rattle.demands.proofs.Lists.{each-same, each-behind, each-before, each-one}
 
@@ -115,6 +116,16 @@ and-yes true = refl
 and-yes false = refl
 
 -- ---- a sample
+
+-- the tallies after it, by the faults that latch at it: of a board of any kind
+tally-next : (p : Plan) (f : Fault) (h : History) (x : Readings) (mv : List ℕ) → tallyNext (rises p f (sampled x mv) h) (tallied p f h) ≡ tallied p f (sampled x mv ∷ h)
+unfolding tallyNext
+tally-next p f h x mv = split (rises p f (sampled x mv) h) (λ e. rw e (omega arith)) (λ e. rw e)
+
+pub tallies-next : (p : Plan) (h : History) (x : Readings) (mv : List ℕ)
+    → talliesNext (latches (λ f. rises p f (sampled x mv) h)) (tallies (λ f. tallied p f h)) ≡ tallies (λ f. tallied p f (sampled x mv ∷ h))
+unfolding talliesNext
+tallies-next p h x mv = λ i. tallies (λ f. tally-next p f h x mv i)
 
 -- a condition without delay has stood it exactly if it holds
 no-delay : (b : Bool) (x : Sample) (older : List Sample) → b ≡ past 0 (lasting (λ y. y .readings .elapsed) (cond b (x ∷ older) []))
@@ -259,6 +270,9 @@ module _ (p : Plan) (settled : isGarden (p .kind) ≡ false) (few : p .cells ≤
       let is = no-bits p e after in
       ap by e ∙ ap₂ (λ (d c : Bool). number (clearSet p h ∷ d ∷ c ∷ [])) (was .0 ∙ sym (is .0)) (was .1 ∙ sym (is .1)))
 
+  tallies-are : talliesNext (risenBy (given p h) (latchesAfter (given p h) x mv)) (given p h .tallies) ≡ given p after .tallies
+  tallies-are = ap (λ (t : Latches). talliesNext t (given p h .tallies)) risen-are ∙ tallies-next p h x mv
+
   no-garden : gardenGiven p h ≡ gardenGiven p after
   no-garden = rw settled
 
@@ -277,6 +291,7 @@ module _ (p : Plan) (settled : isGarden (p .kind) ≡ false) (few : p .cells ≤
     last = lastOf x mv;
     control = control-is i;
     garden = no-garden i;
+    tallies = tallies-are i;
   }
 
 -- ---- a frame
@@ -340,6 +355,7 @@ module _ (p : Plan) (h : History) (address register v : ℕ) where
         last = lastGiven (lastSample h);
         control = q;
         garden = gardenGiven p h;
+        tallies = tallies (λ f. tallied p f h);
       }
 
   abbrev currentsWith : (Fault → ℕ) → Currents

@@ -20,17 +20,18 @@ use Rattle.cells.proofs.Stays.{none-number, none-bled}
 use Rattle.garden.specs.Device.{ovInner, uvInner}
 use Rattle.garden.specs.Filter.{countNext, reaches, cellAfter, cellsAfter, ovInside, uvInside, latchAfter, backAfter, zeroed, growWith}
 use Rattle.latches.specs.declared.Latches.{Latches}
-use Rattle.latches.specs.Latches.{latch, latches, latchesOf, latchesByte}
+use Rattle.latches.specs.Latches.{latch, latches, risen, latchesOf, latchesByte}
+use Rattle.latches.specs.Tallies.{talliesNext}
 use Rattle.latches.proofs.Packed.{latches-kept}
 use Rattle.board.specs.declared.Board.{Board}
 use Rattle.board.specs.declared.Readings.{Readings}
 use Rattle.board.specs.Plan.{Plan, isGarden, badPlan}
 use Rattle.board.specs.Host.{statusBy, lastOf}
-use Rattle.board.specs.Sample.{attached, sweptAt, runsNext, grownAt, grownLatches, gardenWith, gardenNext, boardNext, runsStatus, gardenStatus, sampleValues}
+use Rattle.board.specs.Sample.{attached, sweptAt, risenBy, runsNext, grownAt, grownLatches, gardenWith, gardenNext, boardNext, runsStatus, gardenStatus, sampleValues}
 use Rattle.board.proofs.Counts.{good-plan, good-trigger}
 use Rattle.demands.specs.Paper.{sampled, framed, History, staged, working, spent, sampleOf, clearSet, counted, pastLevel, inside, device, trips, filter, latched, latchesAt, control, status, flagged, flagsAt, kept, cellGiven, currentGiven, backGiven, gardenGiven, given}
 use Rattle.demands.proofs.Lists.{each-same, each-behind, each-before}
-use Rattle.demands.proofs.Given.{no-bits, status-is, latches-are, bled-are, control-is, runs-sampled}
+use Rattle.demands.proofs.Given.{no-bits, status-is, tallies-next, latches-are, bled-are, control-is, runs-sampled}
 use Rattle.demands.proofs.Filtered.{not-host, garden-latched, count-fits, latched-is, back-is, count-is}
 
 latch-of : (f : Fault) (on : Fault → Bool) → latch f (latches on) ≡ on f
@@ -168,6 +169,9 @@ module _ (p : Plan) (g : isGarden (p .kind) ≡ true) (small : p .cells ≤ 10) 
       let is = no-bits p (not-host (p .kind) g) after in
       ap₂ (λ (d c : Bool). number (clearSet p h ∷ d ∷ c ∷ [])) (was .0 ∙ sym (is .0)) (was .1 ∙ sym (is .1))
 
+  tallies-are : talliesNext (risenBy b left) (b .tallies) ≡ given p after .tallies
+  tallies-are = ap (λ (t : Latches). talliesNext t (b .tallies)) (ap₂ risen (latches-kept (latchesAt p h)) left-are) ∙ tallies-next p h x mv
+
   garden-sampled : gardenNext b x mv ≡ given p after
   unfolding gardenWith
   garden-sampled = λ i. record {
@@ -183,6 +187,7 @@ module _ (p : Plan) (g : isGarden (p .kind) ≡ true) (small : p .cells ≤ 10) 
     last = lastOf x mv;
     control = control-stays i;
     garden = grown-is i .garden;
+    tallies = tallies-are i;
   }
 
   garden-status : gardenStatus b x mv ≡ status p after

@@ -3,6 +3,7 @@ pub mod Runs
 pub mod Filtered
 pub mod Given
 pub mod Grown
+pub mod Tallied
 pub mod Clear
 pub mod Table
 pub mod Tells

@@ -1,6 +1,6 @@
 -- What a mechanic would ask of the library after any opening and any acts, answered.
 -- Assumes nothing.
-use Prim.Native.Nat.{ℕ, _<_, _≤_}
+use Prim.Native.Nat.{ℕ, _+_, _/_, _%_, _<_, _≤_}
 use native.Mathlib.Omega.{arith}
 use mathlib.Core.Path.{_≡_, refl, sym, ap, _∙_, subst}
 use mathlib.Core.Logic.{_⊎_, inl, inr, _↔_}
@@ -26,13 +26,15 @@ use Rattle.board.specs.Plan.{isGarden}
 use Rattle.board.specs.Host.{holdsOn}
 use Rattle.board.specs.Sample.{fresh}
 use Rattle.frame.specs.Frame.{byte, writes}
+use Rattle.frame.specs.Reply.{replyBytes}
 use Rattle.registers.specs.Registers.{boardAfter}
+use Rattle.registers.proofs.Map.{read-setting}
 use Rattle.stack.specs.Row.{goodRow, placeOf}
 use Rattle.stack.specs.Frame.{framePlace, frameRow}
-use Rattle.demands.specs.Paper.{sampled, History, staged, working, sampleOf, runOf, stoodDelay, places, stands, letsGo, clears, counted, Filter, countAt, trips, counting, backAt, recovers, recovering, filter, latched, latchesAt}
+use Rattle.demands.specs.Paper.{sampled, History, programming, staged, working, spent, sampleOf, runOf, stoodDelay, places, stands, letsGo, clears, counted, Filter, countAt, trips, counting, backAt, recovers, recovering, filter, latched, latchesAt, tallied}
 use Rattle.demands.specs.Acts.{Act, sample, frame, reading, Outcome, bars, outcome, next, final}
-use Rattle.demands.specs.Demands.{Log, noLog, begun, logAt, joined, rowGiven, frameEntry, joins, taken, frameSays}
-use Rattle.demands.specs.Mechanic.{Stood, isLatched, Accepted, Answers, Mechanic}
+use Rattle.demands.specs.Demands.{Log, noLog, begun, logAt, joined, rowGiven, frameEntry, joins, taken, shownGiven, frameSays}
+use Rattle.demands.specs.Mechanic.{Stood, bitOf, isLatched, Accepted, Answers, Mechanic}
 use Rattle.demands.proofs.Lists.{some-at, some-yes}
 use Rattle.demands.proofs.Table.{judged-number, stays, values, act-judged, demand1}
 use Rattle.demands.proofs.Tells.{board-at, sample-joins, tells, gives}
@@ -325,6 +327,25 @@ module _ (logs : List Log) (good : goodRow (rowGiven logs) ≡ true) (fine : (at
       stays (bars row a) (values row a) n p (sym (act-judged row a) ∙ e) logs (joins logs (framePlace bytes) (frameEntry bytes))
   refused-leaves reading n p e = refl
 
+  -- a tally's bytes
+  module _ (bytes buffer : List ℕ) (taken-in : Accepted row (frame bytes buffer)) (w : writes (byte bytes 0) ≡ false) where
+    abbrev of : Fault → ℕ
+    of f = let l = logAt logs (framePlace bytes) in tallied (l .plan) f (l .acts)
+
+    low-of : (f : Fault) → byte bytes 1 ≡ 16 + bitOf f → outcome row (frame bytes buffer) .said ≡ accepts (replyBytes (byte bytes 0) (16 + bitOf f) (of f % 256))
+    low-of SCD is = replied bytes buffer taken-in ∙ rw (w, is)
+    low-of OCD is = replied bytes buffer taken-in ∙ rw (w, is)
+    low-of OV is = replied bytes buffer taken-in ∙ rw (w, is)
+    low-of UV is = replied bytes buffer taken-in ∙ rw (w, is)
+    low-of OT is = replied bytes buffer taken-in ∙ rw (w, is)
+
+    high-of : (f : Fault) → byte bytes 1 ≡ 24 + bitOf f → outcome row (frame bytes buffer) .said ≡ accepts (replyBytes (byte bytes 0) (24 + bitOf f) (of f / 256))
+    high-of SCD is = replied bytes buffer taken-in ∙ rw (w, is)
+    high-of OCD is = replied bytes buffer taken-in ∙ rw (w, is)
+    high-of OV is = replied bytes buffer taken-in ∙ rw (w, is)
+    high-of UV is = replied bytes buffer taken-in ∙ rw (w, is)
+    high-of OT is = replied bytes buffer taken-in ∙ rw (w, is)
+
   answered : Answers row logs
   answered =
       record {
@@ -339,9 +360,16 @@ module _ (logs : List Log) (good : goodRow (rowGiven logs) ≡ true) (fine : (at
         no-pooling = λ f at g u. let l = logAt logs at in latched-in f logs at ∙ never-latched (l .plan) g f (l .acts) u;
         calm = λ f at g c. let l = logAt logs at in latched-in f logs at ∙ calm-never (l .plan) g f (l .acts) c;
         reads-working = λ bytes buffer a w low high.
-            replied bytes buffer a ∙ rw (w, ne-eqb (byte bytes 1) 0 (λ z. omega arith), ne-eqb (byte bytes 1) 1 (λ z. omega arith), ne-eqb (byte bytes 1) 11 (λ z. omega arith));
+            let r = byte bytes 1 in
+            let then = joined (logAt logs (framePlace bytes)) (frameEntry bytes) in
+            let byte-is = read-setting (shownGiven then) r (omega (arith, high)) (ne-eqb r 0 (λ z. omega arith)) (ne-eqb r 1 (λ z. omega arith)) (ne-eqb r 11 (λ z. omega arith)) in
+            replied bytes buffer a
+            ∙ ap (λ (v : ℕ). accepts (replyBytes (byte bytes 0) r (cond (programming (frameEntry bytes)) (spent (then .acts)) (cond (writes (byte bytes 0)) (byte bytes 2) v)))) byte-is
+            ∙ rw w;
         reads-cycles = λ bytes buffer a w is. replied bytes buffer a ∙ rw (w, is);
         reads-control = λ bytes buffer a w is host. replied bytes buffer a ∙ rw (w, is, host);
+        reads-low = λ f bytes buffer a w is. low-of bytes buffer a w f is;
+        reads-high = λ f bytes buffer a w is. high-of bytes buffer a w f is;
         equal-programming = λ bytes buffer w r e. (equal-leaves bytes buffer w r e, never-thirteen bytes buffer w r e, never-eleven bytes buffer w r e);
         never-crossed = fine;
         refused = λ a n p e. let same = demand1 row .unchanged a n p e in (same .0, same .1, refused-leaves a n p e);

@@ -9,7 +9,7 @@ use mathlib.Core.List.{List, [], _∷_, _++_, map}
 use lib.Dec.{leb, ltb, eqb}
 use lib.IntN.{ℤ, pos, negsuc}
 use lib.ListN.{length, set, length-map, List·getD-eq-default}
-use borrow.Author.Tests.{eqb-true, eqb-false, eq-eqb, ne-eqb, leb-true, leb-false, ltb-false, le-ltb}
+use borrow.Author.Tests.{eqb-true, eqb-false, eq-eqb, ne-eqb, leb-true, leb-false, ltb-true, ltb-false, le-ltb}
 use Rattle.lists.specs.Every.{every}
 use Rattle.lists.proofs.Split.{split, both, not-yes}
 use Rattle.refusal.specs.Said.{Said, Bar, bar, first}
@@ -28,7 +28,7 @@ use Rattle.frame.specs.Frame.{byte, boardOf, writes, frameBars}
 use Rattle.frame.specs.Check.{checkOf}
 use Rattle.registers.specs.Map.{Register, registerMap, inMap, noRegister, fits}
 use Rattle.registers.specs.Registers.{programs, lacksCycle, accessBars}
-use Rattle.registers.proofs.Map.{below, above, between, control-there, takes-setting}
+use Rattle.registers.proofs.Map.{below, above, between, past-settings, between-tallies, away-below, control-there, low-there, high-there, takes-setting}
 use Rattle.stack.specs.Row.{badCount, goodRow, noBoard, pastEnd, placeOf, boardAt}
 use Rattle.stack.specs.Open.{goodPlans, openBars, openingSaid, openAnswer}
 use Rattle.stack.specs.Sample.{sampleRowBars}
@@ -37,7 +37,7 @@ use Rattle.demands.specs.Paper.{Entry, History, staged, working, spent}
 use Rattle.demands.specs.Acts.{Act, sample, frame, reading, bars, outcome, next, openedRow, final}
 use Rattle.demands.specs.Table.{FirstIs, NoneHolds, ByTable}
 use Rattle.demands.specs.Demands.{Log, noLog, begun, logAt, joined, boardGiven, rowGiven, joins, taken, opens}
-use Rattle.demands.specs.Refused.{Rule, Some, NoGarden, NoPlan, NoStack, plansBy, plansOf, plansIn, logOf, NoBoard, WrongCells, WrongShunt, WrongReading, ReadOf, WriteOf, Reads, Writes, NoBoardNamed, Named, Known, WrongRegister, MayCarry, WrongValue, Programs, Crossed, Worn, openingRules, sampleRules, frameRules, rules, SameRows, SameTable, FirstOf, NoneOf, ByRules, ActOf, entered, RefusedByPaper}
+use Rattle.demands.specs.Refused.{Rule, Some, NoGarden, NoPlan, NoStack, plansBy, plansOf, plansIn, logOf, NoBoard, WrongCells, WrongShunt, WrongReading, ReadOf, WriteOf, Reads, Writes, NoBoardNamed, Named, OfTallies, Known, OnlyRead, WrongRegister, MayCarry, WrongValue, Programs, Crossed, Worn, openingRules, sampleRules, frameRules, rules, SameRows, SameTable, FirstOf, NoneOf, ByRules, ActOf, entered, RefusedByPaper}
 use Rattle.demands.proofs.Asked.{Asks, asks-no, asks-so, asks-same, asks-lt, asks-le, asks-eq, asks-above, asks-or, asks-and, asks-not, asks-twice, asks-or3, asks-outside, asks-some, every-of}
 use Rattle.demands.proofs.Table.{is-first, is-none, kept-old, demand1, demand1-opening}
 use Rattle.demands.proofs.Tells.{board-at}
@@ -185,7 +185,7 @@ of-named So logs address = (
   λ (n, is, so). subst (λ (k : ℕ). So (logOf logs k)) (sym (named n address is)) so,
 )
 
--- 9, by the ranges of the map: register 0 is refused to a write, 1 to a board that is no host, 6 to 11 to a garden board, any other to everybody
+-- 9, by the ranges of the map: register 0 and the tallies' are refused to a write, 1 to a board that is no host, 6 to 11 to a garden board, any other to everybody
 module _ (logs : List Log) (address r : ℕ) where
   abbrev l : Log
   l = logOf logs (boardOf address)
@@ -197,7 +197,7 @@ module _ (logs : List Log) (address r : ℕ) where
   RegisterAsk = Asks (noRegister k (writes address) r) (WrongRegister logs address r)
 
   -- none refuses the register itself
-  here-known : Known r l → r ≢ 0 → noRegister k (writes address) r ≡ false → RegisterAsk
+  here-known : Known r l → ¬ OnlyRead r → noRegister k (writes address) r ≡ false → RegisterAsk
   here-known is other e = asks-same (noRegister k (writes address) r) false e (λ t. absurd (true≢false (sym t)), back)
     where
       back : WrongRegister logs address r → false ≡ true
@@ -207,54 +207,94 @@ module _ (logs : List Log) (address r : ℕ) where
   here-unknown : ¬ Known r l → noRegister k (writes address) r ≡ true → RegisterAsk
   here-unknown never e = (λ t. inl (of-named (λ l. ¬ Known r l) logs address .0 never), λ wrong. e)
 
-  status : r ≡ 0 → RegisterAsk
-  status e = asks-same (noRegister k (writes address) r) (writes address) (rw e) (asks-so (writes address) (writes-ask address) (λ is. inr (is, e)) back)
+  only-read : Known r l → OnlyRead r → noRegister k (writes address) r ≡ writes address → RegisterAsk
+  only-read is only e = asks-same (noRegister k (writes address) r) (writes address) e (asks-so (writes address) (writes-ask address) (λ w. inr (w, only)) back)
     where
       back : WrongRegister logs address r → Writes address
-      back (inl so) = absurd (of-named (λ l. ¬ Known r l) logs address .1 so (inl e))
-      back (inr (is, z)) = is
+      back (inl so) = absurd (of-named (λ l. ¬ Known r l) logs address .1 so is)
+      back (inr (w, z)) = w
+
+  -- from 1 to 11 none is only read
+  stored : 0 < r → r < 16 → ¬ OnlyRead r
+  stored low high (inl z) = omega arith
+  stored low high (inr (inl (from, to))) = omega arith
+  stored low high (inr (inr (from, to))) = omega arith
 
   control : r ≡ 1 → RegisterAsk
   control e =
       split (isHost k)
-      (λ h. here-known (inr (inl (e, eqb-true k 1 h))) (λ z. omega arith) (rw e (control-there k (writes address) ∙ ap not h)))
+      (λ h. here-known (inr (inl (e, eqb-true k 1 h))) (stored (omega arith) (omega arith)) (rw e (control-there k (writes address) ∙ ap not h)))
       (λ h. here-unknown (other h) (rw e (control-there k (writes address) ∙ ap not h)))
     where
       other : isHost k ≡ false → ¬ Known r l
       other h (inl z) = omega arith
       other h (inr (inl (z, is))) = eqb-false k 1 h is
-      other h (inr (inr (low, high, kind))) = omega arith
+      other h (inr (inr (inl (low, high, kind)))) = omega arith
+      other h (inr (inr (inr (inl (low, high))))) = omega arith
+      other h (inr (inr (inr (inr (low, high))))) = omega arith
 
-  no-more : 11 < r → ¬ Known r l
-  no-more high (inl z) = omega arith
-  no-more high (inr (inl (z, is))) = omega arith
-  no-more high (inr (inr (low, under, kind))) = omega arith
+  settings : 6 ≤ r → r ≤ 11 → RegisterAsk
+  settings from to =
+      split (isGarden k)
+      (λ g. here-unknown (other g) (between k (writes address) r from to ∙ g))
+      (λ g. here-known (inr (inr (inl (from, to, eqb-false k 2 g)))) (stored (omega arith) (omega arith)) (between k (writes address) r from to ∙ g))
+    where
+      other : isGarden k ≡ true → ¬ Known r l
+      other g (inl z) = omega arith
+      other g (inr (inl (z, is))) = omega arith
+      other g (inr (inr (inl (low, high, kind)))) = kind (eqb-true k 2 g)
+      other g (inr (inr (inr (inl (low, high))))) = omega arith
+      other g (inr (inr (inr (inr (low, high))))) = omega arith
 
-  no-less : r ≢ 0 → r ≢ 1 → r < 6 → ¬ Known r l
-  no-less n0 n1 low (inl z) = n0 z
-  no-less n0 n1 low (inr (inl (z, is))) = n1 z
-  no-less n0 n1 low (inr (inr (from, high, kind))) = omega arith
+  -- below the settings, and between and past the tallies
+  none-there : r ≢ 0 → r ≢ 1 → ((6 ≤ r) × (r ≤ 11) → ⊥) → (OfTallies r → ⊥) → ¬ Known r l
+  none-there n0 n1 no-setting no-tally (inl z) = n0 z
+  none-there n0 n1 no-setting no-tally (inr (inl (z, is))) = n1 z
+  none-there n0 n1 no-setting no-tally (inr (inr (inl (low, high, kind)))) = no-setting (low, high)
+  none-there n0 n1 no-setting no-tally (inr (inr (inr t))) = no-tally t
 
-  no-settings : r ≢ 0 → r ≢ 1 → isGarden k ≡ true → ¬ Known r l
-  no-settings n0 n1 g (inl z) = n0 z
-  no-settings n0 n1 g (inr (inl (z, is))) = n1 z
-  no-settings n0 n1 g (inr (inr (from, high, kind))) = kind (eqb-true k 2 g)
+  too-low : r ≢ 0 → r ≢ 1 → r < 6 → RegisterAsk
+  too-low n0 n1 p = here-unknown (none-there n0 n1 (λ (low, high). omega arith) away) (below k (writes address) r n0 n1 p)
+    where
+      away : OfTallies r → ⊥
+      away (inl (low, high)) = omega arith
+      away (inr (low, high)) = omega arith
+
+  -- past 11
+  module _ (past : 11 < r) where
+    unknown : (OfTallies r → ⊥) → noRegister k (writes address) r ≡ true → RegisterAsk
+    unknown away e = here-unknown (none-there (λ z. omega arith) (λ z. omega arith) (λ (low, high). omega arith) away) e
+
+    upper : RegisterAsk
+    upper =
+        let w = writes address in
+        split (ltb r 16) (λ e. let p = ltb-true r 16 e in unknown (before p) (past-settings k w r past (away-below r p)))
+        (λ e16. let from = ltb-false r 16 e16 in split (leb r 20)
+        (λ e. let to = leb-true r 20 e in only-read (inr (inr (inr (inl (from, to))))) (inr (inl (from, to))) (low-there k w r from to))
+        (λ e20. let past20 = leb-false r 20 e20 in split (ltb r 24) (λ e. let p = ltb-true r 24 e in unknown (amid past20 p) (between-tallies k w r past20 p))
+        (λ e24. let high = ltb-false r 24 e24 in split (leb r 28)
+        (λ e. let to = leb-true r 28 e in only-read (inr (inr (inr (inr (high, to))))) (inr (inr (high, to))) (high-there k w r high to))
+        (λ e28. let past28 = leb-false r 28 e28 in unknown (beyond past28) (above k w r past28)))))
+      where
+        before : r < 16 → OfTallies r → ⊥
+        before p (inl (low, high)) = omega arith
+        before p (inr (low, high)) = omega arith
+
+        amid : 20 < r → r < 24 → OfTallies r → ⊥
+        amid p q (inl (low, high)) = omega arith
+        amid p q (inr (low, high)) = omega arith
+
+        beyond : 28 < r → OfTallies r → ⊥
+        beyond p (inl (low, high)) = omega arith
+        beyond p (inr (low, high)) = omega arith
 
   register-ask : RegisterAsk
   register-ask =
-      let w = writes address in
-      split (eqb r 0) (λ e. status (eqb-true r 0 e))
+      split (eqb r 0) (λ e. let z = eqb-true r 0 e in only-read (inl z) (inl z) (rw z))
       (λ n0. split (eqb r 1) (λ e. control (eqb-true r 1 e))
       (λ n1. split (leb 6 r)
-      (λ low. split (leb r 11)
-      (λ high.
-      let from = leb-true 6 r low in
-      let to = leb-true r 11 high in
-      split (isGarden k)
-      (λ g. here-unknown (no-settings (eqb-false r 0 n0) (eqb-false r 1 n1) g) (between k w r from to ∙ g))
-      (λ g. here-known (inr (inr (from, to, eqb-false k 2 g))) (λ z. omega arith) (between k w r from to ∙ g)))
-      (λ high. here-unknown (no-more (leb-false r 11 high)) (above k w r (leb-false r 11 high))))
-      (λ low. let under = leb-false 6 r low in here-unknown (no-less (eqb-false r 0 n0) (eqb-false r 1 n1) under) (below k w r (eqb-false r 0 n0) (eqb-false r 1 n1) under))))
+      (λ low. split (leb r 11) (λ high. settings (leb-true 6 r low) (leb-true r 11 high)) (λ high. upper (leb-false r 11 high)))
+      (λ low. too-low (eqb-false r 0 n0) (eqb-false r 1 n1) (leb-false 6 r low))))
 
 -- 10, by what a register takes
 abbrev takes : ℕ → ℕ → Bool

@@ -14,6 +14,7 @@ use Rattle.settings.specs.Levels.{crossed}
 use Rattle.refusal.specs.Said.{Bar, bar, accepts, first, judged}
 use Rattle.latches.specs.declared.Latches.{Latches}
 use Rattle.latches.specs.Latches.{anyLatch, chgOn, dsgOn, latchesOf, latchesByte}
+use Rattle.latches.specs.Tallies.{tallies}
 use Rattle.latches.proofs.Packed.{latches-kept}
 use Rattle.board.specs.declared.Board.{Board}
 use Rattle.board.specs.declared.Readings.{Readings}
@@ -36,7 +37,7 @@ use Rattle.stack.specs.Read.{readBars}
 use Rattle.registers.proofs.Map.{no-writes}
 use Rattle.stack.proofs.Ways.{board-good, has-none}
 use Rattle.stack.proofs.Laws.{sample-said, frame-said}
-use Rattle.demands.specs.Paper.{sampled, staged, working, spent, steers, latchesAt, control, mayDsg, mayChg}
+use Rattle.demands.specs.Paper.{sampled, staged, working, spent, steers, latchesAt, tallied, control, mayDsg, mayChg}
 use Rattle.demands.specs.Acts.{Act, sample, frame, reading, outcome, next}
 use Rattle.demands.specs.Demands.{Log, noLog, logAt, joined, boardGiven, rowGiven, frameEntry, joins, taken, sampleSays, readSays, frameSays, summaryGiven, told}
 use Rattle.demands.proofs.Given.{given-start, may-dsg-is, may-chg-is, status-is, given-framed}
@@ -136,7 +137,7 @@ reply-is : (l : Log) (write : Bool) (register v : ℕ)
 reply-is l write register v =
     let p = l .plan in
     let h = l .acts in
-    let shown : ℕ → Shown = λ status. record { status = status; control = control p h; working = working h; cycles = spent h } in
+    let shown : ℕ → Shown = λ status. record { status = status; control = control p h; working = working h; cycles = spent h; tallies = tallies (λ f. tallied p f h) } in
     ap (λ (status : ℕ). cond (programs write register) (spent h) (cond write v (readValue (shown status) register)))
     (ap (statusBy (p .kind) (control p h)) (latches-kept (latchesAt p h)) ∙ status-is p h (latchesAt p h))
 

@@ -10,6 +10,7 @@ use Rattle.refusal.specs.Said.{accepts, first, judged, unlessRefused}
 use Rattle.lists.specs.Marks.{number}
 use Rattle.cells.specs.Bleed.{bled}
 use Rattle.latches.specs.Latches.{anyLatch, chgOn, dsgOn}
+use Rattle.latches.specs.Tallies.{tallies}
 use Rattle.board.specs.declared.Board.{Board}
 use Rattle.board.specs.Plan.{Plan, planOf}
 use Rattle.frame.specs.Frame.{byte, writes}
@@ -20,7 +21,7 @@ use Rattle.reading.specs.Reading.{readOf, wholeSaid}
 use Rattle.stack.specs.Row.{placeOf}
 use Rattle.stack.specs.Open.{openBars}
 use Rattle.stack.specs.Frame.{framePlace}
-use Rattle.demands.specs.Paper.{Entry, sampled, framed, History, programming, working, spent, latchesAt, control, mayDsg, mayChg, status, flagsAt, given}
+use Rattle.demands.specs.Paper.{Entry, sampled, framed, History, programming, working, spent, latchesAt, tallied, control, mayDsg, mayChg, status, flagsAt, given}
 use Rattle.demands.specs.Acts.{Act, sample, frame, reading, Outcome, bars, outcome, next, openedRow, final, answers}
 use Rattle.demands.specs.Shuffle.{picked, Shuffle}
 use Rattle.demands.specs.Tied.{tied}
@@ -74,7 +75,7 @@ taken logs reading = logs
 abbrev pub sampleSays : Log → List ℕ
 sampleSays l = status (l .plan) (l .acts) ∷ number (bled (flagsAt (l .plan) (l .acts))) ∷ []
 
--- a read: what its row of the map gives of the status, register 1, the working settings and the cycles spent
+-- a read: what its row of the map gives of the status, register 1, the working settings, the cycles spent and the tallies
 abbrev pub shownGiven : Log → Shown
 shownGiven l =
     record {
@@ -82,6 +83,7 @@ shownGiven l =
       control = control (l .plan) (l .acts);
       working = working (l .acts);
       cycles = spent (l .acts);
+      tallies = tallies (λ f. tallied (l .plan) f (l .acts));
     }
 
 abbrev pub readSays : Log → ℕ → ℕ

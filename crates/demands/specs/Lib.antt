@@ -14,4 +14,5 @@ pub mod Whole
 pub mod Face
 pub mod Host
 pub mod Garden
+pub mod Tallied
 pub mod Counts

@@ -1,6 +1,6 @@
--- What a mechanic would ask (01, When a fault latches and lets go; Frames and registers; Errors a good mechanic would make; 02, tickets 3 and 5): of the runs in a history, and of the library on any stack that came from an opening, after any acts.
+-- What a mechanic would ask (01, When a fault latches and lets go; Frames and registers; Errors a good mechanic would make; 02, tickets 3, 5, 6 and 7): of the runs in a history, and of the library on any stack that came from an opening, after any acts.
 -- Assumes nothing.
-use Prim.Native.Nat.{ℕ, _+_, _<_, _≤_}
+use Prim.Native.Nat.{ℕ, _+_, _/_, _%_, _<_, _≤_}
 use mathlib.Core.Path.{_≡_}
 use mathlib.Core.Logic.{_⊎_, _↔_}
 use mathlib.Core.Bool.{Bool, true, false}
@@ -9,7 +9,7 @@ use mathlib.Core.Option.{some, none}
 use Rattle.refusal.specs.Said.{accepts, refuses}
 use Rattle.settings.specs.Bytes.{byteOf, same}
 use Rattle.settings.specs.Levels.{crossed}
-use Rattle.settings.specs.Faults.{Fault, delay}
+use Rattle.settings.specs.Faults.{Fault, SCD, OCD, OV, UV, OT, delay}
 use Rattle.latches.specs.Latches.{latch, latchesOf}
 use Rattle.board.specs.declared.Board.{Board}
 use Rattle.board.specs.declared.Readings.{Readings}
@@ -19,7 +19,7 @@ use Rattle.frame.specs.Frame.{byte, writes}
 use Rattle.frame.specs.Reply.{replyBytes}
 use Rattle.stack.specs.Row.{placeOf, boardAt}
 use Rattle.stack.specs.Frame.{framePlace}
-use Rattle.demands.specs.Paper.{Entry, sampled, framed, History, programming, staged, working, spends, howMany, spent, sampleOf, holds, runOf, places, letsGo, clears, counted, countAt, backAt, filter, control}
+use Rattle.demands.specs.Paper.{Entry, sampled, framed, History, programming, staged, working, spends, howMany, spent, sampleOf, holds, runOf, places, letsGo, clears, counted, countAt, backAt, filter, tallied, control}
 use Rattle.demands.specs.Acts.{Act, sample, frame, reading, outcome, next, openedRow, final}
 use Rattle.demands.specs.Table.{lent}
 use Rattle.demands.specs.Turns.{Under, Calm}
@@ -49,6 +49,14 @@ pub record Cycles (e : Entry) (h : History) : Type 0 where
 -- there is a run, that of some one cell with OV and UV, of n cells; and it is longer than the delay or the delay is zero (02, ticket 6)
 abbrev pub Stood : ℕ → Fault → History → Type 0
 Stood n f h = (k : ℕ) × (k < places f n) × (t : ℕ) × (runOf f k h ≡ some t) × ((delay f (working h) < t) ⊎ (delay f (working h) ≡ 0))
+
+-- a fault's bit of register 0
+abbrev pub bitOf : Fault → ℕ
+bitOf SCD = 0
+bitOf OCD = 1
+bitOf OV = 2
+bitOf UV = 3
+bitOf OT = 4
 
 -- ---- the library after an opening and acts
 
@@ -107,6 +115,13 @@ pub record Answers (row : List Board) (logs : List Log) : Type 0 where
   pub reads-control : (bytes buffer : List ℕ) → let l = logAt logs (framePlace bytes) in
       Accepted row (frame bytes buffer) → writes (byte bytes 0) ≡ false → byte bytes 1 ≡ 1 → l .plan .kind ≡ 1
       → outcome row (frame bytes buffer) .said ≡ accepts (replyBytes (byte bytes 0) 1 (control (l .plan) (l .acts)))
+  -- a read of registers 16 to 20 gives the low byte of a tally, one of 24 to 28 the high byte, on a board of any kind
+  pub reads-low : (f : Fault) (bytes buffer : List ℕ) → let l = logAt logs (framePlace bytes) in
+      Accepted row (frame bytes buffer) → writes (byte bytes 0) ≡ false → byte bytes 1 ≡ 16 + bitOf f
+      → outcome row (frame bytes buffer) .said ≡ accepts (replyBytes (byte bytes 0) (16 + bitOf f) (tallied (l .plan) f (l .acts) % 256))
+  pub reads-high : (f : Fault) (bytes buffer : List ℕ) → let l = logAt logs (framePlace bytes) in
+      Accepted row (frame bytes buffer) → writes (byte bytes 0) ≡ false → byte bytes 1 ≡ 24 + bitOf f
+      → outcome row (frame bytes buffer) .said ≡ accepts (replyBytes (byte bytes 0) (24 + bitOf f) (tallied (l .plan) f (l .acts) / 256))
   -- the working levels of a board are never crossed
   pub never-crossed : (at : ℕ) → crossed (working (logAt logs at .acts)) ≡ false
   -- so programming with staged equal to working changes no record, and is refused neither for crossed levels nor for want of a cycle

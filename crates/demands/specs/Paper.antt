@@ -1,6 +1,6 @@
--- A board from its plan and its accepted acts alone, newest first, with no state (01, Frames and registers; When a fault latches and lets go; Bleeding; 02, tickets 3 and 5).
+-- A board from its plan and its accepted acts alone, newest first, with no state (01, Frames and registers; When a fault latches and lets go; Bleeding; 02, tickets 3, 5 and 7).
 -- Assumes nothing.
-use Prim.Native.Nat.{ℕ, _+_, _-_}
+use Prim.Native.Nat.{ℕ, _+_, _-_, min}
 use mathlib.Core.Bool.{Bool, true, false, cond, not, _&&_, _||_}
 use mathlib.Core.List.{List, [], _∷_, _++_}
 use mathlib.Core.Option.{Option, some as just, none}
@@ -24,6 +24,7 @@ use Rattle.garden.specs.Device.{deviceOf, ovInner, uvInner}
 use Rattle.latches.specs.declared.Latches.{Latches}
 use Rattle.latches.specs.Latches.{latches, latchNext, latchesByte, chgOn, dsgOn, register0}
 use Rattle.latches.specs.Control.{clearBit, dsgBit, chgBit}
+use Rattle.latches.specs.Tallies.{tallies, tallyTop}
 use Rattle.board.specs.declared.Board.{Board}
 use Rattle.board.specs.declared.Readings.{Readings}
 use Rattle.board.specs.declared.Last.{Last}
@@ -266,6 +267,15 @@ latchesAt p h = latches (λ f. latched p f h)
 abbrev pub rises : Plan → Fault → Entry → History → Bool
 rises p f e h = latched p f (e ∷ h) && not (latched p f h)
 
+-- a latching: an accepted sample after which the fault is latched and before which it was not
+abbrev pub latching : Plan → Fault → Entry → History → Bool
+latching p f (sampled x mv) h = rises p f (sampled x mv) h
+latching p f (framed address register v) h = false
+
+-- a tally: the latchings of its fault, until it stops (02, ticket 7)
+abbrev pub tallied : Plan → Fault → History → ℕ
+tallied p f h = min tallyTop (howMany (latching p f) h)
+
 -- b1 and b2 of register 1, DSG and CHG: a write sets them, and a fault that latches clears the bits of the switches that it forbids
 abbrev pub dsgSet : Plan → History → Bool
 dsgSet p [] = false
@@ -341,4 +351,5 @@ given p h =
       last = lastGiven (lastSample h);
       control = control p h;
       garden = gardenGiven p h;
+      tallies = tallies (λ f. tallied p f h);
     }

@@ -1,4 +1,4 @@
--- The table of refusals a second time, from what is known of each board and the act alone: for each act its rows in order, each a number and a proposition (01, Refusal numbers; Frames and registers; 02, tickets 1, 3 and 5).
+-- The table of refusals a second time, from what is known of each board and the act alone: for each act its rows in order, each a number and a proposition (01, Refusal numbers; Frames and registers; 02, tickets 1, 3, 5 and 7).
 -- None of the library's conditions is used: beside the history (Paper) it rests on what a record says that its board is (board, planIn), the two current levels (settings, Levels) and the check byte, which is bit by bit (frame, Check).
 -- Assumes nothing.
 use Prim.Native.Nat.{ℕ, zero, suc, _+_, _-_, _*_, _<_, _≤_}
@@ -114,12 +114,23 @@ NoBoardNamed logs address = (n : ℕ) × (ReadOf n address ⊎ WriteOf n address
 abbrev pub Named : (Log → Type 0) → List Log → ℕ → Type 0
 Named So logs address = (n : ℕ) × (ReadOf n address ⊎ WriteOf n address) × So (logOf logs n)
 
--- 9: there are registers 0 and 6 to 11, and 0 is only read; a host board has register 1 too, and a garden board 0 alone
+-- 9: every board has register 0 and the tallies', 16 to 20 and 24 to 28; a host board has 1 too, and all but a garden board 6 to 11
+abbrev pub OfTallies : ℕ → Type 0
+OfTallies register = ((16 ≤ register) × (register ≤ 20)) ⊎ ((24 ≤ register) × (register ≤ 28))
+
 abbrev pub Known : ℕ → Log → Type 0
-Known register l = (register ≡ 0) ⊎ ((register ≡ 1) × (l .plan .kind ≡ 1)) ⊎ ((6 ≤ register) × (register ≤ 11) × (l .plan .kind ≢ 2))
+Known register l =
+    (register ≡ 0)
+    ⊎ ((register ≡ 1) × (l .plan .kind ≡ 1))
+    ⊎ ((6 ≤ register) × (register ≤ 11) × (l .plan .kind ≢ 2))
+    ⊎ OfTallies register
+
+-- register 0 and the tallies' are only read
+abbrev pub OnlyRead : ℕ → Type 0
+OnlyRead register = (register ≡ 0) ⊎ OfTallies register
 
 abbrev pub WrongRegister : List Log → ℕ → ℕ → Type 0
-WrongRegister logs address register = Named (λ l. ¬ Known register l) logs address ⊎ (Writes address × (register ≡ 0))
+WrongRegister logs address register = Named (λ l. ¬ Known register l) logs address ⊎ (Writes address × OnlyRead register)
 
 -- 10: what a write may carry. Register 1 takes b0 to b2, registers 6, 9 and 10 any byte, 7 one whose two high bits are 0, 8 one whose three high bits are 0, 11 only 0x41
 abbrev pub MayCarry : ℕ → ℕ → Type 0

@@ -39,6 +39,7 @@ use Rattle.latches.proofs.status_of.Reads as latches-status-of
 use Rattle.latches.proofs.latch_next.Reads as latches-latch-next
 use Rattle.latches.proofs.risen.Reads as latches-risen
 use Rattle.latches.proofs.control_next.Reads as latches-control-next
+use Rattle.latches.proofs.tallies_next.Reads as latches-tallies-next
 use Rattle.board.proofs.fresh_board.Reads as board-fresh-board
 use Rattle.frame.proofs.check_all.Reads as frame-check-all
 use Rattle.frame.proofs.check_byte.Reads as frame-check-byte
@@ -186,6 +187,9 @@ latches-risen-one κs a r t s u = agree
 
 pub latches-control-next-one : (κs : _) (a : _) (r t : _) (s u : _) → latches-control-next.Learnt κs a r s → latches-control-next.Learnt κs a t u → r ≡ t
 latches-control-next-one κs a r t s u = agree
+
+pub latches-tallies-next-one : (κs : _) (a : _) (r t : _) (s u : _) → latches-tallies-next.Learnt κs a r s → latches-tallies-next.Learnt κs a t u → r ≡ t
+latches-tallies-next-one κs a r t s u = agree
 
 -- ---- board
 pub board-bad-board-one : (κs : _) (a : _) (r t : _) (s u : _) → board-bad-board.Learnt κs a r s → board-bad-board.Learnt κs a t u → r ≡ t

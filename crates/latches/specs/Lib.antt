@@ -1,2 +1,3 @@
 pub mod Latches
 pub mod Control
+pub mod Tallies

@@ -1,9 +1,10 @@
-// The latches of the five faults, the switches, register 0 and a host board's register 1 (01, Frames and registers; When a fault latches and lets go; 02, ticket 3).
+// The latches of the five faults, the switches, register 0, a host board's register 1, and how often each fault latched (01, Frames and registers; When a fault latches and lets go; 02, tickets 3 and 7).
 ghost use mathlib.Core.Path.{_≡_};
 ghost use Prim.Native.Nat.{_≤_};
 ghost use Rattle.lists.specs.Marks.{bit};
 ghost use Rattle.latches.specs.Latches.{latchNext, risen, latchesOf, latchesByte, anyLatch, chgOn, dsgOn, register0};
 ghost use Rattle.latches.specs.Control.{controlNext};
+ghost use Rattle.latches.specs.Tallies.{tallyNext, talliesNext};
 
 // Which faults are latched.
 pub struct Latches {
@@ -95,4 +96,42 @@ pub fn control_next(control: u8, up: Latches) -> u8
         return bit_of(clear) + 2 * bit_of(dsg) + 4 * bit_of(chg);
     }
     control
+}
+
+// How often each fault latched.
+#[repr(C)]
+pub struct Tallies {
+    pub scd: u16,
+    pub ocd: u16,
+    pub ov: u16,
+    pub uv: u16,
+    pub ot: u16,
+}
+
+// A tally that is full stays.
+fn tally_next(up: bool, tally: u16) -> u16
+    ensures { λ r. ⌜ r ≡ tallyNext up tally ⌝ }
+{
+    if up {
+        if tally < 65535 {
+            return tally + 1;
+        }
+    }
+    tally
+}
+
+// The tallies after a sample at which these faults latched; mostly none did.
+pub fn tallies_next(up: Latches, t: Tallies) -> Tallies
+    ensures { λ r. ⌜ r ≡ talliesNext up t ⌝ }
+{
+    if up.scd | up.ocd | up.ov | up.uv | up.ot {
+        return Tallies {
+            scd: tally_next(up.scd, t.scd),
+            ocd: tally_next(up.ocd, t.ocd),
+            ov: tally_next(up.ov, t.ov),
+            uv: tally_next(up.uv, t.uv),
+            ot: tally_next(up.ot, t.ot),
+        };
+    }
+    t
 }

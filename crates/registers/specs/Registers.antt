@@ -1,5 +1,5 @@
 -- A frame to one board: the table's refusals once the board is known, what it does and what it gives
--- (01, Frames and registers; Refusal numbers 9, 10, 11; 02, tickets 1, 3 and 5).
+-- (01, Frames and registers; Refusal numbers 9, 10, 11; 02, tickets 1, 3, 5 and 7).
 -- Assumes nothing.
 use Prim.Native.Nat.{ℕ, _+_}
 use mathlib.Core.Bool.{Bool, cond, not, _&&_}
@@ -27,6 +27,7 @@ shownOf b =
       control = b .control;
       working = b .working;
       cycles = b .cycles;
+      tallies = b .tallies;
     }
 
 -- a write to register 11
@@ -57,6 +58,7 @@ steered b v =
       last = b .last;
       control = v;
       garden = b .garden;
+      tallies = b .tallies;
     }
 
 -- a write to registers 6 to 10: the staged byte, and nothing else
@@ -75,6 +77,7 @@ staging b register v =
       last = b .last;
       control = b .control;
       garden = b .garden;
+      tallies = b .tallies;
     }
 
 -- a cycle is spent, the count is then so many: staged becomes working and every run starts over; latches, flags, register 1 and the last sample stay
@@ -93,6 +96,7 @@ spentTo cycles b =
       last = b .last;
       control = b .control;
       garden = b .garden;
+      tallies = b .tallies;
     }
 
 unfoldable pub spent : Board → Board

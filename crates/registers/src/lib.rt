@@ -1,7 +1,8 @@
-// The register map of one board, and what a frame does to its record (01, Frames and registers; 02, tickets 1, 3 and 5).
+// The register map of one board, and what a frame does to its record (01, Frames and registers; 02, tickets 1, 3, 5 and 7).
 ghost use mathlib.Core.Path.{_≡_};
+ghost use Prim.Native.Nat.{_/_, _%_};
 ghost use Rattle.frame.specs.Frame.{writes};
-ghost use Rattle.registers.specs.Map.{noRegister, fits, readValue};
+ghost use Rattle.registers.specs.Map.{tallyRegisters, inMap, noRegister, fits, readValue};
 ghost use Rattle.registers.specs.Registers.{shownOf, latchesSteered, lacksCycle, obeyedOf};
 ghost use Rattle.registers.specs.Way.{gives, denies, barred, barOf, asksProgramming, asksSteering, asksStaging, readBy, steeredBy, stagedBy, cyclesAfter, rests, lookOf, spentBy, programmedBy, carriedOut};
 use board::Board;
@@ -61,6 +62,8 @@ fn no_register(kind: u8, writes: bool, register: u8) -> bool
         0 => writes,
         1 => !board::is_host(kind),
         6..=11 => board::is_garden(kind),
+        16..=20 => writes,
+        24..=28 => writes,
         _ => true,
     }
 }
@@ -84,10 +87,44 @@ fn value_fits(writes: bool, register: u8, value: u8) -> bool
     value == 0
 }
 
+fn low_byte(tally: u16) -> u8
+    ensures { λ r. ⌜ r ≡ tally % 256 ⌝ }
+{
+    (tally % 256) as u8
+}
+
+fn high_byte(tally: u16) -> u8
+    ensures { λ r. ⌜ r ≡ tally / 256 ⌝ }
+{
+    (tally / 256) as u8
+}
+
+// The registers of the tallies.
+fn read_tally(b: Board, register: u8) -> u8
+    ensures { λ r. ⌜ r ≡ inMap tallyRegisters register 0 (λ row. row .gives (shownOf b)) ⌝ }
+{
+    match register {
+        16 => low_byte(b.tallies.scd),
+        17 => low_byte(b.tallies.ocd),
+        18 => low_byte(b.tallies.ov),
+        19 => low_byte(b.tallies.uv),
+        20 => low_byte(b.tallies.ot),
+        24 => high_byte(b.tallies.scd),
+        25 => high_byte(b.tallies.ocd),
+        26 => high_byte(b.tallies.ov),
+        27 => high_byte(b.tallies.uv),
+        28 => high_byte(b.tallies.ot),
+        _ => 0,
+    }
+}
+
 // A read of the settings gives the working bytes, so that a worn memory shows.
 fn read(b: Board, register: u8) -> u8
     ensures { λ r. ⌜ r ≡ readValue (shownOf b) register ⌝ }
 {
+    if 16 <= register {
+        return read_tally(b, register);
+    }
     match register {
         0 => board::status_by(b.kind, b.control, b.latches),
         1 => b.control,

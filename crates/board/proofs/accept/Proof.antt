@@ -1,9 +1,22 @@
 use borrow.Author.Needs.{needs}
 use Rattle.latches.proofs.Packed.{latches-kept}
-use Rattle.board.specs.Sample.{boardWith}
+use Prim.Native.Nat.{ℕ}
+use mathlib.Core.Path.{_≡_, ap}
+use Rattle.latches.specs.declared.Latches.{Latches}
+use Rattle.latches.specs.Latches.{latchesOf, latchesByte}
+use Rattle.board.specs.declared.Board.{Board}
+use Rattle.board.specs.declared.Stepped.{Stepped}
+use Rattle.board.specs.declared.Answer.the-variants.{Sampled}
+use Rattle.board.specs.Host.{statusBy}
+use Rattle.board.specs.Sample.{sweptAt, controlWith, boardWith}
 use Rattle.board.specs.Way.{latchesLeft, acceptedBy}
 use Rattle.board.proofs.accept.Statement.{statement}
 use Rattle.board.proofs.accept.Tie as tie
+
+-- the status is of the latches, and the code has them as a byte
+answered : (b : Board) (kind control bled : ℕ) (left : Latches)
+    → _≡_ {A = Stepped} (record { board = b; answer = Sampled (statusBy kind control (latchesOf (latchesByte left))) bled }) (record { board = b; answer = Sampled (statusBy kind control left) bled })
+answered b kind control bled left = ap (λ (t : Latches). record { board = b; answer = Sampled (statusBy kind control t) bled }) (latches-kept left)
 
 sweep-requires : tie.Need-sweep-requires
 sweep-requires c κs = search needs
@@ -20,8 +33,14 @@ latches-next-requires c κs = search needs
 byte-of-requires : tie.Need-byte-of-requires
 byte-of-requires c κs = search needs
 
-control-with-requires : tie.Need-control-with-requires
-control-with-requires c κs = search needs
+risen-requires : tie.Need-risen-requires
+risen-requires c κs = search needs
+
+control-up-requires : tie.Need-control-up-requires
+control-up-requires c κs = search needs
+
+tallies-next-requires : tie.Need-tallies-next-requires
+tallies-next-requires c κs = search needs
 
 last-by-requires : tie.Need-last-by-requires
 last-by-requires c κs = search needs
@@ -39,8 +58,12 @@ returns c =
     let c6 = c5 .before in
     let c7 = c6 .before in
     let c8 = c7 .before in
-    let a = c8 .before .before .before .args in
-    rw (c .status-by .ensures, c1 .last-by .ensures, c3 .control-with .ensures, c4 .byte-of .ensures, c5 .latches-next .ensures, c6 .latches-of .ensures, c7 .currents-next .ensures, c8 .sweep .ensures, latches-kept (latchesLeft (a .b) (a .x) (a .span) (a .mv .now)))
+    let c9 = c8 .before in
+    let c10 = c9 .before in
+    let a = c10 .before .before .before .args in
+    let left = latchesLeft (a .b) (a .x) (a .span) (a .mv .now) in
+    rw (c .status-by .ensures, c1 .last-by .ensures, c3 .tallies-next .ensures, c4 .control-up .ensures, c5 .risen .ensures, c6 .byte-of .ensures, c7 .latches-next .ensures, c8 .latches-of .ensures, c9 .currents-next .ensures, c10 .sweep .ensures)
+    (answered (acceptedBy (a .b) (a .x) (a .span) (a .mv .now) .board) (a .b .kind) (controlWith (a .b) left) (sweptAt (a .b) (a .x) (a .mv .now) .bled) left)
 
 pub accept-spec : {M : Type 1} → statement M
 accept-spec =
@@ -51,7 +74,9 @@ accept-spec =
     latches-of-requires
     latches-next-requires
     byte-of-requires
-    control-with-requires
+    risen-requires
+    control-up-requires
+    tallies-next-requires
     last-by-requires
     status-by-requires
     returns)

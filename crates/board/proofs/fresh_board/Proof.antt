@@ -13,14 +13,14 @@ first-latches-requires c κs = search needs
 fresh-cells-requires : tie.Need-fresh-cells-requires
 fresh-cells-requires c κs = search needs
 
-cast-t12 : tie.Need-cast-t12
-cast-t12 c = search needs
+cast-t13 : tie.Need-cast-t13
+cast-t13 c = search needs
 
-cast-t14 : tie.Need-cast-t14
-cast-t14 c = omega arith
+cast-t15 : tie.Need-cast-t15
+cast-t15 c = omega arith
 
-cast-t14-2 : tie.Need-cast-t14-2
-cast-t14-2 c = search needs
+cast-t15-2 : tie.Need-cast-t15-2
+cast-t15-2 c = search needs
 
 returns : tie.Need-returns
 unfolding fresh
@@ -33,7 +33,7 @@ fresh-board-spec =
     cast-kind
     first-latches-requires
     fresh-cells-requires
-    cast-t12
-    cast-t14
-    cast-t14-2
+    cast-t13
+    cast-t15
+    cast-t15-2
     returns)

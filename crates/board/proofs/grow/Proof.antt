@@ -14,6 +14,12 @@ grow-requires c κs = search needs
 byte-of-requires : tie.Need-byte-of-requires
 byte-of-requires c κs = search needs
 
+risen-requires : tie.Need-risen-requires
+risen-requires c κs = search needs
+
+tallies-next-requires : tie.Need-tallies-next-requires
+tallies-next-requires c κs = search needs
+
 last-by-requires : tie.Need-last-by-requires
 last-by-requires c κs = search needs
 
@@ -26,9 +32,11 @@ returns c =
     let c1 = c .before in
     let c4 = c1 .before .before .before in
     let c5 = c4 .before in
-    let c8 = c5 .before .before .before in
-    let a = c8 .before .before .args in
-    rw (c .status-by .ensures, c1 .last-by .ensures, c4 .byte-of .ensures, c5 .grow .ensures, c8 .latches-of .ensures, latches-kept (grownLatches (grownBy (a .b) (a .x) (a .span) (a .mv .now))))
+    let c6 = c5 .before in
+    let c7 = c6 .before in
+    let c10 = c7 .before .before .before in
+    let a = c10 .before .before .args in
+    rw (c .status-by .ensures, c1 .last-by .ensures, c4 .tallies-next .ensures, c5 .risen .ensures, c6 .byte-of .ensures, c7 .grow .ensures, c10 .latches-of .ensures, latches-kept (grownLatches (grownBy (a .b) (a .x) (a .span) (a .mv .now))))
 
 pub grow-spec : {M : Type 1} → statement M
 grow-spec =
@@ -37,6 +45,8 @@ grow-spec =
     latches-of-requires
     grow-requires
     byte-of-requires
+    risen-requires
+    tallies-next-requires
     last-by-requires
     status-by-requires
     returns)

@@ -60,8 +60,8 @@ read-row-spec 𝓤 H 𝓜 𝓖 𝓡 =
     entered 𝓤 H _ _ _ key.name code.function (code.unfolded 𝓤 H 𝓜 𝓡)
     (meets W (tablesOf 𝓤 H 𝓜 (tables 𝓤 H 𝓜 𝓡 code.env)) (of-slice Whole.the-row Boards.the-row readRow) tt (known.whole 𝓤 H (𝓖 .A) W) (λ κs qs a so.
     let row = now (a .0) in
-    lets (known.seen 𝓤 H (𝓖 .A) W) (seenRow row) (asks-slice seenRow #see-row (cited 𝓤 H _ 𝓜 𝓡 code.env #see-row _ code.calls-reading·see-row (see-row′.met 𝓤 H 𝓜 𝓖 𝓡)))
+    lets (known.seen 𝓤 H (𝓖 .A) W) (seenRow row) (asks-slice {R = Boards.the-row} seenRow #see-row (cited 𝓤 H _ 𝓜 𝓡 code.env #see-row _ code.calls-reading·see-row (see-row′.met 𝓤 H 𝓜 𝓖 𝓡)))
     (branch (asks-of newest (λ (seen : Gathered). not (seen .flagged)) #none-flagged (cited 𝓤 H _ 𝓜 𝓡 code.env #none-flagged _ code.calls-reading·none-flagged (none-flagged′.met 𝓤 H 𝓜 𝓖 𝓡)))
     (λ y. answers (asks-of newest (λ (seen : Gathered). wholeOf seen (place 0 0)) #read-without (cited 𝓤 H _ 𝓜 𝓡 code.env #read-without _ code.calls-reading·read-without (read-without′.met 𝓤 H 𝓜 𝓖 𝓡))) (enough row y))
-    (λ y. lets (known.place 𝓤 H (𝓖 .A) W) (firstFrom 0 row) (asks-slice (firstFrom 0) #first-flagged (cited 𝓤 H _ 𝓜 𝓡 code.env #first-flagged _ code.calls-reading·first-flagged (first-flagged′.met 𝓤 H 𝓜 𝓖 𝓡)))
+    (λ y. lets (known.place 𝓤 H (𝓖 .A) W) (firstFrom 0 row) (asks-slice {R = Boards.the-row} (firstFrom 0) #first-flagged (cited 𝓤 H _ 𝓜 𝓡 code.env #first-flagged _ code.calls-reading·first-flagged (first-flagged′.met 𝓤 H 𝓜 𝓖 𝓡)))
     (answers (asks (value Seen.the-row ∷ value Place.the-row ∷ []) no-keys (found (older newest) (found newest stop)) (λ μs x. wholeOf (x .0) (x .1 .0)) #read-all (cited 𝓤 H _ 𝓜 𝓡 code.env #read-all _ code.calls-reading·read-all (read-all′.met 𝓤 H 𝓜 𝓖 𝓡)) tt tt) (goes-on row y))))))

@@ -36,7 +36,7 @@ read-stack-spec 𝓤 H 𝓜 𝓖 𝓡 =
     entered 𝓤 H _ _ _ key.name code.function (code.unfolded 𝓤 H 𝓜 𝓡)
     (meets W (tablesOf 𝓤 H 𝓜 (tables 𝓤 H 𝓜 𝓡 code.env)) (of-slice View.the-row Boards.the-row readingOf) tt (known.view 𝓤 H (𝓖 .A) W) (λ κs qs a so.
     let row = now (a .0) in
-    branch (asks-slice goodRow #good-row (cited 𝓤 H _ 𝓜 𝓡 code.env #good-row _ code.calls-stack·good-row (good-row′.met 𝓤 H 𝓜 𝓖 𝓡)))
-    (λ y. lets (known.whole 𝓤 H (𝓖 .A) W) (readRow row) (asks-slice readRow #read-row (cited 𝓤 H _ 𝓜 𝓡 code.env #read-row _ code.calls-reading·read-row (read-row′.met 𝓤 H 𝓜 𝓖 𝓡)))
+    branch (asks-slice {R = Boards.the-row} goodRow #good-row (cited 𝓤 H _ 𝓜 𝓡 code.env #good-row _ code.calls-stack·good-row (good-row′.met 𝓤 H 𝓜 𝓖 𝓡)))
+    (λ y. lets (known.whole 𝓤 H (𝓖 .A) W) (readRow row) (asks-slice {R = Boards.the-row} readRow #read-row (cited 𝓤 H _ 𝓜 𝓡 code.env #read-row _ code.calls-reading·read-row (read-row′.met 𝓤 H 𝓜 𝓖 𝓡)))
     (answers (asks-of newest Read #view-of (cited 𝓤 H _ 𝓜 𝓡 code.env #view-of _ code.calls-stack·view-of (view-of′.met 𝓤 H 𝓜 𝓖 𝓡))) (read-good row (is-true (goodRow row) y))))
     (λ y. answers (nothing noRowView #no-row-view (cited 𝓤 H _ 𝓜 𝓡 code.env #no-row-view _ code.calls-stack·no-row-view (no-row-view′.met 𝓤 H 𝓜 𝓖 𝓡))) (read-bad row (is-false (goodRow row) y)))))
