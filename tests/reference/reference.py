@@ -4,9 +4,9 @@
 Reads bench lines from standard input as bytes and writes the answers.
 
 Every board keeps the history of its accepted acts. Settings, cycles, latches
-and flags are read off that history, and a run or a garden board's count is
-taken from the samples themselves each time it is asked for: there is no
-counter in here that could go wrong in the same way as one in the program
+and flags are read off that history, and a run, a garden board's count or a
+tally is taken from the samples themselves each time it is asked for: there is
+no counter in here that could go wrong in the same way as one in the program
 under test.
 """
 
@@ -32,6 +32,10 @@ CONTROL, FIRST_SETTING, LAST_SETTING, CYCLES = 1, 6, 10, 11
 LATCH_CLEAR, DSG_MAY, CHG_MAY = 0, 1, 2
 PROGRAM = 0x41
 MOST_CYCLES = 3
+# for each register that reads a tally: the fault, and which byte of it, 0 the low one (02, ticket 7)
+TALLIES = {first + place: (fault, byte) for byte, first in enumerate((16, 24))
+           for place, fault in enumerate(("SCD", "OCD", "OV", "UV", "OT"))}
+MOST_TALLIED = 65535
 
 OV_HYSTERESIS_MV = (100, 200, 300, 0)
 UV_HYSTERESIS_MV = (200, 400, 800, 1200)
@@ -220,6 +224,11 @@ def bled(flagged, count):
     return sum(1 << i for i in taken)
 
 
+def tally(latchings, fault):
+    """How often the fault has latched, by what latched at each sample; a tally stops at its top (02, ticket 7)."""
+    return min(sum(fault in latching for latching in latchings), MOST_TALLIED)
+
+
 # ------------------------------------------------------------ garden boards
 
 def count(samples, holds):
@@ -390,11 +399,16 @@ class Board:
         self.history = []
         self.followed = 0
         self.made = first_record(plan)
+        self.latchings = []     # for each sample, the faults that are latched after it and were not before
 
     def record(self):
         """The record that the whole history amounts to."""
         while self.followed < len(self.history):
-            self.made.follow(*self.history[self.followed])
+            act, detail = self.history[self.followed]
+            before = set(self.made.latched)
+            self.made.follow(act, detail)
+            if act == "sample":
+                self.latchings.append(self.made.latched - before)
             self.followed += 1
         return self.made
 
@@ -405,10 +419,13 @@ class Board:
         return record.status(), bled(record.flagged, self.plan.cells)
 
     def read(self, register):
-        """The value a read gives (01, Frames and registers)."""
+        """The value a read gives (01, Frames and registers; 02, ticket 7)."""
         record = self.record()
         if register == 0:
             return record.status()
+        if register in TALLIES:
+            fault, byte = TALLIES[register]
+            return tally(self.latchings, fault) // 256 ** byte % 256
         if register == CONTROL:
             return record.control
         if register == CYCLES:
@@ -451,9 +468,10 @@ def crc8(data):
 
 
 def check_register(register, is_write, kind=STAND_ALONE):
-    """Refusal 9 (01, Refusal numbers; 02, tickets 3 and 5): of a garden board only register 0 answers."""
-    known = register == 0 or (kind != GARDEN and FIRST_SETTING <= register <= CYCLES) or (register == CONTROL and kind == HOST)
-    if not known or (is_write and register == 0):
+    """Refusal 9 (01, Refusal numbers; 02, tickets 3, 5 and 7): register 0 and the tallies are there on every kind, to be read."""
+    only_read = register == 0 or register in TALLIES
+    writable = (kind != GARDEN and FIRST_SETTING <= register <= CYCLES) or (register == CONTROL and kind == HOST)
+    if not writable and (is_write or not only_read):
         raise Refusal(9)
 
 

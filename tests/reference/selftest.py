@@ -11,8 +11,8 @@ import sys
 
 sys.dont_write_bytecode = True
 
-from reference import (GARDEN, HOST, STAND_ALONE, Bench, Plan, Refusal, Sample, Settings, Stack,  # noqa: E402
-                       count, crc8, first_record, inside, past, stand_alone)
+from reference import (GARDEN, HOST, STAND_ALONE, Bench, Board, Plan, Refusal, Sample, Settings, Stack,  # noqa: E402
+                       count, crc8, first_record, inside, past, stand_alone, tally)
 
 FAILED = []
 
@@ -41,19 +41,20 @@ def fill_check(text):
 
 
 def replayed(board):
-    """The record of a board's history, gone over afresh from the start."""
-    record = first_record(board.plan)
-    for act in board.history:
-        record.follow(*act)
-    return record
+    """A board of the same history, which it goes over afresh from the start."""
+    fresh = Board(board.plan)
+    fresh.history = board.history
+    return fresh
 
 
 def check_replay(name, bench):
     """What was kept on the way must be what the whole history gives."""
     for board in bench.stack.boards if bench.stack else ():
-        kept, fresh = vars(board.record()), vars(replayed(board))
+        again = replayed(board)
+        kept, fresh = vars(board.record()), vars(again.record())
         for key in kept.keys() - {"settings"}:
             expect(f"{name}, {key} gone over afresh", fresh[key], kept[key])
+        expect(f"{name}, latchings gone over afresh", again.latchings, board.latchings)
 
 
 def session(name, text, program=Bench, **cells):
@@ -608,13 +609,188 @@ def crossed_cases():
         """, **FIVE)
 
 
+# 02, ticket 7: the registers of the tallies
+LOW_BYTES, HIGH_BYTES = (16, 17, 18, 19, 20), (24, 25, 26, 27, 28)
+
+
+def tallied(address, *five):
+    """Lines that read the tallies of SCD, OCD, OV, UV and overtemperature, all low bytes before the high ones."""
+    bytes_read = [*zip(LOW_BYTES, (number % 256 for number in five)), *zip(HIGH_BYTES, (number // 256 for number in five))]
+    return "\n".join(f"F {address} {register} 0 * -> re {address} {register} {byte} *" for register, byte in bytes_read)
+
+
+def tally_cases():
+    """02, ticket 7: up by one where a fault goes from unlatched to latched, and nowhere else."""
+    # each fault latches once and stays for some samples; letting go counts nothing, and overtemperature comes back
+    session("each fault", f"""
+        O 5 -> ok
+        {tallied(2, 0, 0, 0, 0, 0)}
+        S 1 1 1 2000 60001 {{calm}} -> st 1 bal 0
+        {tallied(2, 1, 0, 0, 0, 0)}
+        3: S 1 1 1 2000 60001 {{calm}} -> st 1 bal 0
+        S 1 1 0 2000 0 {{calm}} -> st 192 bal 0
+        {tallied(2, 1, 0, 0, 0, 0)}
+        S 1 1 0 2000 10001 {{calm}} -> st 192 bal 0
+        S 1 20000 0 2000 10001 {{calm}} -> st 192 bal 0
+        {tallied(2, 1, 0, 0, 0, 0)}
+        3: S 1 1 0 2000 10001 {{calm}} -> st 2 bal 0
+        {tallied(2, 1, 1, 0, 0, 0)}
+        S 1 1 0 2000 0 {{calm}} -> st 192 bal 0
+        6: S 1 100000 0 2000 0 {{one}} -> st 192 bal 0
+        3: S 1 100000 0 2000 0 {{one}} -> st 68 bal 1
+        {tallied(2, 1, 1, 1, 0, 0)}
+        S 1 1 0 2000 0 {{calm}} -> st 192 bal 0
+        3: S 1 1 0 2000 0 4000 4000 1399 4000 4000 -> st 136 bal 0
+        {tallied(2, 1, 1, 1, 1, 0)}
+        S 1 1 0 2000 0 {{calm}} -> st 192 bal 0
+        3: S 1 1 0 974 0 {{calm}} -> st 16 bal 0
+        {tallied(2, 1, 1, 1, 1, 1)}
+        S 1 1 0 975 0 {{calm}} -> st 192 bal 0
+        S 1 1 0 974 0 {{calm}} -> st 16 bal 0
+        {tallied(2, 1, 1, 1, 1, 2)}
+        """, **FIVE)
+    # SCD, UV and overtemperature at once, OCD behind 20 ms, OV behind 500; all let go at one sample, and two come back at one
+    session("several in one sample", f"""
+        O 5 -> ok
+        S 1 1 1 0 500000 5000 0 0 0 0 -> st 25 bal 0
+        {tallied(2, 1, 0, 0, 1, 1)}
+        S 1 100000 1 0 500000 5000 0 0 0 0 -> st 27 bal 0
+        {tallied(2, 1, 1, 0, 1, 1)}
+        4: S 1 100000 1 0 500000 5000 0 0 0 0 -> st 27 bal 0
+        S 1 100000 1 0 500000 5000 0 0 0 0 -> st 31 bal 1
+        {tallied(2, 1, 1, 1, 1, 1)}
+        S 1 1 0 975 10000 {{calm}} -> st 192 bal 0
+        {tallied(2, 1, 1, 1, 1, 1)}
+        S 1 1 0 2000 60001 0 4000 4000 4000 4000 -> st 9 bal 0
+        {tallied(2, 2, 1, 1, 2, 1)}
+        """, **FIVE)
+    # the first sample under the level lets OV go and latches UV; a second cell past a level is no second latching
+    session("one goes as another comes; a fault is not a cell", f"""
+        O 5 -> ok
+        6: S 1 100000 0 2000 0 {{both}} -> st 192 bal 0
+        S 1 100000 0 2000 0 {{both}} -> st 68 bal 2
+        {tallied(2, 0, 0, 1, 0, 0)}
+        S 1 1 0 2000 0 1399 1399 4000 4000 4000 -> st 136 bal 0
+        S 1 1 0 2000 0 4000 4000 4000 1399 4000 -> st 136 bal 0
+        {tallied(2, 0, 0, 1, 1, 0)}
+        """, **FIVE)
+    session("refused samples and other boards", f"""
+        O 5 5 -> ok
+        S 1 0 1 974 60001 {{calm}} -> no 4
+        S 1 1 2 974 60001 {{calm}} -> no 5
+        S 1 1 1 974 60001 {{calm}} 4000 -> no 3
+        S 3 1 1 974 60001 {{calm}} -> no 2
+        {tallied(2, 0, 0, 0, 0, 0)}
+        S 2 1 1 2000 60001 {{calm}} -> st 1 bal 0
+        S 2 0 0 2000 0 {{calm}} -> no 4
+        S 2 1 1 2000 60001 {{calm}} -> st 1 bal 0
+        S 1 1 0 974 0 {{calm}} -> st 16 bal 0
+        {tallied(2, 0, 0, 0, 0, 1)}
+        {tallied(4, 1, 0, 0, 0, 0)}
+        O 5 5 6 4 -> no 1
+        {tallied(4, 1, 0, 0, 0, 0)}
+        O 5 5 -> ok
+        {tallied(2, 0, 0, 0, 0, 0)}
+        {tallied(4, 0, 0, 0, 0, 0)}
+        """, **FIVE)
+    # equal sets, a spent cycle, crossed levels, and no cycle left; the latch outlasts them and counts no second time
+    session("programming leaves the tallies", f"""
+        O 5 -> ok
+        S 1 1 1 2000 60001 {{calm}} -> st 1 bal 0
+        S 1 1 0 2000 0 {{calm}} -> st 192 bal 0
+        S 1 1 1 974 60001 {{calm}} -> st 17 bal 0
+        F 3 11 65 234 -> re 3 11 0 *
+        {tallied(2, 2, 0, 0, 0, 1)}
+        F 3 8 1 * -> re 3 8 1 *
+        F 3 11 65 234 -> re 3 11 1 *
+        {tallied(2, 2, 0, 0, 0, 1)}
+        2: S 1 1 1 974 60001 {{calm}} -> st 17 bal 0
+        {tallied(2, 2, 0, 0, 0, 1)}
+        F 3 9 10 54 -> re 3 9 10 54
+        F 3 11 65 234 -> no 13
+        F 3 9 1 * -> re 3 9 1 *
+        F 3 11 65 234 -> re 3 11 2 *
+        F 3 9 2 * -> re 3 9 2 *
+        F 3 11 65 234 -> re 3 11 3 *
+        F 3 9 3 * -> re 3 9 3 *
+        F 3 11 65 234 -> no 11
+        {tallied(2, 2, 0, 0, 0, 1)}
+        S 1 1 0 974 0 {{calm}} -> st 16 bal 0
+        S 1 1 1 974 60001 {{calm}} -> st 17 bal 0
+        {tallied(2, 3, 0, 0, 0, 1)}
+        """, **FIVE)
+    # 255 is one byte, 256 two: each byte is of the tally at its own read, whichever was read before
+    often = "S 1 1 1 2000 60001 {calm} -> st 1 bal 0\nS 1 1 0 2000 0 {calm} -> st 192 bal 0\n"
+    session("past one byte", f"""
+        O 5 -> ok
+        {often * 255}{tallied(2, 255, 0, 0, 0, 0)}
+        F 2 16 0 * -> re 2 16 255 *
+        {often}F 2 24 0 * -> re 2 24 1 *
+        F 2 16 0 * -> re 2 16 0 *
+        {often}F 2 16 0 * -> re 2 16 1 *
+        {often * 255}F 2 24 0 * -> re 2 24 2 *
+        {tallied(2, 512, 0, 0, 0, 0)}
+        """, **FIVE)
+
+
+def byte_read(stack, register):
+    """What a read of that register of board 1 gives."""
+    reply = bytearray(4)
+    stack.frame([2, register, 0, long_division([2, register, 0])], reply)
+    return reply[2]
+
+
+def tally_tops():
+    """02, ticket 7: a tally stops at 65,535, by itself; the others go on."""
+    for latched, wanted in ((0, 0), (1, 1), (65534, 65534), (65535, 65535), (65536, 65535), (65537, 65535), (131071, 65535),
+                            (131073, 65535)):
+        latchings = [{"SCD", "UV"}] * latched + [set()] * 3 + [{"UV"}]
+        expect(f"tally of {latched} latchings", wanted, tally(latchings, "SCD"))
+        expect(f"tally of {latched} latchings and one", min(latched + 1, 65535), tally(latchings, "UV"))
+        expect(f"tally of none beside {latched}", 0, tally(latchings, "OV"))
+    hot, cool, both = (Sample(1, 0, thermistor, shunt, (4000,) * 5) for thermistor, shunt in ((974, 0), (975, 0), (974, 60001)))
+    stack = Stack(stand_alone([5]))
+    for _ in range(65534):
+        stack.sample(1, hot)
+        stack.sample(1, cool)
+    for sample, wanted in ((both, (1, 255, 0, 255)), (cool, (1, 255, 0, 255)), (hot, (1, 255, 0, 255)), (cool, (1, 255, 0, 255)),
+                           (both, (2, 255, 0, 255))):
+        stack.sample(1, sample)
+        expect("tallies about the stop", wanted, tuple(byte_read(stack, register) for register in (16, 20, 24, 28)))
+
+
+def tally_registers():
+    """02, ticket 7: registers 16 to 20 and 24 to 28 can be read and not written; 9 goes before 10."""
+    for register in LOW_BYTES + HIGH_BYTES:
+        told = 2 if register == 16 else 0
+        session(f"register {register}", f"""
+            O 5 -> ok
+            S 1 1 1 2000 60001 {{calm}} -> st 1 bal 0
+            S 1 1 0 2000 0 {{calm}} -> st 192 bal 0
+            S 1 1 1 2000 60001 {{calm}} -> st 1 bal 0
+            F 2 {register} 0 -> no 6
+            F 4 {register} 0 * -> no 2
+            F 5 {register} 1 * -> no 2
+            F 3 {register} 0 * -> no 9
+            F 3 {register} 1 * -> no 9
+            F 3 {register} 65 * -> no 9
+            F 3 {register} 255 * -> no 9
+            F 2 {register} 1 * -> no 10
+            F 2 {register} 65 * -> no 10
+            F 2 {register} 255 * -> no 10
+            2: F 2 {register} 0 * -> re 2 {register} {told} *
+            {tallied(2, 2, 0, 0, 0, 0)}
+            """, **FIVE)
+
+
 def unknown_registers():
     """01, Refusal numbers: 9 for every register that is not in the map."""
-    for register in (*range(1, 6), *range(12, 256)):
+    for register in (*range(1, 6), *range(12, 16), *range(21, 24), *range(29, 256)):
         for address in (2, 3):
             session(f"register {register}", f"""
                 O 5 -> ok
                 F {address} {register} 0 * -> no 9
+                F {address} {register} 65 * -> no 9
                 """)
     # 02, ticket 3: register 1 is a host board's, so that here no value is looked at
     for value in (1, 6, 7, 8, 65, 255):
@@ -834,8 +1010,8 @@ def garden_levels():
 def main():
     """Run all; exit 1 if anything differs."""
     for part in (paper_session, crc_values, settings_tables, marked_cases, run_cases,
-                 fault_cases, bleeding_cases, frame_cases, crossed_cases, unknown_registers,
-                 sample_refusals, opening_cases, raw_lines, input_cases, buffer_cases,
+                 fault_cases, bleeding_cases, frame_cases, crossed_cases, tally_cases, tally_tops,
+                 tally_registers, unknown_registers, sample_refusals, opening_cases, raw_lines, input_cases, buffer_cases,
                  kind_cases, count_cases, garden_levels):
         part()
     sys.exit(1 if FAILED else 0)

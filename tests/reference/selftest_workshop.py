@@ -10,7 +10,7 @@ import sys
 sys.dont_write_bytecode = True
 
 from reference import split_lines  # noqa: E402
-from selftest import FAILED, FIVE, GARDEN_ROWS, expect, session  # noqa: E402
+from selftest import FAILED, FIVE, GARDEN_ROWS, HIGH_BYTES, LOW_BYTES, expect, session, tallied  # noqa: E402
 from workshop import Workshop  # noqa: E402
 
 
@@ -530,6 +530,7 @@ def host_rows():
         F 5 1 7 192 -> re 5 1 7 192
         F 5 1 6 199 -> re 5 1 6 199
         F 4 0 0 171 -> re 4 0 192 229
+        F 4 16 0 252 -> re 4 16 1 251
         """, **FIVE)
 
 
@@ -803,7 +804,7 @@ def garden_load():
 
 
 def garden_registers():
-    """02, ticket 5: only register 0 answers, and only to reads; 9 goes before 10."""
+    """02, tickets 5 and 7: only register 0 and the tallies answer, and only to reads; 9 goes before 10."""
     told("order of refusals", """
         X g3/0/1 -> ok
         F 2 0 0 -> no 6
@@ -819,10 +820,11 @@ def garden_registers():
         F@9 2 0 0 214 -> re 2 0 68 *
         """)
     for register in range(1, 256):
+        there = register in LOW_BYTES + HIGH_BYTES
         told(f"register {register} of a garden board", f"""
             X g3/0/1 s5 -> ok
-            F 2 {register} 0 * -> no 9
-            F 2 {register} 65 * -> no 9
+            F 2 {register} 0 * -> {f"re 2 {register} 0 *" if there else "no 9"}
+            F 2 {register} 65 * -> no {10 if there else 9}
             F 3 {register} 0 * -> no 9
             F 3 {register} 6 * -> no 9
             F 3 {register} 65 * -> no 9
@@ -866,6 +868,112 @@ def garden_rows():
         R -> ln 1 chg 0 dsg 1 at 2 2
         S 1 1 0 2000 0 3999 3999 3999 3999 3999 -> st 192 bal 0
         R -> ln 1 chg 0 dsg 1 at 2 2
+        """, **FIVE)
+
+
+def host_tallies():
+    """02, ticket 7: a latch that stays counts once; one that is cleared by hand and sets again counts again."""
+    # the short circuit goes and comes back under the latch; a clear that finds it still there clears and counts nothing
+    told("SCD", f"""
+        X h5 -> ok
+        {tallied(2, 0, 0, 0, 0, 0)}
+        S 1 1 1 2000 60001 {{calm}} -> st 1 bal 0
+        {tallied(2, 1, 0, 0, 0, 0)}
+        2: S 1 1 0 2000 0 {{calm}} -> st 1 bal 0
+        S 1 1 1 2000 60001 {{calm}} -> st 1 bal 0
+        F 3 1 1 * -> re 3 1 1 *
+        F 3 1 0 * -> re 3 1 0 *
+        F 2 0 0 214 -> re 2 0 1 *
+        S 1 1 1 2000 60001 {{calm}} -> st 1 bal 0
+        {tallied(2, 1, 0, 0, 0, 0)}
+        S 1 1 0 2000 0 {{calm}} -> st 1 bal 0
+        F 3 1 1 * -> re 3 1 1 *
+        F 3 1 0 * -> re 3 1 0 *
+        F 2 0 0 214 -> re 2 0 0 *
+        {tallied(2, 1, 0, 0, 0, 0)}
+        S 1 1 1 2000 60001 {{calm}} -> st 1 bal 0
+        {tallied(2, 2, 0, 0, 0, 0)}
+        F 3 8 1 * -> re 3 8 1 *
+        F 3 11 65 234 -> re 3 11 1 *
+        S 1 1 1 2000 60001 {{calm}} -> st 1 bal 0
+        {tallied(2, 2, 0, 0, 0, 0)}
+        """, **FIVE)
+    # UV latches at once, OCD behind 20 ms and OV behind 500; overtemperature goes by itself. One clear takes the three others, of
+    # which UV and OV come back; the flag of cell 1 stays at 4149
+    told("the others", f"""
+        X h5 -> ok
+        S 1 1 0 2000 10001 4151 1399 4000 4000 4000 -> st 8 bal 0
+        5: S 1 100000 0 2000 10001 4151 1399 4000 4000 4000 -> st 10 bal 0
+        S 1 1 0 2000 10001 4151 1399 4000 4000 4000 -> st 14 bal 1
+        {tallied(2, 0, 1, 1, 1, 0)}
+        S 1 1 0 974 0 4149 1401 4000 4000 4000 -> st 30 bal 1
+        S 1 1 0 975 0 4149 1401 4000 4000 4000 -> st 14 bal 1
+        S 1 1 0 974 0 4149 1401 4000 4000 4000 -> st 30 bal 1
+        {tallied(2, 0, 1, 1, 1, 2)}
+        F 3 1 1 * -> re 3 1 1 *
+        F 3 1 0 * -> re 3 1 0 *
+        F 2 0 0 214 -> re 2 0 16 *
+        {tallied(2, 0, 1, 1, 1, 2)}
+        S 1 1 0 974 10001 4151 1399 4000 4000 4000 -> st 24 bal 1
+        {tallied(2, 0, 1, 1, 2, 2)}
+        5: S 1 100000 0 974 0 4151 1401 4000 4000 4000 -> st 24 bal 1
+        S 1 1 0 974 0 4151 1401 4000 4000 4000 -> st 28 bal 1
+        {tallied(2, 0, 1, 2, 2, 2)}
+        """, **FIVE)
+
+
+def garden_tallies():
+    """02, ticket 7: a garden board has OV and UV to tally; the OV latch that it starts with is none."""
+    # the last sample latches OV and lets UV go, for which it was inside twice
+    told("tallies with trigger 2", f"""
+        X g3/0/2 -> ok
+        {tallied(2, 0, 0, 0, 0, 0)}
+        {{over}} -> st 68 bal 0
+        {{calm}} -> st 68 bal 0
+        {{calm}} -> st 192 bal 0
+        {tallied(2, 0, 0, 0, 0, 0)}
+        {{over}} -> st 192 bal 0
+        {tallied(2, 0, 0, 0, 0, 0)}
+        3: {{over}} -> st 68 bal 0
+        {tallied(2, 0, 0, 1, 0, 0)}
+        {{calm}} -> st 68 bal 0
+        {{calm}} -> st 192 bal 0
+        {{under}} -> st 192 bal 0
+        3: {{under}} -> st 136 bal 0
+        {tallied(2, 0, 0, 1, 1, 0)}
+        {{over}} -> st 136 bal 0
+        {{over}} -> st 68 bal 0
+        {tallied(2, 0, 0, 2, 1, 0)}
+        """, **THREE)
+    # the first sample lets OV go and latches UV; then both go and both come
+    told("several in one sample", f"""
+        X g3/0/1 -> ok
+        {{under}} -> st 136 bal 0
+        {tallied(2, 0, 0, 0, 1, 0)}
+        {{calm}} -> st 192 bal 0
+        S 1 1 0 0 500000 5000 0 0 -> st 12 bal 0
+        {tallied(2, 0, 0, 1, 2, 0)}
+        {{calm}} -> st 192 bal 0
+        S 1 0 0 0 500000 5000 0 0 -> no 4
+        {tallied(2, 0, 0, 1, 2, 0)}
+        """, **THREE)
+    often = "{over} -> st 68 bal 0\n{calm} -> st 192 bal 0\n"
+    told("past one byte", f"""
+        X g3/2/1 -> ok
+        {{calm}} -> st 192 bal 0
+        {often * 255}{tallied(2, 0, 0, 255, 0, 0)}
+        {often}{tallied(2, 0, 0, 256, 0, 0)}
+        """, **THREE)
+    told("each board its own", f"""
+        X s5 g3/0/1 h5 -> ok
+        S 2 1 0 2000 0 3600 3600 3600 -> st 192 bal 0
+        S 1 1 1 2000 60001 {{calm}} -> st 1 bal 0
+        S 3 1 1 2000 60001 {{calm}} -> st 1 bal 0
+        S 2 1 0 2000 0 4201 3600 3600 -> st 68 bal 0
+        S 3 1 0 974 0 {{calm}} -> st 17 bal 0
+        {tallied(2, 1, 0, 0, 0, 0)}
+        {tallied(4, 0, 0, 1, 0, 0)}
+        {tallied(6, 1, 0, 0, 0, 1)}
         """, **FIVE)
 
 
@@ -947,7 +1055,7 @@ def main():
     """Run all; exit 1 if anything differs."""
     for part in (openings, long_lists, rooms, host_register, host_clears, host_levels, host_bits, host_last_sample, host_rows,
                  garden_openings, garden_levels, garden_counts, garden_cells, garden_load, garden_registers, garden_rows,
-                 later_forms, raw_lines, long_lengths, input_cases):
+                 host_tallies, garden_tallies, later_forms, raw_lines, long_lengths, input_cases):
         part()
     sys.exit(1 if FAILED else 0)
 
