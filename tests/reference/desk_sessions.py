@@ -7,7 +7,8 @@ lists, long lines. A form that a request brings is one more scenario here.
 Rows have host boards among the others. Their latches stay, so that most
 scenes on them end in writes to register 1, after samples about the levels
 that work at the write. And they have garden boards, which count samples: most
-scenes on them go about as many samples to one side as the trigger is.
+scenes on them go about as many samples to one side as the trigger is. On each
+kind faults latch over and over, so that its tallies have something to say.
 """
 
 from reference import DEVICES, GARDEN, HOST, STAND_ALONE, Plan, Settings, crc8
@@ -35,6 +36,8 @@ def garden_settings(row, trigger):
 
 class GardenAim(Aim):
     """A rough picture of a garden board, which nothing programs."""
+
+    faults = ("OV", "UV")
 
     def __init__(self, plan):
         super().__init__(plan.cells, GARDEN)
@@ -122,11 +125,6 @@ class DeskMaker(Maker):
                   lambda: self.program(number), lambda: self.stage(number), lambda: self.frame(2 * number, 0, 0),
                   lambda: self.put("R"))()
 
-    def delay(self, aim, fault):
-        """The delay of a fault, by the board's picture."""
-        s = aim.settings
-        return {"OV": s.ov_delay, "UV": s.uv_delay, "OCD": s.ocd_delay, "SCD": s.scd_delay}[fault]
-
     def about(self, number, fault, settings):
         """A sample at a fault's level by these settings, or one off it, and nothing else past any level."""
         aim, off = self.boards[number - 1], self.pick(-1, 0, 0, 1)
@@ -179,7 +177,22 @@ class DeskMaker(Maker):
         hosts = [n for n, aim in enumerate(self.boards, 1) if aim.kind == HOST]
         if hosts and self.chance(0.9):
             number = self.rng.choice(hosts[:2])
-        self.pick(self.held, self.held, self.clear, self.heated)(number)
+        self.pick(self.held, self.held, self.clear, self.heated, self.trips)(number)
+
+    def relieve(self, number, free):
+        """A host clears by hand; a garden board lets go at its trigger."""
+        aim = self.boards[number - 1]
+        for _ in range(min(aim.trigger, FEW) if aim.kind == GARDEN else 1):
+            super().relieve(number, free)
+        if aim.kind == HOST:
+            self.write(number, 1, 1 | self.switches())
+            self.write(number, 1, self.switches())
+
+    def past_delays(self, aim, faults):
+        """A garden board latches at its trigger."""
+        if aim.kind == GARDEN:
+            return [self.elapsed() for _ in range(min(aim.trigger, FEW))]
+        return super().past_delays(aim, faults)
 
     def heated(self, number):
         """Overtemperature takes both bits as it latches, and only then."""
@@ -260,23 +273,23 @@ class DeskMaker(Maker):
         self.look(number)
 
     def unanswered(self, number):
-        """Frames of which a garden board answers only reads of register 0."""
+        """Frames of which a garden board answers only reads of register 0 and of its tallies."""
         for _ in range(self.pick(1, 2, 4)):
-            register = self.pick(0, 0, 1, 6, 11, 16, self.rng.randrange(256))
+            register = self.pick(0, 0, 1, 6, 11, self.rng.randrange(12, 32), self.rng.randrange(256))
             self.frame(2 * number + self.pick(0, 0, 1), register, self.pick(0, 0, 1, 6, 0x41, self.rng.randrange(256)))
 
     def grown(self):
         """A scene of a garden board, where there is one."""
         gardens = [n for n, aim in enumerate(self.boards, 1) if aim.kind == GARDEN]
         if gardens:
-            self.pick(self.filtered, self.filtered, self.filtered, self.heir, self.unanswered)(self.rng.choice(gardens[:2]))
+            self.pick(self.filtered, self.filtered, self.filtered, self.heir, self.trips, self.unanswered)(self.rng.choice(gardens[:2]))
 
     # -- the workshop's own
 
     def short_room(self):
         """A frame with too few bytes lent, of the right length or not."""
         number = self.number()
-        address, register = 2 * number + self.pick(0, 1), self.pick(0, 6, 11, 12)
+        address, register = 2 * number + self.pick(0, 1), self.pick(0, 6, 11, 12, 16)
         data = [address, register, self.pick(0, 0x41, 9), self.rng.randrange(256)]
         if self.chance(0.7):
             data[3] = crc8(data[:3])

@@ -17,6 +17,8 @@ LONGEST_ELAPSED = 100000
 TOUR = [(fault, code) for fault, codes in (("OV", 8), ("UV", 16), ("OCD", 32), ("SCD", 16))
         for code in range(codes)]
 
+TALLY_BYTES = (16, 17, 18, 19, 20, 24, 25, 26, 27, 28)
+
 # `alone`: the session needs a process of its own
 Session = namedtuple("Session", "seed data alone")
 
@@ -25,6 +27,8 @@ Session = namedtuple("Session", "seed data alone")
 
 class Aim:
     """A rough picture of one board, kept only to aim at its edges."""
+
+    faults = ("SCD", "OCD", "OV", "UV", "OT")
 
     def __init__(self, count, kind=STAND_ALONE):
         self.count = count
@@ -300,15 +304,22 @@ class Maker:
 
     def read(self, number):
         """Read one of the registers that hold something, at times with a value; register 1 is a host board's."""
-        register = self.pick(0, 0, 0, 1, 6, 7, 8, 9, 10, 11, 11)
+        register = self.pick(0, 0, 0, 1, 6, 7, 8, 9, 10, 11, 11, *TALLY_BYTES)
         value = self.pick(1, 0x41, 128, 255) if self.chance(0.08) else 0
         self.frame(2 * number, register, value)
+
+    def tallies(self, number, count=None):
+        """Read some tallies in any order; at times a frame among them that gets no answer, to a tally or to a register beside."""
+        for register in self.rng.sample(TALLY_BYTES, count or self.pick(1, 2, 5, 10)):
+            if self.chance(0.1):
+                self.frame(2 * number + self.pick(0, 1), self.pick(register, self.rng.randrange(12, 32)), self.pick(0, 1, 0x41, 255))
+            self.frame(2 * number, register, 0)
 
     def odd_frame(self):
         """A frame that is mostly refused."""
         rng, number = self.rng, self.number()
         address = 2 * number + self.pick(0, 1)
-        register = self.pick(0, 1, 5, 6, 7, 8, 9, 10, 11, 12, rng.randrange(256))
+        register = self.pick(0, 1, 5, 6, 7, 8, 9, 10, 11, 12, rng.randrange(12, 32), rng.randrange(256))
         value = self.pick(0, 0, 1, 6, 7, 8, 0x1F, 0x20, 0x40, 0x41, 0x42, 0x80, 0xFF, rng.randrange(256))
         what = rng.randrange(6)
         if what == 0:
@@ -342,7 +353,7 @@ class Maker:
         if self.chance(0.05):
             start, size = 0, 256
         elif self.chance(0.5):
-            start = 0
+            start = self.pick(0, 12, 16)
         for byte in ((start + i) % 256 for i in range(size)):
             if what == 0:
                 self.frame(2 * number, byte, 0)
@@ -544,6 +555,61 @@ class Maker:
             if self.chance(0.3):
                 self.look(number)
 
+    def tripped(self, aim, faults):
+        """Fields that hold the conditions of all these faults, and fields at which all of them let go."""
+        s, (high, low) = aim.settings, self.rng.sample(range(aim.count), 2)
+        free = {"load": 0, "thermistor": 2000, "shunt": 0, "cells": [3500] * aim.count}
+        held = dict(free, load=self.pick(0, 1), cells=list(free["cells"]))
+        if "OV" in faults:
+            held["cells"][high] = s.ov_level + 1
+        if "UV" in faults:
+            held["cells"][low] = s.uv_level - 1
+        if "OCD" in faults:
+            held["shunt"] = s.ocd_level + 1
+        if "SCD" in faults:
+            held["shunt"] = s.scd_level + 1
+        if "OT" in faults:
+            held["thermistor"] = 974
+        return held, free
+
+    def trip(self, number, faults):
+        """Hold the conditions of these faults past their delays, then let go."""
+        aim = self.boards[number - 1]
+        held, free = self.tripped(aim, faults)
+        for elapsed in self.past_delays(aim, faults):
+            self.sample(number, elapsed, held)
+        self.relieve(number, free)
+
+    def past_delays(self, aim, faults):
+        """Elapsed times that pass the delays of all these faults; where there is none, one sample does."""
+        longest = max(self.delay(aim, fault) for fault in faults)
+        return self.parts(longest, longest + 1) if longest else [self.elapsed()]
+
+    def delay(self, aim, fault):
+        """The delay of a fault, by the board's picture."""
+        s = aim.settings
+        return {"OV": s.ov_delay, "UV": s.uv_delay, "OCD": s.ocd_delay, "SCD": s.scd_delay, "OT": 0}[fault]
+
+    def relieve(self, number, free):
+        """What it takes until every latch has let go."""
+        self.sample(number, self.elapsed(), free)
+
+    def trips(self, number):
+        """The same faults again and again, so that tallies grow; where one sample latches them, at times past one byte."""
+        aim = self.boards[number - 1]
+        faults, times = self.rng.sample(aim.faults, self.pick(1, 1, 2)), self.pick(2, 2, 3, 5)
+        quick = [fault for fault in faults if self.delay(aim, fault) == 0]
+        often = bool(quick) and self.chance(0.15)
+        if often:
+            faults, times = quick, self.rng.randint(255, 262)
+        for _ in range(times):
+            self.trip(number, faults)
+            if self.chance(self.breaks):
+                self.pick(self.refused_sample, self.program, self.stage, self.tallies)(number)
+            if often and any(self.delay(aim, fault) > 0 for fault in faults):
+                break           # programmed to wait
+        self.tallies(number, len(TALLY_BYTES))
+
     def walk(self, number):
         """Every cell keeps its reading for a while, then takes another edge."""
         row, aim = self.boards, self.boards[number - 1]
@@ -583,6 +649,8 @@ class Maker:
             self.put("R")
         if self.chance(0.3):
             self.frame(2 * number, 0, 0)
+        if self.chance(0.2):
+            self.tallies(number)
 
     def interrupt(self, number):
         """Something between two samples of a stretch."""
@@ -725,6 +793,7 @@ class Maker:
             (3, lambda: self.turns(number)),
             (4, lambda: self.crowd(number)),
             (3, lambda: self.heat(number)),
+            (3, lambda: self.trips(number)),
             (3, lambda: self.walk(number)),
             (6, lambda: self.reprogram(number)),
             (4, lambda: self.crossing(number)),
