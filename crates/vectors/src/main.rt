@@ -301,6 +301,7 @@ fn host_board() {
 }
 
 // A garden board: it starts with OV latched, counts up and down, and lets go by its recovery counts; UV waits for the load in this row.
+// Its tallies have the OV latch that came and not the one it started with.
 fn garden_board() {
     let s = one_board(board::garden_plan(5, 0, 2));
     let s = sent(s, 2, 0, 0);
@@ -315,6 +316,7 @@ fn garden_board() {
     let s = sampled(s, 100000, 3301, 3301, 0, 2000, 1);
     let s = sampled(s, 100000, 3301, 3301, 60001, 100, 0);
     let s = sampled(s, 100000, 3301, 3301, 60001, 100, 0);
+    let s = sent(s, 2, 18, 0);
     let s = sent(s, 2, 1, 0);
     let s = sent(s, 2, 6, 0);
     let s = sent(s, 3, 11, 65);
@@ -322,6 +324,32 @@ fn garden_board() {
     sent(s, 2, 0, 1);
     let large = one_board(board::garden_plan(6, 0, 2));
     sent(large, 2, 0, 0);
+}
+
+// Two short circuits, the first over two samples and the second with heat: SCD has latched twice and overtemperature once. Nothing
+// writes a tally, a read carries 0, and register 21 is none.
+fn tallies() {
+    let s = one_board(board::stand_alone(5));
+    let s = sent(s, 2, 16, 0);
+    let s = shunt_at(s, 1, 60001, 1);
+    let s = shunt_at(s, 1, 60001, 1);
+    let s = sent(s, 2, 16, 0);
+    let s = shunt_at(s, 1, 0, 0);
+    let s = sampled(s, 1, 4000, 4000, 60001, 974, 1);
+    let s = sent(s, 2, 16, 0);
+    let s = sent(s, 2, 17, 0);
+    let s = sent(s, 2, 18, 0);
+    let s = sent(s, 2, 19, 0);
+    let s = sent(s, 2, 20, 0);
+    let s = sent(s, 2, 24, 0);
+    let s = sent(s, 2, 25, 0);
+    let s = sent(s, 2, 26, 0);
+    let s = sent(s, 2, 27, 0);
+    let s = sent(s, 2, 28, 0);
+    let s = sent(s, 3, 16, 0);
+    let s = sent(s, 3, 28, 1);
+    let s = sent(s, 2, 24, 1);
+    sent(s, 2, 21, 0);
 }
 
 fn main() {
@@ -335,4 +363,5 @@ fn main() {
     crossed_levels();
     host_board();
     garden_board();
+    tallies();
 }
