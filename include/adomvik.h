@@ -51,7 +51,7 @@ enum {
     ADOMVIK_FRAME_LENGTH = 6, /* the frame is not 4 bytes */
     ADOMVIK_REPLY_ROOM = 7,   /* the reply buffer is under 4 bytes */
     ADOMVIK_CHECK_BYTE = 8,   /* the check byte is wrong */
-    ADOMVIK_NO_REGISTER = 9,  /* a board of that kind has no such register, or a write to register 0 */
+    ADOMVIK_NO_REGISTER = 9,  /* a board of that kind has no such register, or a write to one that is only read */
     ADOMVIK_BAD_VALUE = 10,   /* a read with a value, or a write of one that the register does not take */
     ADOMVIK_NO_CYCLE = 11,    /* programming staged settings unlike the working ones, three cycles already spent */
     ADOMVIK_CROSSED = 13      /* programming staged settings whose SCD level is not above their OCD level */
@@ -70,7 +70,8 @@ enum {
 
 /* Kinds of board. The four faults SCD, OCD, OV and UV of a stand-alone board let go by themselves; those of a host board stay
  * until its host clears them by register 1, and its switches are on only where the host has set their bits there. A garden board
- * is a small pack with OV and UV alone, by counts of samples: no settings, no bleeding, and register 0 is all that it has. */
+ * is a small pack with OV and UV alone, by counts of samples: no settings, no bleeding, and of the registers only 0 and those of
+ * the tallies. */
 enum {
     ADOMVIK_STAND_ALONE = 0,
     ADOMVIK_HOST = 1,
@@ -154,14 +155,22 @@ typedef struct adomvik_filter {
     uint8_t uv_back; /* that of UV */
 } adomvik_filter;
 
-/* One board. Records are made by an opening; copy and keep them as plain bytes. Three bytes of padding lie behind `garden`, and
- * two records that are equal otherwise may differ in them: compare records by their fields.
+/* How often each fault has latched since the opening, on every kind of board; a tally stops at 65,535. The OV latch that a garden
+ * board starts with is not counted, a latch that was cleared and sets again is. Registers 16 to 20 read the low bytes in this
+ * order, 24 to 28 the high bytes, each as the tally is at that read. */
+typedef struct adomvik_tallies {
+    uint16_t scd, ocd, ov, uv, hot;
+} adomvik_tallies;
+
+/* One board. Records are made by an opening; copy and keep them as plain bytes. A byte of padding lies between `garden` and
+ * `tallies`, and two records that are equal otherwise may differ in it: compare records by their fields.
  *
- * The record had 104 bytes before there were host boards, 120 before there were garden boards, and has 124 now. Host boards brought
- * `kind`, in a byte that was padding, and behind all others `last` and `control`; garden boards brought `garden`, which begins in
- * what was padding. No other field has moved. What was kept is good still. 120 bytes are a stand-alone or a host board's: put
- * anything behind them, since only a garden board asks for `garden`. 104 bytes are a stand-alone board's: give it kind 0, and
- * anything as the last 20 bytes. */
+ * The record had 104 bytes before there were host boards, 120 before there were garden boards, 124 before there were tallies, and
+ * has 132 now. Host boards brought `kind`, in a byte that was padding, and behind all others `last` and `control`; garden boards
+ * brought `garden`, and then came `tallies`, each beginning in what was padding. No other field has moved. What was kept is good
+ * still: give it zeros as its tallies, from byte 122 on. 124 bytes are a board's of any kind. 120 are a stand-alone or a host
+ * board's, and `garden` may be anything, since only a garden board asks for it. 104 are a stand-alone board's: give it kind 0, and
+ * anything as `last`, `control` and `garden`. */
 typedef struct adomvik_board {
     uint8_t count;              /* cells */
     uint8_t latches;            /* the low five bits of register 0 */
@@ -175,6 +184,7 @@ typedef struct adomvik_board {
     adomvik_last last;
     uint8_t control;            /* register 1 */
     adomvik_filter garden;      /* of a garden board */
+    adomvik_tallies tallies;
 } adomvik_board;
 
 /* What a sample reads beside the cells. It is passed by value. */
@@ -201,11 +211,12 @@ typedef struct adomvik_reading {
 } adomvik_reading;
 
 ADOMVIK_ASSERT(sizeof(adomvik_plan) == 4 && ADOMVIK_ALIGN(adomvik_plan) == 4, "a plan is a number of 4 bytes");
-ADOMVIK_ASSERT(sizeof(adomvik_board) == 124 && ADOMVIK_ALIGN(adomvik_board) == 4, "a board's record is 124 bytes, aligned to 4");
+ADOMVIK_ASSERT(sizeof(adomvik_board) == 132 && ADOMVIK_ALIGN(adomvik_board) == 4, "a board's record is 132 bytes, aligned to 4");
 ADOMVIK_ASSERT(offsetof(adomvik_board, count) == 0 && offsetof(adomvik_board, latches) == 1 && offsetof(adomvik_board, cycles) == 2
         && offsetof(adomvik_board, kind) == 3 && offsetof(adomvik_board, flags) == 4 && offsetof(adomvik_board, working) == 6
         && offsetof(adomvik_board, staged) == 11 && offsetof(adomvik_board, currents) == 16 && offsetof(adomvik_board, cells) == 24
-        && offsetof(adomvik_board, last) == 104 && offsetof(adomvik_board, control) == 116 && offsetof(adomvik_board, garden) == 117,
+        && offsetof(adomvik_board, last) == 104 && offsetof(adomvik_board, control) == 116 && offsetof(adomvik_board, garden) == 117
+        && offsetof(adomvik_board, tallies) == 122,
     "a board's fields lie where the library has them");
 ADOMVIK_ASSERT(sizeof(adomvik_settings) == 5 && offsetof(adomvik_settings, r6) == 0 && offsetof(adomvik_settings, r7) == 1
         && offsetof(adomvik_settings, r8) == 2 && offsetof(adomvik_settings, r9) == 3 && offsetof(adomvik_settings, r10) == 4, "settings are 5 bytes");
@@ -215,6 +226,9 @@ ADOMVIK_ASSERT(sizeof(adomvik_last) == 12 && offsetof(adomvik_last, low) == 0 &&
         && offsetof(adomvik_last, shunt) == 8, "a last sample is three numbers of 4 bytes");
 ADOMVIK_ASSERT(sizeof(adomvik_filter) == 4 && offsetof(adomvik_filter, row) == 0 && offsetof(adomvik_filter, trigger) == 1
         && offsetof(adomvik_filter, ov_back) == 2 && offsetof(adomvik_filter, uv_back) == 3, "a garden board's own part is 4 bytes");
+ADOMVIK_ASSERT(sizeof(adomvik_tallies) == 10 && offsetof(adomvik_tallies, scd) == 0 && offsetof(adomvik_tallies, ocd) == 2
+        && offsetof(adomvik_tallies, ov) == 4 && offsetof(adomvik_tallies, uv) == 6 && offsetof(adomvik_tallies, hot) == 8,
+    "tallies are five numbers of 2 bytes");
 ADOMVIK_ASSERT(sizeof(adomvik_readings) == 16 && ADOMVIK_ALIGN(adomvik_readings) == 4, "readings are four numbers of 4 bytes");
 ADOMVIK_ASSERT(sizeof(adomvik_sampled) == 4 && offsetof(adomvik_sampled, bled) == 2, "an answer to a sample is 4 bytes");
 ADOMVIK_ASSERT(sizeof(adomvik_reading) == 5, "a reading is 5 bytes");

@@ -1,7 +1,7 @@
 // The types of adomvik.mjs.
 
 /** The bytes of a record. */
-export const RECORD_BYTES: 124;
+export const RECORD_BYTES: 132;
 /** The most boards that a stack has. */
 export const BOARDS_MAX: 16;
 /** Register 1 of a host board: a write that takes this bit from 1 to 0 clears the faults that are over on the last sample. */
@@ -69,7 +69,7 @@ export class Plan {
   static host(cells: number): Plan;
   /**
    * A garden board of 3 to 5 cells, by a row of the device table and a trigger of 1 to 255: so many counts latch OV or UV, and so
-   * many let it go. It starts with OV latched and has register 0 alone.
+   * many let it go. It starts with OV latched, and of the registers has only 0 and those of the tallies.
    */
   static garden(cells: number, row: number, trigger: number): Plan;
 }

@@ -4,7 +4,7 @@
 // table; a refused act has changed nothing. adomvik.d.ts has the types.
 
 /** The bytes of a record. */
-export const RECORD_BYTES = 124;
+export const RECORD_BYTES = 132;
 /** The most boards that a stack has. */
 export const BOARDS_MAX = 16;
 
@@ -40,7 +40,7 @@ const WHY = {
   6: "the frame is not 4 bytes",
   7: "the reply buffer is under 4 bytes",
   8: "the check byte is wrong",
-  9: "a board of that kind has no such register, or a write to register 0",
+  9: "a board of that kind has no such register, or a write to one that is only read",
   10: "a read with a value, or a write of one that the register does not take",
   11: "programming staged settings unlike the working ones, three cycles already spent",
   13: "programming staged settings whose SCD level is not above their OCD level",

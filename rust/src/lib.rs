@@ -38,6 +38,20 @@
 //! assert!(row.sample(1, readings, &[3_600; 3])?.chg_on());
 //! # Ok::<(), adomvik::Refusal>(())
 //! ```
+//!
+//! Every board tallies how often SCD, OCD, OV, UV and overtemperature have latched, each up to 65,535. Registers 16 to 20 read the
+//! low bytes in this order, 24 to 28 the high bytes:
+//!
+//! ```
+//! use adomvik::{Readings, Row};
+//!
+//! let mut row = Row::open([5])?;
+//! let hot = Readings { elapsed: 1_000, shunt: 0, thermistor: 900, load: 0 };
+//! row.sample(1, hot, &[3_600; 5])?;
+//! let (low, high) = (row.frame(&[2, 20, 0, 213])?[2], row.frame(&[2, 28, 0, 125])?[2]);
+//! assert_eq!(u16::from_le_bytes([low, high]), 1);
+//! # Ok::<(), adomvik::Refusal>(())
+//! ```
 #![no_std]
 #![warn(missing_docs)]
 
@@ -47,7 +61,7 @@ use core::mem::{align_of, size_of};
 /// The most boards that a stack has.
 pub const BOARDS_MAX: usize = 16;
 /// The bytes of a record.
-pub const RECORD_BYTES: usize = 124;
+pub const RECORD_BYTES: usize = 132;
 /// The bytes of a frame and of a reply.
 pub const FRAME_BYTES: usize = 4;
 
@@ -85,7 +99,7 @@ pub enum Refusal {
     ReplyRoom = 7,
     /// The check byte is wrong.
     CheckByte = 8,
-    /// A board of that kind has no such register, or a write to register 0.
+    /// A board of that kind has no such register, or a write to one that is only read.
     NoRegister = 9,
     /// A read with a value, or a write of one that the register does not take.
     BadValue = 10,
@@ -152,7 +166,7 @@ impl Plan {
     }
 
     /// A garden board of 3 to 5 cells, by a row of the device table and a trigger of 1 to 255: so many counts latch OV or UV, and
-    /// so many let it go. It starts with OV latched and has register 0 alone.
+    /// so many let it go. It starts with OV latched, and of the registers has only 0 and those of the tallies.
     pub const fn garden(cells: u32, row: u32, trigger: u32) -> Plan {
         Plan::of(Plan::GARDEN, cells, row, trigger)
     }
@@ -195,11 +209,19 @@ struct Filter {
     uv_back: u8,
 }
 
+/// How often each fault has latched, in the order of the status byte's bits; each stops at 65,535.
+#[derive(Clone, Copy)]
+#[repr(C)]
+struct Tallies {
+    faults: [u16; 5],
+}
+
 /// One board's record. It is made by an opening, or from bytes that were kept: every pattern of bytes is a record.
 ///
-/// It had 104 bytes before there were host boards, and 120 before there were garden boards. 120 bytes that were kept are a
-/// stand-alone or a host board's, and the 4 that come behind may be anything. 104 are a stand-alone board's: byte 3, which was
-/// padding, has to be 0 now, and the 20 that come behind may be anything.
+/// It had 104 bytes before there were host boards, 120 before there were garden boards, and 124 before there were tallies. What was
+/// kept gets zeros from byte 122 on, as its tallies. 124 bytes are a board's of any kind. 120 are a stand-alone or a host board's,
+/// and those up to the tallies may be anything. 104 are a stand-alone board's likewise, but byte 3, which was padding, has to be 0
+/// now.
 #[derive(Clone, Copy)]
 #[repr(C)]
 pub struct Board {
@@ -215,6 +237,7 @@ pub struct Board {
     last: Last,
     control: u8,
     garden: Filter,
+    tallies: Tallies,
 }
 
 const _: () = assert!(size_of::<Board>() == RECORD_BYTES && align_of::<Board>() == 4);
@@ -307,6 +330,7 @@ impl Board {
         last: Last { low: 0, high: 0, shunt: 0 },
         control: 0,
         garden: Filter { row: 0, trigger: 0, ov_back: 0, uv_back: 0 },
+        tallies: Tallies { faults: [0; 5] },
     };
 
     /// A sample of this record, with no row looked at.
@@ -340,11 +364,15 @@ impl Board {
         bytes[118] = self.garden.trigger;
         bytes[119] = self.garden.ov_back;
         bytes[120] = self.garden.uv_back;
+        for (place, tally) in bytes[122..].chunks_exact_mut(2).zip(self.tallies.faults) {
+            place.copy_from_slice(&tally.to_le_bytes());
+        }
         bytes
     }
 
     /// The record of kept bytes, whatever they are.
     pub fn from_bytes(bytes: &[u8; RECORD_BYTES]) -> Board {
+        let half = |at: usize| u16::from_le_bytes([bytes[at], bytes[at + 1]]);
         let word = |at: usize| u32::from_le_bytes([bytes[at], bytes[at + 1], bytes[at + 2], bytes[at + 3]]);
         let run = |at: usize| Run { one: word(at), other: word(at + 4) };
         let five = |at: usize| [bytes[at], bytes[at + 1], bytes[at + 2], bytes[at + 3], bytes[at + 4]];
@@ -353,7 +381,7 @@ impl Board {
             latches: bytes[1],
             cycles: bytes[2],
             kind: bytes[3],
-            flags: u16::from_le_bytes([bytes[4], bytes[5]]),
+            flags: half(4),
             working: Settings { registers: five(6) },
             staged: Settings { registers: five(11) },
             currents: run(16),
@@ -361,6 +389,7 @@ impl Board {
             last: Last { low: word(104), high: word(108), shunt: word(112) as i32 },
             control: bytes[116],
             garden: Filter { row: bytes[117], trigger: bytes[118], ov_back: bytes[119], uv_back: bytes[120] },
+            tallies: Tallies { faults: core::array::from_fn(|i| half(122 + 2 * i)) },
         }
     }
 }
