@@ -10,12 +10,14 @@ import struct
 
 from desk_sessions import DeskMaker
 from record import LAYOUT, RECORDS, Rows
-from reference import DEVICES, GARDEN, HOST, Plan, Refusal, STAND_ALONE, Sample, Settings, Stack, crc8, split_lines, stand_alone
+from reference import (DEVICES, GARDEN, HOST, Plan, Refusal, STAND_ALONE, Sample, Settings, Stack, TALLIES, crc8, split_lines,
+                       stand_alone)
 from sessions import make_session
 from workshop import Workshop
 
 LONGEST_LIST = 100      # that the drivers are told
 ELAPSED = 1, 1000, 100_000      # of samples on garbage, mostly
+BESIDE_TALLIES = 15, 21, 23, 29     # registers that no board has
 
 
 class Script:
@@ -184,6 +186,11 @@ def garden_garbage(rng, data):
         data[1] = rng.choice((0, 4, 8, 12))
 
 
+def tallies_garbage(rng):
+    """The bytes of tallies about the stop and about where the low byte is full, or any."""
+    return struct.pack("<5H", *rng.choices((0, 255, 65_279, 65_533, 65_534, 65_535, rng.randrange(65_536)), k=5))
+
+
 def garbage(rng):
     """The bytes of a record that came from no opening; most of them of a good kind and cell count."""
     data = bytearray(rng.randbytes(LAYOUT.size))
@@ -207,6 +214,7 @@ def garbage(rng):
         data[104:116] = last_garbage(rng, data[6:11])
     if data[3] == GARDEN:
         garden_garbage(rng, data)
+    data[122:132] = tallies_garbage(rng)
     return bytes(data)
 
 
@@ -234,15 +242,15 @@ def frame_bytes(rng, boards):
     """A frame, mostly well made."""
     number = rng.randint(1, boards) if boards and rng.random() < 0.8 else rng.randint(0, boards + 1)
     address = 2 * number + rng.randint(0, 1)
-    register = rng.choice((0, 6, 7, 8, 9, 10, 11, 11, 1, 12, 255))
+    register = rng.choice((0, 6, 7, 8, 9, 10, 11, 11, 1, 12, 255, rng.choice(BESIDE_TALLIES), rng.choice(list(TALLIES))))
     value = rng.choice((0, 0, 0x41, 0x41, rng.randint(0, 255))) if address % 2 else rng.choice((0, 0, 0, 0x41))
     kind = rng.random()
     if kind < 0.2:
         address, register, value = address | 1, 11, 0x41
     elif kind < 0.5:
         address, register, value = address | 1, 1, rng.randint(0, 8)
-    elif kind < 0.6:            # what every board answers
-        address, register, value = address & ~1, 0, rng.choice((0, 0, 0, 1))
+    elif kind < 0.65:           # what every board answers
+        address, register, value = address & ~1, rng.choice((0, 0, 0, *TALLIES)), rng.choice((0, 0, 0, 1))
     data = [address, register, value, crc8((address, register, value))]
     if rng.random() < 0.05:
         data[rng.randint(0, 3)] ^= rng.randint(1, 255)
@@ -265,7 +273,7 @@ def plan_of(rng, count):
 
 
 def wreck(script, acts):
-    """Garbage in every record, then acts on rows of any length, with more garbage now and then."""
+    """Garbage in every record, then acts on rows of any length, with more garbage now and then; last the tallies of one board."""
     rng, rows = script.rng, script.rows
     for place in range(RECORDS):
         script.overwrite(place, garbage(rng))
@@ -293,3 +301,5 @@ def wreck(script, acts):
                 script.opening(lent, counts)
             else:
                 script.opening_plans(lent, [plan_of(rng, count) for count in counts])
+    for register in TALLIES:
+        script.frame(1, [2, register, 0, crc8((2, register, 0))], 4)

@@ -7,7 +7,7 @@
  *     B place elapsed shunt thermistor load cells..      a sample of the record at a place, from 0
  *     F boards room bytes..                              a frame, with a reply buffer of so many bytes
  *     R boards                                           a reading
- *     W place bytes..                                    124 bytes over the record at a place, and no act
+ *     W place bytes..                                    132 bytes over the record at a place, and no act
  *     K tries                                            the check byte of every frame of 2^17, that many bytes tried (here alone)
  *
  * An answer: the act's number, what stands in the place for the answer or in the reply buffer, and a checksum of all records.
@@ -18,6 +18,7 @@
 #include "platform.h"
 
 enum { RECORDS = 18, NUMBERS = 160, LINE = 640, BUFFER = 1024, PATTERN = 0xa5 };
+enum { PADDING = offsetof(adomvik_board, garden) + sizeof(adomvik_filter) }; /* the one byte of it in a record */
 
 static adomvik_board *row;
 static uint32_t number[NUMBERS]; /* one below 0 as its two's complement */
@@ -143,13 +144,15 @@ static adomvik_readings readings(size_t from)
 
 /* ---- answers */
 
-/* CRC-32 of the records, as zlib has it, but for the padding behind each. */
+/* CRC-32 of the records, as zlib has it, but for the padding in each. */
 static uint32_t checksum(void)
 {
     const unsigned char *p = (const unsigned char *)row;
     uint32_t crc = 0xffffffff;
     for (size_t n = 0; n < RECORDS; n++, p += sizeof *row)
-        for (size_t i = 0; i < offsetof(adomvik_board, garden) + sizeof row->garden; i++) {
+        for (size_t i = 0; i < sizeof *row; i++) {
+            if (i == PADDING)
+                continue;
             crc ^= p[i];
             for (int k = 0; k < 8; k++)
                 crc = crc >> 1 ^ (crc & 1 ? 0xedb88320 : 0);

@@ -7,7 +7,7 @@ const folder = process.argv[2];
 const { load, Plan, Refusal } = await import(pathToFileURL(`${folder}/adomvik.mjs`));
 const RECORDS = 18;
 const PATTERN = 0xa5;
-const BARE = 121; // the bytes of a record in front of its padding
+const PADDING = 121; // the one byte of it in a record
 
 const row = (await load(readFileSync(`${folder}/adomvik.wasm`))).row(RECORDS);
 
@@ -27,11 +27,11 @@ const TABLE = Uint32Array.from({ length: 256 }, (_, crc) => {
   return crc;
 });
 
-// CRC-32 of the records, but for the padding behind each.
+// CRC-32 of the records, but for the padding in each.
 function checksum() {
   let crc = 0xffffffff;
   for (let place = 0; place < RECORDS; place++) {
-    row.record(place).subarray(0, BARE).forEach((byte) => { crc = crc >>> 8 ^ TABLE[(crc ^ byte) & 255]; });
+    row.record(place).forEach((byte, at) => { if (at !== PADDING) crc = crc >>> 8 ^ TABLE[(crc ^ byte) & 255]; });
   }
   return (~crc >>> 0).toString(16).padStart(8, "0");
 }

@@ -4,14 +4,15 @@ use std::io::{self, BufRead, BufWriter, Write};
 
 const RECORDS: usize = 18;
 const PATTERN: u8 = 0xa5;
-/// The bytes of a record in front of its padding.
-const BARE: usize = 121;
+/// The one byte of padding in a record.
+const PADDING: usize = 121;
 
-/// CRC-32 of the records, as zlib has it, but for the padding behind each.
+/// CRC-32 of the records, as zlib has it, but for the padding in each.
 fn checksum(row: &[Board]) -> u32 {
     let mut crc = u32::MAX;
     for board in row {
-        for byte in &board.to_bytes()[..BARE] {
+        let bytes = board.to_bytes();
+        for byte in bytes[..PADDING].iter().chain(&bytes[PADDING + 1..]) {
             crc ^= u32::from(*byte);
             for _ in 0..8 {
                 crc = if crc & 1 == 1 { crc >> 1 ^ 0xedb8_8320 } else { crc >> 1 };

@@ -82,7 +82,20 @@ assert.equal(hosted.frame([2, 0, 0, 214])[2], 1);
 hosted.frame([3, 1, 0, 168]);
 assert.equal(hosted.frame([2, 0, 0, 214])[2], 0);
 
-// a garden board: counts of samples, and register 0 alone
+// the tally of its short circuit: read by two bytes, and not written
+assert.deepEqual([...hosted.frame([2, 16, 0, 129])], [2, 16, 1, 134]);
+assert.deepEqual([...hosted.frame([2, 24, 0, 41])], [2, 24, 0, 41]);
+refused(10, () => hosted.frame([2, 16, 1, 134]));
+refused(9, () => hosted.frame([3, 16, 0, 234]));
+refused(9, () => hosted.frame([2, 15, 0, 21]));
+const kept = hosted.record(0);
+assert.deepEqual([...kept.subarray(122)], [1, 0, 0, 0, 0, 0, 0, 0, 0, 0]);
+hosted.setRecord(0, [...kept.subarray(0, 122), 255, 255, 0, 0, 0, 0, 0, 0, 0, 0]);
+assert.deepEqual(hosted.sample(1, { ...quiet, shunt: 60001 }, five), { status: 1, bled: 0 });
+assert.equal(hosted.frame([2, 16, 0, 129])[2], 255);
+assert.equal(hosted.frame([2, 24, 0, 41])[2], 255);
+
+// a garden board: counts of samples, and of the registers only 0 and those of the tallies
 const garden = adomvik.openPlans([Plan.garden(3, BQ7791500, 2), Plan.garden(5, BQ7791504, 255)]);
 const three = [3600, 3600, 3600];
 assert.deepEqual(garden.read(), { line: true, chg: false, dsg: true, board: 0, cell: 0 });
@@ -97,5 +110,6 @@ assert.deepEqual(garden.sample(1, quiet, three), { status: 192, bled: 0 });
 const over = [3600, 4201, 3600];
 assert.deepEqual(garden.sample(1, quiet, over), { status: 192, bled: 0 });
 assert.deepEqual(garden.sample(1, quiet, over), { status: 68, bled: 0 });
+assert.equal(garden.frame([2, 18, 0, 171])[2], 1);
 assert.equal(garden.sample(2, quiet, five).status, 68);
 console.log("no difference");

@@ -2,18 +2,19 @@
 
 The reference computes everything from a board's history, and a record that
 came from no opening has none. This model takes any record: its levels, check
-byte and status are the reference's, its runs and counts are the kept numbers.
+byte and status are the reference's, its runs, counts and tallies are the kept
+numbers.
 """
 
 import struct
 from zlib import crc32
 
 from reference import (CHG_MAY, CLEARED_BY_HAND, CONTROL, CYCLES, DEVICES, DSG_MAY, FIRST_SETTING, GARDEN, HOST, HOT_BELOW_MV,
-                       LATCH_CLEAR, MOST_CYCLES, Plan, Refusal, STATUS_BIT, STOPS_CHG, STOPS_DSG, Sample, Settings, bled,
-                       check_register, chg_on, crc8, dsg_on, inside, openable, past, status, value_allowed)
+                       LATCH_CLEAR, MOST_CYCLES, MOST_TALLIED, Plan, Refusal, STATUS_BIT, STOPS_CHG, STOPS_DSG, Sample, Settings,
+                       TALLIES, bled, check_register, chg_on, crc8, dsg_on, inside, openable, past, status, value_allowed)
 
-BARE = struct.Struct("<BBBBH5s5s22IIIiB4B")
-LAYOUT = struct.Struct(BARE.format + "3x")  # and its padding
+LAYOUT = struct.Struct("<BBBBH5s5s22IIIiB4Bx5H")
+BARE = struct.Struct(LAYOUT.format.replace("x", ""))    # without the byte of padding
 NO_SAMPLE = (0, 2**32 - 1, 2**31 - 1)       # lowest cell, highest cell and shunt before any sample: no fault is over on it
 RECORDS = 18                                # that the drivers have
 RUN_CAP = 10_000_000
@@ -44,8 +45,9 @@ class Record:
     def __init__(self, data=bytes(LAYOUT.size)):
         self.count, self.latches, self.cycles, self.kind, self.flags, working, staged, *rest = LAYOUT.unpack(data)
         self.working, self.staged, self.runs, self.last = list(working), list(staged), rest[:22], tuple(rest[22:25])
-        self.control, self.row, self.trigger, *back = rest[25:]
-        self.back = dict(zip(("OV", "UV"), back))
+        self.control, self.row, self.trigger = rest[25:28]
+        self.back = dict(zip(("OV", "UV"), rest[28:30]))
+        self.tallies = dict(zip(STATUS_BIT, rest[30:]))
 
     @classmethod
     def fresh(cls, plan):
@@ -59,7 +61,7 @@ class Record:
     def bare(self):
         """The bytes without the padding."""
         return BARE.pack(self.count, self.latches, self.cycles, self.kind, self.flags, bytes(self.working), bytes(self.staged),
-                         *self.runs, *self.last, self.control, self.row, self.trigger, *self.back.values())
+                         *self.runs, *self.last, self.control, self.row, self.trigger, *self.back.values(), *self.tallies.values())
 
     def bad(self):
         """A record that no board can have."""
@@ -98,9 +100,14 @@ class Record:
         if max(cells) > 5000 or thermistor > 5000 or not -500000 <= shunt <= 500000 or load > 1:
             raise Refusal(5)
         self.last = (min(cells), max(cells), shunt)
+        before = self.latched()
         if self.kind == GARDEN:
-            return self.filtered(Sample(elapsed, load, thermistor, shunt, cells))
-        return self.stepped(elapsed, shunt, thermistor, load, cells)
+            told = self.filtered(Sample(elapsed, load, thermistor, shunt, cells))
+        else:
+            told = self.stepped(elapsed, shunt, thermistor, load, cells)
+        for fault in self.latched() - before:
+            self.tallies[fault] = min(MOST_TALLIED, self.tallies[fault] + 1)
+        return told
 
     def filtered(self, sample):
         """A sample of a garden board: OV and UV, each by whether it was latched before."""
@@ -187,6 +194,9 @@ class Record:
         if not value_allowed(register, value, writes):
             raise Refusal(10)
         if not writes:
+            if register in TALLIES:
+                fault, byte = TALLIES[register]
+                return self.tallies[fault] >> 8 * byte & 255
             kept = {0: self.status(), CONTROL: self.control, CYCLES: self.cycles}
             return kept[register] if register in kept else self.working[register - FIRST_SETTING]
         if register == CONTROL:

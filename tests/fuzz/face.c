@@ -11,7 +11,10 @@
 
 #include "adomvik.h"
 
-enum { RECORDS = 18, LONGEST = 40, PATTERN = 0xa5, RUN_MOST = 10000000, COUNT_MOST = 255 };
+enum { RECORDS = 18, LONGEST = 40, PATTERN = 0xa5, RUN_MOST = 10000000, COUNT_MOST = 255, TALLY_MOST = 65535 };
+
+/* The registers of the tallies: low bytes, then high bytes. */
+enum { TALLIES = 5, TALLY_LOW = 16, TALLY_HIGH = 24 };
 
 /* What register 1 and a clear are about: the faults that a host board keeps, and those that forbid a switch. */
 enum { KEPT = ADOMVIK_SCD | ADOMVIK_OCD | ADOMVIK_OV | ADOMVIK_UV, FAULTS = KEPT | ADOMVIK_HOT, CONTROL_MOST = 7 };
@@ -92,10 +95,15 @@ static int same(const adomvik_board *a, const adomvik_board *b)
     return memcmp(a, b, sizeof *a) == 0;
 }
 
-/* All but the padding at the end. */
+static int same_tallies(const adomvik_board *a, const adomvik_board *b)
+{
+    return memcmp(&a->tallies, &b->tallies, sizeof a->tallies) == 0;
+}
+
+/* All but the padding in front of the tallies. */
 static int alike(const adomvik_board *a, const adomvik_board *b)
 {
-    return memcmp(a, b, offsetof(adomvik_board, garden) + sizeof a->garden) == 0;
+    return memcmp(a, b, offsetof(adomvik_board, garden) + sizeof a->garden) == 0 && same_tallies(a, b);
 }
 
 /* A record that a board can have: of a kind, with its cells, and on a garden board with a row and a trigger. */
@@ -199,7 +207,7 @@ static void sampled_fault(int latched, uint8_t back, uint8_t trigger, uint32_t c
     HOLDS(latched ? back < trigger && count == 0 : back == 0 && count < trigger);
 }
 
-/* A garden board: two latches, its counts, the last sample, and nothing else. */
+/* A garden board: two latches and their tallies, its counts, the last sample, and nothing else. */
 static void sampled_garden(const adomvik_board *now, const adomvik_board *was, const adomvik_sampled *told)
 {
     const int ov = (now->latches & ADOMVIK_OV) != 0, uv = (now->latches & ADOMVIK_UV) != 0;
@@ -208,6 +216,7 @@ static void sampled_garden(const adomvik_board *now, const adomvik_board *was, c
     kept.last = now->last;
     kept.garden.ov_back = now->garden.ov_back;
     kept.garden.uv_back = now->garden.uv_back;
+    kept.tallies = now->tallies;
     memcpy(kept.cells, now->cells, now->count * sizeof *now->cells);
     HOLDS(alike(&kept, now));
     HOLDS(told->bled == 0 && told->status == (ov ? ADOMVIK_OV : ADOMVIK_CHG_ON) + (uv ? ADOMVIK_UV : ADOMVIK_DSG_ON));
@@ -218,6 +227,22 @@ static void sampled_garden(const adomvik_board *now, const adomvik_board *was, c
     }
 }
 
+/* A tally goes up where its fault latches, and stops. */
+static uint16_t tallied(uint16_t was, unsigned latching)
+{
+    return (uint16_t)(was + (latching && was < TALLY_MOST));
+}
+
+static void sampled_tallies(const adomvik_board *now, const adomvik_board *was)
+{
+    const unsigned latching = now->latches & ~was->latches;
+    HOLDS(now->tallies.scd == tallied(was->tallies.scd, latching & ADOMVIK_SCD));
+    HOLDS(now->tallies.ocd == tallied(was->tallies.ocd, latching & ADOMVIK_OCD));
+    HOLDS(now->tallies.ov == tallied(was->tallies.ov, latching & ADOMVIK_OV));
+    HOLDS(now->tallies.uv == tallied(was->tallies.uv, latching & ADOMVIK_UV));
+    HOLDS(now->tallies.hot == tallied(was->tallies.hot, latching & ADOMVIK_HOT));
+}
+
 /* What an accepted sample leaves of a record. */
 static void sampled(const adomvik_board *now, const adomvik_board *was, const adomvik_sampled *told, int32_t shunt, const uint32_t *cells)
 {
@@ -225,6 +250,7 @@ static void sampled(const adomvik_board *now, const adomvik_board *was, const ad
     HOLDS(memcmp(&now->working, &was->working, 2 * sizeof now->working) == 0);
     HOLDS(now->latches == (told->status & 31) && (told->status & 32) == 0);
     kept_last(&now->last, shunt, cells, now->count);
+    sampled_tallies(now, was);
     if (now->kind == ADOMVIK_GARDEN)
         sampled_garden(now, was, told);
     else
@@ -412,11 +438,23 @@ static uint8_t check(const uint8_t *bytes, size_t count)
     return (uint8_t)rest;
 }
 
-/* What an accepted frame leaves of a record: latches and register 1 but for a write to that register, and all of a garden board. */
+/* The byte of a tally that a register reads; -1 where it is another register. */
+static int tally_byte(const adomvik_tallies *tallies, uint8_t reg)
+{
+    const uint16_t all[TALLIES] = {tallies->scd, tallies->ocd, tallies->ov, tallies->uv, tallies->hot};
+    if (reg >= TALLY_HIGH && reg < TALLY_HIGH + TALLIES)
+        return all[reg - TALLY_HIGH] / 256;
+    return reg >= TALLY_LOW && reg < TALLY_LOW + TALLIES ? all[reg - TALLY_LOW] % 256 : -1;
+}
+
+/* What an accepted frame leaves of a record: tallies, latches and register 1 but for a write to that register, and all of a garden
+ * board. */
 static void framed(const adomvik_board *now, const adomvik_board *was, const uint8_t *frame, const uint8_t *reply)
 {
-    if (was->kind == ADOMVIK_GARDEN) {
-        HOLDS(same(now, was) && frame[1] == 0 && frame[0] % 2 == 0);
+    const int tally = tally_byte(&was->tallies, frame[1]);
+    HOLDS(same_tallies(now, was));
+    if (tally >= 0 || was->kind == ADOMVIK_GARDEN) {
+        HOLDS(alike(now, was) && frame[0] % 2 == 0 && (tally >= 0 ? reply[2] == tally : frame[1] == 0));
         return;
     }
     HOLDS(now->count == was->count && now->kind == was->kind && now->flags == was->flags);
@@ -443,6 +481,8 @@ static void frame(void)
     for (size_t i = 0; i < length; i++)
         bytes[i] = byte();
     if (length == 4 && byte() % 8) {
+        if (byte() % 2)
+            bytes[1] %= 32; /* where the registers are */
         if (boards && byte() % 8)
             bytes[0] = (uint8_t)(2 + bytes[0] % (2 * boards));
         bytes[3] = check(bytes, 3);
@@ -502,6 +542,9 @@ static void overwrite(void)
         ((uint8_t *)place)[i] = byte();
     if (byte() % 8)
         make_good(place, how);
+    if (byte() % 2) /* tallies that have stopped, or are three short of it at most */
+        for (size_t i = 0; i < sizeof place->tallies; i++)
+            ((uint8_t *)&place->tallies)[i] |= (uint8_t)(i % 2 ? 0xff : 0xfc);
 }
 
 static void make_row(void)
