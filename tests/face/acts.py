@@ -62,6 +62,10 @@ class Script:
         """The check byte over every pair of register and byte: no difference, and no record moved."""
         self.put("K", [tries], self.rows.line(0, []))
 
+    def latchings(self, count):
+        """A tally after each of so many latchings: no difference, and no record moved."""
+        self.put("T", [count], self.rows.line(0, []))
+
     def overwrite(self, place, data):
         """Garbage over a record: no act, and no answer."""
         self.rows.overwrite(place, data)

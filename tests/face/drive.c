@@ -9,6 +9,7 @@
  *     R boards                                           a reading
  *     W place bytes..                                    132 bytes over the record at a place, and no act
  *     K tries                                            the check byte of every frame of 2^17, that many bytes tried (here alone)
+ *     T latchings                                        a tally after each of so many latchings (here alone)
  *
  * An answer: the act's number, what stands in the place for the answer or in the reply buffer, and a checksum of all records.
  * Before an act these places hold PATTERN, so that what a refusal wrote would show. Every list is lent in a block of just its
@@ -294,6 +295,48 @@ static void check_bytes(void)
     answer_end();
 }
 
+/* ---- where a tally stops */
+
+enum { TALLIES = 5, TALLY_LOW = 16, TALLY_HIGH = 24, TALLY_MOST = 65535 };
+
+/* Whether a register of the board reads so. */
+static int reads(adomvik_board *board, uint32_t reg, uint32_t value)
+{
+    const uint8_t sent[4] = {2, (uint8_t)reg, 0, (uint8_t)divided(2u << 16 | reg << 8)};
+    uint8_t reply[4];
+    return adomvik_frame(board, 1, sent, 4, reply, 4) == 0 && reply[2] == value;
+}
+
+static int tally_is(adomvik_board *board, uint32_t fault, uint32_t tally)
+{
+    return reads(board, TALLY_LOW + fault, tally & 255) && reads(board, TALLY_HIGH + fault, tally >> 8);
+}
+
+/* Whether a sample with this shunt is accepted and leaves the board with these latches. */
+static int leaves(adomvik_board *board, int32_t shunt, uint8_t latches)
+{
+    static const uint32_t cells[] = {3900, 3900, 3900, 3900, 3900};
+    const adomvik_readings x = {1000, shunt, 2000, 0};
+    adomvik_sampled out;
+    return adomvik_sample_board(board, x, cells, 5, &out) == 0 && board->latches == latches;
+}
+
+/* A short circuit that comes and goes: after n latchings the tally of SCD, which is the first, is n, or 65,535 from there on, and
+ * no other has moved. Answers 0 where that holds throughout. The board is one of its own.
+ */
+static void latch_often(void)
+{
+    adomvik_board board;
+    const uint32_t cells = 5;
+    int wrong = adomvik_open(&board, 1, &cells, 1);
+    for (uint32_t n = 1; n <= number[0]; n++)
+        wrong |= !leaves(&board, 60001, ADOMVIK_SCD) || !tally_is(&board, 0, n < TALLY_MOST ? n : TALLY_MOST) || !leaves(&board, 0, 0);
+    for (uint32_t fault = 1; fault < TALLIES; fault++)
+        wrong |= !tally_is(&board, fault, 0);
+    put_number((uint32_t)wrong);
+    answer_end();
+}
+
 int main(void)
 {
     row = block(RECORDS * sizeof *row);
@@ -310,6 +353,7 @@ int main(void)
         case 'R': reading(); break;
         case 'W': overwrite(); break;
         case 'K': check_bytes(); break;
+        case 'T': latch_often(); break;
         default: return 2;
         }
     }
