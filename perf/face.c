@@ -70,7 +70,7 @@ static unsigned value_for(unsigned reg)
 
 static void same_frame(void)
 {
-    static const uint8_t registers[] = {0, 1, 1, 1, 6, 7, 8, 9, 10, 11, 11, 5, 12};
+    static const uint8_t registers[] = {0, 1, 1, 1, 6, 7, 8, 9, 10, 11, 11, 5, 12, 15, 16, 17, 18, 19, 20, 21, 23, 24, 25, 26, 27, 28, 29};
     uint8_t frame[4], reply[2][4] = {{1, 2, 3, 4}, {1, 2, 3, 4}};
     frame[0] = (uint8_t)random_below(2 * boards + 4);
     frame[1] = registers[random_below(sizeof registers)];
@@ -104,6 +104,17 @@ static adomvik_plan plan_with(uint32_t cells)
     }
 }
 
+/* Tallies that a few latchings take to their stop. */
+static void near_the_stop(void)
+{
+    for (size_t i = 0; i < boards; i++) {
+        const uint16_t near = (uint16_t)(UINT16_MAX - random_below(4));
+        ours[i].tallies = (adomvik_tallies){near, near, near, near, near};
+        for (int k = 0; k < 5; k++)
+            theirs[i].tallies[k] = near;
+    }
+}
+
 /* Openings by counts and by plans, of every kind. */
 static void same_opening(void)
 {
@@ -121,6 +132,8 @@ static void same_opening(void)
         fail("an opening is answered otherwise by the peer");
     if (one)
         open_both(boards, adomvik_host(CELLS));
+    if (random_below(2))
+        near_the_stop();
 }
 
 static void same_answers(void)

@@ -61,6 +61,38 @@ static void theirs_one(int i) { sum += peer_sample_board(&theirs[0], readings, m
 static void ours_row(int i) { sum += adomvik_sample(ours, boards, (uint32_t)(i & (int)(boards - 1)) + 1, readings, mv[i % KINDS], CELLS, &sampled); }
 static void theirs_row(int i) { sum += peer_sample(theirs, boards, (uint32_t)(i & (int)(boards - 1)) + 1, readings, mv[i % KINDS], CELLS, &sampled); }
 
+/* a short circuit that comes and goes: every other sample of a board latches. The first board's tally goes back at each round, since
+ * it would stop where that board has all the samples */
+static adomvik_readings circuit[2]; /* off and on */
+
+static void ours_short(int i)
+{
+    if (i == 0)
+        ours[0].tallies.scd = 0;
+    sum += adomvik_sample_board(&ours[0], circuit[(i & (int)boards) != 0], mv[i % KINDS], CELLS, &sampled);
+}
+
+static void theirs_short(int i)
+{
+    if (i == 0)
+        theirs[0].tallies[0] = 0;
+    sum += peer_sample_board(&theirs[0], circuit[(i & (int)boards) != 0], mv[i % KINDS], CELLS, &sampled);
+}
+
+static void ours_short_row(int i)
+{
+    if (i == 0)
+        ours[0].tallies.scd = 0;
+    sum += adomvik_sample(ours, boards, (uint32_t)(i & (int)(boards - 1)) + 1, circuit[(i & (int)boards) != 0], mv[i % KINDS], CELLS, &sampled);
+}
+
+static void theirs_short_row(int i)
+{
+    if (i == 0)
+        theirs[0].tallies[0] = 0;
+    sum += peer_sample(theirs, boards, (uint32_t)(i & (int)(boards - 1)) + 1, circuit[(i & (int)boards) != 0], mv[i % KINDS], CELLS, &sampled);
+}
+
 /* of garden boards: one sample goes to every board before the next does, so that counts go up and down again and nothing latches */
 static void ours_garden(int i) { sum += adomvik_sample_board(&ours[0], readings, mv[i / BOARDS % KINDS], GARDEN_CELLS, &sampled); }
 static void theirs_garden(int i) { sum += peer_sample_board(&theirs[0], readings, mv[i / BOARDS % KINDS], GARDEN_CELLS, &sampled); }
@@ -166,6 +198,19 @@ static void samples(void)
     }
 }
 
+static void short_circuits(void)
+{
+    const adomvik_plan plan = plan_of(ADOMVIK_STAND_ALONE);
+    set_samples(0);
+    circuit[0] = circuit[1] = readings;
+    circuit[1].shunt = 90000;
+    open_both(1, plan);
+    measure("sample of one record, ", "SCD on and off", ours_short, theirs_short);
+    measure("sample in a row of 1, ", "SCD on and off", ours_short_row, theirs_short_row);
+    open_both(BOARDS, plan);
+    measure("sample in a row of 16, ", "SCD on and off", ours_short_row, theirs_short_row);
+}
+
 static void garden_samples(void)
 {
     static const struct { const char *name; int faults; } how[] = {
@@ -188,6 +233,7 @@ static void frames_in(size_t count, const char *row)
 {
     static const struct { const char *name; int kind; uint8_t address, reg, value; act *one, *other; } acts[] = {
         {"a read", ADOMVIK_STAND_ALONE, 2, 0, 0, ours_frame, theirs_frame},
+        {"a read of a tally", ADOMVIK_STAND_ALONE, 2, 24, 0, ours_frame, theirs_frame},
         {"a staging write", ADOMVIK_STAND_ALONE, 3, 9, 0x25, ours_frame, theirs_frame},
         {"programming equal", ADOMVIK_STAND_ALONE, 3, 11, 0x41, ours_frame, theirs_frame},
         {"programming that spends", ADOMVIK_STAND_ALONE, 3, 11, 0x41, ours_spend, theirs_spend},
@@ -227,6 +273,7 @@ static void readings_of_16(void)
 static void all_acts(void)
 {
     samples();
+    short_circuits();
     garden_samples();
     frames_in(1, "frame in a row of 1, ");
     frames_in(BOARDS, "frame in a row of 16, ");

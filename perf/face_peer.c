@@ -12,6 +12,7 @@ enum { CYCLES_MAX = 3, PROGRAM = 0x41 };
 enum { RUN_MAX = 8000001 }; /* past the longest delay: counting on would tell nothing more */
 enum { STAND_ALONE = 0, HOST = 1, GARDEN = 2 };
 enum { CLEAR_BIT = 1, DSG_BIT = 2, CHG_BIT = 4, CONTROL_MAX = 7 };
+enum { TALLIES = 5, TALLY_LOW = 16, TALLY_HIGH = 8 }; /* a high byte's register lies 8 above the low one's, as its bits do */
 enum { STOPS_DSG = UV | OCD | SCD | HOT, STOPS_CHG = OV | OCD | SCD | HOT };
 
 static const int32_t ov_hysteresis[4] = {100, 200, 300, 0};
@@ -136,6 +137,16 @@ static inline unsigned next_latch(unsigned latches, unsigned fault, bool stood, 
     return stood ? latches | fault : latches;
 }
 
+/* These faults latch. */
+static inline void tally(struct peer_board *b, unsigned latching)
+{
+    for (; latching; latching &= latching - 1) {
+        uint16_t *of = &b->tallies[__builtin_ctz(latching)];
+        if (*of < UINT16_MAX)
+            ++*of;
+    }
+}
+
 /* The run of a condition that holds, in a set of conditions that held before. */
 static inline int32_t next_run(int32_t run, bool running, int32_t elapsed)
 {
@@ -227,7 +238,9 @@ static void grow(struct peer_board *b, bool load, const uint32_t *cells, uint32_
         if (b->under || least < d->uv)
             uv = count_cells(b->uv_run, &b->under, cells, b->cells, d->uv, false, b->trigger);
     }
-    b->latches = (uint8_t)(ov * OV | uv * UV);
+    const unsigned latches = (unsigned)(ov * OV | uv * UV);
+    tally(b, latches & ~b->latches);
+    b->latches = (uint8_t)latches;
     out->status = (uint8_t)(b->latches | !ov * CHG_ON | !uv * DSG_ON);
     out->bled = 0;
 }
@@ -313,8 +326,10 @@ static inline uint8_t step(struct peer_board *b, adomvik_readings x, const uint3
     latches = next_latch(latches, SCD, scd_stood, unloaded && !scd_over);
     const bool hot = x.thermistor < 975;
     latches = next_latch(latches, HOT, hot, !hot);
+    const unsigned latching = latches & ~b->latches;
     if (!alone)
-        b->control = (uint8_t)forbidden(b->control, latches & ~b->latches);
+        b->control = (uint8_t)forbidden(b->control, latching);
+    tally(b, latching);
     b->latches = (uint8_t)latches;
     out->status = (uint8_t)status(b);
     out->bled = (uint16_t)bled(b->flags);
@@ -420,12 +435,24 @@ uint8_t peer_frame(struct peer_board *row, size_t boards, const uint8_t *frame, 
         return 2;
     struct peer_board *b = &row[number - 1];
     const bool set = b->kind != GARDEN, setting = set && reg >= 6 && reg <= 10, cycles = set && reg == 11, control = reg == 1 && b->kind == HOST;
-    if (!setting && !cycles && !control && (reg != 0 || write))
-        return 9;
     if (!write) {
+        const unsigned tallied = (reg & ~(unsigned)TALLY_HIGH) - TALLY_LOW;
+        unsigned kept;
+        if (reg == 0)
+            kept = status(b);
+        else if (setting)
+            kept = b->working[reg - 6];
+        else if (cycles)
+            kept = b->cycles;
+        else if (control)
+            kept = b->control;
+        else if (tallied < TALLIES)
+            kept = (uint8_t)(b->tallies[tallied] >> (reg & TALLY_HIGH));
+        else
+            return 9;
         if (value != 0)
             return 10;
-        value = setting ? b->working[reg - 6] : cycles ? b->cycles : control ? b->control : status(b);
+        value = kept;
     } else if (control) {
         if (value > CONTROL_MAX)
             return 10;
@@ -434,13 +461,15 @@ uint8_t peer_frame(struct peer_board *row, size_t boards, const uint8_t *frame, 
         if (!allowed_setting(reg, value))
             return 10;
         b->staged[reg - 6] = (uint8_t)value;
-    } else {
+    } else if (cycles) {
         if (value != PROGRAM)
             return 10;
         const uint8_t refusal = program(b);
         if (refusal)
             return refusal;
         value = b->cycles;
+    } else {
+        return 9;
     }
     reply[0] = (uint8_t)address;
     reply[1] = (uint8_t)reg;

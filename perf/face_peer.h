@@ -14,6 +14,7 @@ struct peer_board {
     uint16_t low, high;           /* of the last sample, with its shunt below */
     uint8_t row, trigger;         /* of a garden board, with its recovery counts */
     uint8_t ov_back, uv_back;
+    uint16_t tallies[5];          /* of SCD, OCD, OV, UV and overtemperature */
     int32_t ov_run[10], uv_run[10];
     int32_t ocd_run, scd_run;
     int32_t shunt;

@@ -130,7 +130,7 @@ def other(rng):
     """A line that is no sample of the usual kind."""
     draw = rng.random()
     if draw < 0.40:
-        return frame(rng.randint(1, BOARDS), 0, rng.choice((0, 0, 6, 7, 8, 9, 10, 11)), 0)
+        return frame(rng.randint(1, BOARDS), 0, rng.choice((0, 0, 6, 7, 8, 9, 10, 11, rng.randint(16, 20), rng.randint(24, 28))), 0)
     if draw < 0.60:
         return staging(rng)
     if draw < 0.61:

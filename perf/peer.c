@@ -36,6 +36,9 @@ enum {
     CYCLES = 11,
     PROGRAM = 0x41,
     CYCLES_MAX = 3,
+    TALLIES = 5,
+    TALLY_LOW = 16,
+    TALLY_HIGH = 8,  // a high byte's register lies 8 above the low one's, as its bits do
 };
 
 enum {
@@ -61,6 +64,7 @@ struct board {
     uint8_t control;  // register 1
     uint16_t flags;   // bit 0 is cell 1
     uint16_t low, high;  // of the last sample, with its shunt below
+    uint16_t tallies[TALLIES];  // of SCD, OCD, OV, UV and overtemperature
     int32_t ov_run[CELLS_MAX], uv_run[CELLS_MAX];
     int32_t ocd_run, scd_run;
     int32_t shunt;
@@ -294,6 +298,16 @@ static unsigned forbidden(unsigned control, unsigned latching)
     return control;
 }
 
+// These faults latch.
+static void tally(struct board *b, unsigned latching)
+{
+    for (; latching; latching &= latching - 1) {
+        uint16_t *of = &b->tallies[__builtin_ctz(latching)];
+        if (*of < UINT16_MAX)
+            ++*of;
+    }
+}
+
 // A flagged cell is left out exactly if one of the two above it was taken.
 static unsigned bled(unsigned flags)
 {
@@ -383,8 +397,10 @@ static void step(struct board *b, const struct line *l)
     latches = next_latch(latches, SCD, b->scd_run >= scd_wait, unloaded && !scd_over);
     const bool hot = l->thermistor < 975;
     latches = next_latch(latches, HOT, hot, !hot);
+    const unsigned latching = latches & ~(unsigned)b->latches;
     if (!alone)
-        b->control = (uint8_t)forbidden(b->control, latches & ~(unsigned)b->latches);
+        b->control = (uint8_t)forbidden(b->control, latching);
+    tally(b, latching);
     b->latches = latches;
 }
 
@@ -493,12 +509,24 @@ static unsigned program(struct board *b)
 static unsigned frame_act(struct board *b, bool write, unsigned reg, unsigned *value)
 {
     const bool setting = reg >= FIRST_SETTING && reg <= LAST_SETTING, control = reg == CONTROL && b->kind == HOST;
-    if (!setting && reg != CYCLES && !control && (reg != 0 || write))
-        return 9;
     if (!write) {
+        const unsigned tallied = (reg & ~(unsigned)TALLY_HIGH) - TALLY_LOW;
+        unsigned kept;
+        if (reg == 0)
+            kept = status(b);
+        else if (setting)
+            kept = b->working[reg - FIRST_SETTING];
+        else if (reg == CYCLES)
+            kept = b->cycles;
+        else if (control)
+            kept = b->control;
+        else if (tallied < TALLIES)
+            kept = (uint8_t)(b->tallies[tallied] >> (reg & TALLY_HIGH));
+        else
+            return 9;
         if (*value != 0)
             return 10;
-        *value = setting ? b->working[reg - FIRST_SETTING] : reg == CYCLES ? b->cycles : control ? b->control : status(b);
+        *value = kept;
         return 0;
     }
     if (control) {
@@ -513,6 +541,8 @@ static unsigned frame_act(struct board *b, bool write, unsigned reg, unsigned *v
         b->staged[reg - FIRST_SETTING] = (uint8_t)*value;
         return 0;
     }
+    if (reg != CYCLES)
+        return 9;
     if (*value != PROGRAM)
         return 10;
     const unsigned refusal = program(b);
