@@ -30,6 +30,10 @@ use Rattle.cells.proofs.calm.Reads as cells-calm
 use Rattle.cells.proofs.fresh_cells.Reads as cells-fresh-cells
 use Rattle.cells.proofs.cell_count.Reads as cells-cell-count
 use Rattle.garden.proofs.grow.Reads as garden-grow
+use Rattle.journal.proofs.blank.Reads as journal-blank
+use Rattle.journal.proofs.enter.Reads as journal-enter
+use Rattle.journal.proofs.listed.Reads as journal-listed
+use Rattle.journal.proofs.entry_at.Reads as journal-entry-at
 use Rattle.latches.proofs.latches_of.Reads as latches-latches-of
 use Rattle.latches.proofs.any_latch.Reads as latches-any-latch
 use Rattle.latches.proofs.chg_on.Reads as latches-chg-on
@@ -159,6 +163,18 @@ cells-cell-count-one κs a r t s u = agree
 
 pub garden-grow-one : (κs : _) (a : _) (r t : _) (s u : _) → garden-grow.Learnt κs a r s → garden-grow.Learnt κs a t u → r ≡ t
 garden-grow-one κs a r t s u = agree
+
+pub journal-blank-one : (κs : _) (a : _) (r t : _) (s u : _) → journal-blank.Learnt κs a r s → journal-blank.Learnt κs a t u → r ≡ t
+journal-blank-one κs a r t s u = agree
+
+pub journal-enter-one : (κs : _) (a : _) (r t : _) (s u : _) → journal-enter.Learnt κs a r s → journal-enter.Learnt κs a t u → r ≡ t
+journal-enter-one κs a r t s u = agree
+
+pub journal-listed-one : (κs : _) (a : _) (r t : _) (s u : _) → journal-listed.Learnt κs a r s → journal-listed.Learnt κs a t u → r ≡ t
+journal-listed-one κs a r t s u = agree
+
+pub journal-entry-at-one : (κs : _) (a : _) (r t : _) (s u : _) → journal-entry-at.Learnt κs a r s → journal-entry-at.Learnt κs a t u → r ≡ t
+journal-entry-at-one κs a r t s u = agree
 
 -- ---- latches
 pub latches-latches-of-one : (κs : _) (a : _) (r t : _) (s u : _) → latches-latches-of.Learnt κs a r s → latches-latches-of.Learnt κs a t u → r ≡ t
