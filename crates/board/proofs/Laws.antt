@@ -2,13 +2,13 @@
 -- Assumes nothing.
 use Prim.Native.Nat.{ℕ}
 use mathlib.Core.Path.{_≡_, refl}
-use mathlib.Core.Bool.{Bool, not, _&&_}
+use mathlib.Core.Bool.{not, _&&_}
 use mathlib.Core.List.{List}
 use lib.Dec.{ltb, leb}
 use borrow.Author.Tests.{le-leb, lt-leb, ltb-true, ltb-false}
 use Rattle.lists.proofs.Split.{split}
 use Rattle.refusal.proofs.Laws.{said-refused}
-use Rattle.settings.specs.Faults.{Fault, SCD, OCD, OV, UV, OT}
+use Rattle.settings.specs.Faults.{Fault, OV, UV}
 use Rattle.cells.specs.Cells.{highOf, spanOf}
 use Rattle.cells.proofs.Ends.{every-within, all-below-release, all-above-release}
 use Rattle.board.specs.declared.Board.{Board}
@@ -19,20 +19,12 @@ use Rattle.latches.specs.Latches.{latch, latches, latchNext, latchesOf}
 use Rattle.board.specs.Sample.{answerSaid, answerSaying, sweptAt, latchesAfter, latchesNext, boardWith, runsNext, currentsNext, stands, letsGo, outOfRange}
 use Rattle.board.specs.Host.{holdsOn}
 use Rattle.board.specs.Way.{outOfRangeBy, latchesBy, latchesLeft}
-use Rattle.latches.proofs.Packed.{latches-kept}
+use Rattle.latches.proofs.Packed.{latches-kept, latch-of}
 
 -- an answer is determined by the number and the values that it says
 pub answer-said : (a : Answer) → answerSaying (answerSaid a) ≡ a
 answer-said (Sampled status bled) = refl
 answer-said (Refused why) = said-refused why (Sampled 0 0) Refused
-
--- five latches by one rule: each is what the rule says of its fault
-latch-of : (f : Fault) (on : Fault → Bool) → latch f (latches on) ≡ on f
-latch-of SCD on = refl
-latch-of OCD on = refl
-latch-of OV on = refl
-latch-of UV on = refl
-latch-of OT on = refl
 
 -- at an accepted sample an unlatched fault latches exactly if its condition has stood its delay, and a latched one unlatches exactly if it lets go,
 -- and on a host board only overtemperature by itself; a garden board has no delays

@@ -3,7 +3,7 @@
 use Prim.Native.Nat.{ℕ, _+_, _<_, _≤_}
 use native.Mathlib.Omega.{arith}
 use mathlib.Core.Path.{_≡_, refl, ap, ap₂, sym, _∙_}
-use mathlib.Core.Bool.{Bool, true, false, true≢false, cond, not, _&&_, _||_, or-false}
+use mathlib.Core.Bool.{Bool, true, false, true≢false, cond, not, _&&_, _||_, or-false, and-false}
 use mathlib.Core.List.{List, [], _∷_, _++_}
 use mathlib.Core.Option.{Option, some as just, none}
 use lib.Dec.{leb, ltb, eqb}
@@ -328,10 +328,6 @@ all-three = refl
 three-bits : (v : ℕ) → v < 8 → v ≡ number (clearBit v ∷ dsgBit v ∷ chgBit v ∷ [])
 three-bits v few = sym (eqb-true (number (clearBit v ∷ dsgBit v ∷ chgBit v ∷ [])) v (right-at three-right 8 all-three v few))
 
-and-no : (b : Bool) → (b && false) ≡ false
-and-no true = refl
-and-no false = refl
-
 module _ (p : Plan) (h : History) (address register v : ℕ) where
   abbrev e : Entry
   e = framed address register v
@@ -437,7 +433,7 @@ module _ (p : Plan) (h : History) (address register v : ℕ) where
       (λ o. split one
       (λ s. ap₂ (λ (t u : Bool). by t u one) w o ∙ ap (by true false) s ∙ steering w o s)
       (λ s. ap₂ (λ (t u : Bool). by t u one) w o ∙ ap (by true false) s ∙ others (withByte (staged h) register v) (rw w s) (writes-it w) (rw (w, o)))))
-      (λ w. ap (λ (t : Bool). by t (eqb register 11) one) w ∙ others (staged h) (rw w (and-no (isHost (p .kind)))) (rw w) (rw w))
+      (λ w. ap (λ (t : Bool). by t (eqb register 11) one) w ∙ others (staged h) (rw w (and-false (isHost (p .kind)))) (rw w) (rw w))
     where
       one : Bool
       one = isHost (p .kind) && eqb register 1
@@ -451,7 +447,7 @@ module _ (p : Plan) (h : History) (address register v : ℕ) where
       programs : writes address ≡ true → eqb register 11 ≡ true → registers.programmed (given p h) ≡ given p then
       programs w q =
           let eleven : register ≡ 11 = eqb-true register 11 q in
-          let is-other : steers p e ≡ false = rw (w, eleven) (and-no (isHost (p .kind))) in
+          let is-other : steers p e ≡ false = rw (w, eleven) (and-false (isHost (p .kind))) in
           let stays : staged h ≡ staged then = rw (w, eleven) in
           let becomes : staged h ≡ working then = rw (w, q) in
           let either : Bool → Board = λ equal. cond equal (given p h) (registers.spent (given p h)) in

@@ -11,7 +11,7 @@ use Rattle.lists.specs.Each.{each, some}
 use Rattle.lists.specs.Marks.{number, lowest}
 use Rattle.lists.proofs.Split.{split}
 use Rattle.lists.proofs.Each.{all-places}
-use Rattle.settings.specs.Faults.{Fault, SCD, OCD, OV, UV, OT}
+use Rattle.settings.specs.Faults.{Fault, SCD, OCD, OV, UV}
 use Rattle.cells.specs.declared.Cell.{Cell}
 use Rattle.cells.specs.Cells.{cellAt, readingAt, cellCount, noCells}
 use Rattle.cells.specs.Bleed.{bled}
@@ -22,7 +22,7 @@ use Rattle.garden.specs.Filter.{countNext, reaches, cellAfter, cellsAfter, ovIn
 use Rattle.latches.specs.declared.Latches.{Latches}
 use Rattle.latches.specs.Latches.{latch, latches, risen, latchesOf, latchesByte}
 use Rattle.latches.specs.Tallies.{talliesNext}
-use Rattle.latches.proofs.Packed.{latches-kept}
+use Rattle.latches.proofs.Packed.{latches-kept, latch-of}
 use Rattle.board.specs.declared.Board.{Board}
 use Rattle.board.specs.declared.Readings.{Readings}
 use Rattle.board.specs.Plan.{Plan, isGarden, badPlan}
@@ -33,13 +33,6 @@ use Rattle.demands.specs.Paper.{sampled, framed, History, staged, workin
 use Rattle.demands.proofs.Lists.{each-same, each-behind, each-before}
 use Rattle.demands.proofs.Given.{no-bits, status-is, tallies-next, latches-are, bled-are, control-is, runs-sampled}
 use Rattle.demands.proofs.Filtered.{not-host, garden-latched, count-fits, latched-is, back-is, count-is}
-
-latch-of : (f : Fault) (on : Fault → Bool) → latch f (latches on) ≡ on f
-latch-of SCD on = refl
-latch-of OCD on = refl
-latch-of OV on = refl
-latch-of UV on = refl
-latch-of OT on = refl
 
 module _ (p : Plan) (g : isGarden (p .kind) ≡ true) (small : p .cells ≤ 10) (one : 1 ≤ p .trigger) (few : p .trigger ≤ 255) (h : History) (x : Readings) (mv : List ℕ) (long : length mv ≡ p .cells) where
   abbrev n : ℕ

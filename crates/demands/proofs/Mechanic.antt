@@ -4,7 +4,7 @@ use Prim.Native.Nat.{ℕ, _+_, _/_, _%_, _<_, _≤_}
 use native.Mathlib.Omega.{arith}
 use mathlib.Core.Path.{_≡_, refl, sym, ap, _∙_, subst}
 use mathlib.Core.Logic.{_⊎_, inl, inr, _↔_}
-use mathlib.Core.Bool.{Bool, true, false, true≢false, cond, not, _&&_, _||_}
+use mathlib.Core.Bool.{Bool, true, false, true≢false, cond, not, _&&_, _||_, and-false, or-true}
 use mathlib.Core.List.{List, [], _∷_}
 use mathlib.Core.Option.{Option, some, none}
 use lib.Dec.{leb, ltb, eqb}
@@ -19,7 +19,7 @@ use Rattle.settings.proofs.Laws.{same-yes}
 use Rattle.settings.specs.Faults.{Fault, SCD, OCD, OV, UV, OT, delay}
 use Rattle.runs.specs.Run.{past}
 use Rattle.latches.specs.Latches.{latch, latches, latchesOf, latchNext}
-use Rattle.latches.proofs.Packed.{latches-kept}
+use Rattle.latches.proofs.Packed.{latches-kept, latch-of}
 use Rattle.board.specs.declared.Board.{Board}
 use Rattle.board.specs.declared.Readings.{Readings}
 use Rattle.board.specs.Plan.{isGarden}
@@ -51,11 +51,7 @@ past-yes d none e = absurd (true≢false (sym e))
 past-yes d (some t) e = split (eqb d 0) (λ z. (t, refl, inr (eqb-true d 0 z))) (λ z. (t, refl, inl (ltb-true d t (rw z at e))))
 
 is-past : (d : ℕ) (o : Option ℕ) (t : ℕ) → o ≡ some t → (d < t) ⊎ (d ≡ 0) → past d o ≡ true
-is-past d o t e (inl longer) = ap (past d) e ∙ rw (lt-ltb d t longer) (or-yes (eqb d 0))
-  where
-    or-yes : (b : Bool) → (b || true) ≡ true
-    or-yes true = refl
-    or-yes false = refl
+is-past d o t e (inl longer) = ap (past d) e ∙ rw (lt-ltb d t longer) (or-true (eqb d 0))
 is-past d o t e (inr zero) = ap (past d) e ∙ rw (eq-eqb d 0 zero)
 
 stood : (n : ℕ) (f : Fault) (h : History) → (stands n f h ≡ true) ↔ Stood n f h
@@ -68,13 +64,6 @@ stood n f h = (
 )
 
 -- ---- the library
-
-latch-of : (f : Fault) (on : Fault → Bool) → latch f (latches on) ≡ on f
-latch-of SCD on = refl
-latch-of OCD on = refl
-latch-of OV on = refl
-latch-of UV on = refl
-latch-of OT on = refl
 
 not-true : (b : Bool) → (not b ≡ false) ↔ (b ≡ true)
 not-true true = (λ e. refl, λ e. refl)
@@ -265,15 +254,11 @@ module _ (logs : List Log) (good : goodRow (rowGiven logs) ≡ true) (fine : (at
         split (eqb (first (bars row sends)) 0)
         (λ e. split (eqb at fp)
         (λ o. split (ltb at (length logs))
-        (λ p. frame-here e o (ltb-true at (length logs) p) ∙ ap (λ (t : Bool). not cleared && t) (sym (latched-in f logs at) ∙ off) ∙ and-no (not cleared))
+        (λ p. frame-here e o (ltb-true at (length logs) p) ∙ ap (λ (t : Bool). not cleared && t) (sym (latched-in f logs at) ∙ off) ∙ and-false (not cleared))
         (λ p. past e (ltb-false at (length logs) p)))
         (λ o. frame-elsewhere e o ∙ off))
         (λ e. frame-refused e ∙ off)
       where
-        and-no : (b : Bool) → (b && false) ≡ false
-        and-no true = refl
-        and-no false = refl
-
         past : eqb (first (bars row sends)) 0 ≡ true → length logs ≤ at → isLatched f (next row sends) at ≡ false
         past e p =
             let other = joined (logAt logs fp) (frameEntry bytes) in

@@ -4,7 +4,7 @@ use Prim.Native.Nat.{ℕ, zero, suc, _+_, _-_, _/_, _%_, _<_, _≤_}
 use native.Mathlib.Omega.{arith}
 use mathlib.Core.Path.{_≡_, refl, sym, ap, _∙_, subst}
 use mathlib.Core.Logic.{_⊎_, inl, inr, _≢_, _↔_, Iff·trans}
-use mathlib.Core.Bool.{Bool, true, false, true≢false, cond, not, _&&_, _||_}
+use mathlib.Core.Bool.{Bool, true, false, true≢false, cond, not, _&&_, _||_, or-false}
 use mathlib.Core.List.{List, [], _∷_, _++_, map}
 use lib.Dec.{leb, ltb, eqb}
 use lib.IntN.{ℤ, pos, negsuc}
@@ -303,14 +303,10 @@ takes r v = inMap registerMap r false (λ (x : Register). x .takes v)
 takes-is : (r v : ℕ) → takes r v ≡ ((eqb r 1 && ltb v 8) || (allowed r v || (eqb r 11 && eqb v 0x41)))
 takes-is r v =
     split (eqb r 1)
-    (λ e. rw (eqb-true r 1 e) (sym (or-no (ltb v 8))))
+    (λ e. rw (eqb-true r 1 e) (sym (or-false (ltb v 8))))
     (λ n. split (eqb r 11)
     (λ e. rw (eqb-true r 11 e))
-    (λ e. takes-setting r v n e ∙ sym (rw (n, e) (or-no (allowed r v)))))
-  where
-    or-no : (b : Bool) → (b || false) ≡ b
-    or-no true = refl
-    or-no false = refl
+    (λ e. takes-setting r v n e ∙ sym (rw (n, e) (or-false (allowed r v)))))
 
 takes-ask : (r v : ℕ) → Asks (takes r v) (MayCarry r v)
 takes-ask r v =

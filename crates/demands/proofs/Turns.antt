@@ -4,7 +4,7 @@ use Prim.Native.Nat.{ℕ, zero, suc, _≤_}
 use native.Mathlib.Omega.{arith}
 use mathlib.Core.Path.{_≡_, refl, sym, ap, _∙_}
 use mathlib.Core.Logic.{_⊎_, inl, inr}
-use mathlib.Core.Bool.{Bool, true, false, cond, not, _&&_}
+use mathlib.Core.Bool.{Bool, true, false, cond, not, and-false}
 use mathlib.Core.List.{List, [], _∷_}
 use mathlib.Core.Option.{none}
 use lib.Dec.{ltb}
@@ -30,16 +30,12 @@ unfolding each
 none-of i zero = refl
 none-of i (suc n) = none-of (suc i) n
 
-and-no : (b : Bool) → (b && false) ≡ false
-and-no true = refl
-and-no false = refl
-
 pub never-latched : (p : Plan) → isGarden (p .kind) ≡ false → (f : Fault) (h : History) → Under (p .cells) f h → latched p f h ≡ false
 never-latched p g f [] u = rw g
 never-latched p g f (sampled x mv ∷ h) u =
     let n = p .cells in
     rw (g, never-latched p g f h (u .1)) (ap some (each-same (places f n) (λ k. stoodDelay f k (sampled x mv ∷ h)) (λ k. false) (u .0)) ∙ none-of 0 (places f n))
-never-latched p g f (framed address register v ∷ h) u = rw (never-latched p g f h (u .1)) (and-no (not (clears p f (framed address register v) h)))
+never-latched p g f (framed address register v ∷ h) u = rw (never-latched p g f h (u .1)) (and-false (not (clears p f (framed address register v) h)))
 
 -- ---- a condition that never holds has no run, so its fault is not latched
 

@@ -1,14 +1,15 @@
--- The latches as the low five bits of register 0.
+-- The latches as the low five bits of register 0, and each by the one rule that gives all five.
 -- Assumes nothing.
 use Prim.Native.Nat.{_+_, _*_}
 use native.Mathlib.Omega.{arith}
-use mathlib.Core.Path.{_≡_}
+use mathlib.Core.Path.{_≡_, refl}
 use mathlib.Core.Bool.{Bool}
 use mathlib.Core.List.{List, [], _∷_}
 use Rattle.lists.specs.Marks.{bit, number}
 use Rattle.lists.proofs.Marks.{number-at}
+use Rattle.settings.specs.Faults.{Fault, SCD, OCD, OV, UV, OT}
 use Rattle.latches.specs.declared.Latches.{Latches}
-use Rattle.latches.specs.Latches.{chgOn, dsgOn, register0, latchesByte, latchesOf}
+use Rattle.latches.specs.Latches.{latch, latches, chgOn, dsgOn, register0, latchesByte, latchesOf}
 
 pub byte-sum : (t : Latches) → latchesByte t ≡ bit (t .scd) + 2 * bit (t .ocd) + 4 * bit (t .ov) + 8 * bit (t .uv) + 16 * bit (t .ot)
 unfolding latchesByte number
@@ -36,3 +37,11 @@ latches-kept t =
       uv = number-at l 3 (omega arith) i;
       ot = number-at l 4 (omega arith) i;
     }
+
+-- five latches by one rule: each is what the rule says of its fault
+pub latch-of : (f : Fault) (on : Fault → Bool) → latch f (latches on) ≡ on f
+latch-of SCD on = refl
+latch-of OCD on = refl
+latch-of OV on = refl
+latch-of UV on = refl
+latch-of OT on = refl

@@ -4,7 +4,7 @@ use Prim.Native.Nat.{ℕ, zero, suc, _+_, _-_, _<_, _≤_}
 use native.Mathlib.Omega.{arith}
 use native.Mathlib.Numerals.{add-one}
 use mathlib.Core.Path.{_≡_, refl, sym, ap, _∙_}
-use mathlib.Core.Bool.{Bool, true, false, true≢false, not, _&&_, _||_}
+use mathlib.Core.Bool.{Bool, true, false, true≢false, not, _&&_, _||_, and-false}
 use mathlib.Core.List.{List, [], _∷_, _++_, map, append-nil}
 use lib.Dec.{ltb, eqb}
 use lib.ListN.{length, getD, set, take, drop, length-set}
@@ -125,10 +125,6 @@ plain-are (n ∷ counts) e =
     let here : standAlone n ≡ n = rw (parts .0) (omega arith) in
     ap (λ (m : ℕ). m ∷ countPlans counts) here ∙ ap (λ (rest : List ℕ). n ∷ rest) (plain-are counts (parts .1))
 
-and-no : (b : Bool) → (b && false) ≡ false
-and-no true = refl
-and-no false = refl
-
 or-yes : (a b : Bool) → (a || b || true) ≡ true
 or-yes true b = refl
 or-yes false true = refl
@@ -139,7 +135,7 @@ unfolding every
 none-good [] e = absurd (true≢false e)
 none-good (n ∷ counts) e =
     split (ltb n 256)
-    (λ h. ap (λ (t : Bool). not (badPlan (planOf (standAlone n))) && t) (none-good counts (rw h at e)) ∙ and-no (not (badPlan (planOf (standAlone n)))))
+    (λ h. ap (λ (t : Bool). not (badPlan (planOf (standAlone n))) && t) (none-good counts (rw h at e)) ∙ and-false (not (badPlan (planOf (standAlone n)))))
     (λ h. rw h)
 
 pub opens-plain : (row : List Board) (counts : List ℕ) → plainCounts counts ≡ true → (openAnswer row counts ≡ openCountsAnswer row counts) × (openRow row counts ≡ openCountsRow row counts)

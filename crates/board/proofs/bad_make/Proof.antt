@@ -1,7 +1,7 @@
 use Prim.Native.Nat.{ℕ, zero, suc, _≤_}
 use native.Mathlib.Omega.{arith}
 use mathlib.Core.Path.{_≡_, refl, sym, _∙_}
-use mathlib.Core.Bool.{Bool, true, false, true≢false, _||_}
+use mathlib.Core.Bool.{true, false, true≢false, _||_, or-false}
 use lib.Dec.{ltb, eqb}
 use borrow.Author.Needs.{needs}
 use borrow.Author.Tests.{lt-ltb, le-ltb, eqb-true}
@@ -10,15 +10,11 @@ use Rattle.board.specs.Plan.{Plan, isGarden, badPlan}
 use Rattle.board.proofs.bad_make.Statement.{statement}
 use Rattle.board.proofs.bad_make.Tie as tie
 
-or-none : (a : Bool) → (a || false) ≡ a
-or-none true = refl
-or-none false = refl
-
 -- a trigger that fits its byte is not over 255
 garden-made : (p : Plan) → isGarden (p .kind) ≡ true → p .trigger ≤ 255 → ((outside 3 5 (p .cells) || ltb 2 (p .row)) || ltb (p .trigger) 1) ≡ badPlan p
 garden-made p is fits =
     let two = eqb-true (p .kind) 2 is in
-    rw (two, le-ltb 255 (p .trigger) fits, or-none (ltb (p .trigger) 1))
+    rw (two, le-ltb 255 (p .trigger) fits, or-false (ltb (p .trigger) 1))
 
 -- above 1 and not 2 is above 2
 beyond : (kind : ℕ) → eqb kind 2 ≡ false → ltb 1 kind ≡ ltb 2 kind
