@@ -10,6 +10,8 @@
 --     on-row           fn f(row: &mut [R], x: X) -> O                                      says Told: (r ≡ F row x) × (row' ≡ B row x)
 --     on-cells         fn f(row: &mut [R], n: N, x: X, cells: &[E]) -> O                   says CellsTold: (r ≡ F row n x cells) × (row' ≡ B row n x cells)
 --     on-frame         fn f(row: &mut [R], bytes: &[E], reply: &mut [G]) -> O              says FrameTold: (r ≡ F ..) × ((row' ≡ B ..) × (reply' ≡ C ..))
+--     on-list          fn f(row: &[R], n: N, out: &mut [G]) -> O                           says ListTold: (r ≡ F row n out) × (out' ≡ C row n out)
+--     of-into          fn f(x: X, out: &mut [G]) -> O                                      says Told of the buffer, (r ≡ F x out) × (out' ≡ C x out)
 --     on-line          fn f(row: &mut [R], s: S, block: &[E], out: &mut [G]) -> O          says LineTold: (r ≡ F ..) × ((row' ≡ B ..) × (out' ≡ C ..))
 -- Arguments by value and results are plain. A step for a call by value goes on at what the callee's contract says.
 --     keeps-copy       a shared slice is handed on as a copy.        at-value     a result that is z is stored at z's machine value
@@ -69,6 +71,13 @@ OfCells Y N X E O = List Y → N → X → List E → O
 abbrev pub CellsTold : {Y N X E O : Type 0} → OfCells Y N X E O → OfCells Y N X E (List Y) → List Y → N → X → List E → O → List Y → Type 0
 CellsTold F B ys n x cs r zs = (r ≡ F ys n x cs) × (zs ≡ B ys n x cs)
 
+-- of a row that is only looked at, a number and a buffer
+abbrev pub OfList : Type 0 → Type 0 → Type 0 → Type 0 → Type 0
+OfList Y N G O = List Y → N → List G → O
+
+abbrev pub ListTold : {Y N G O : Type 0} → OfList Y N G O → OfList Y N G (List G) → List Y → N → List G → O → List G → Type 0
+ListTold F C ys n us r vs = (r ≡ F ys n us) × (vs ≡ C ys n us)
+
 -- with bytes and a reply, or with a state, a block and an output
 abbrev pub OfFrame : Type 0 → Type 0 → Type 0 → Type 0 → Type 0
 OfFrame Y E G O = List Y → List E → List G → O
@@ -92,6 +101,10 @@ module _ (O : RattleType) where
 
   abbrev pub of-two : (X Y : RattleType) → (X .Denot → Y .Denot → O .Denot) → Form
   of-two X Y F = record { lifetimes = 0; params = value X ∷ value Y ∷ []; result = O; says-of = λ κs a r e. r ≡ F (a .0) (a .1 .0) }
+
+  -- into a buffer, of something by value
+  abbrev pub of-into : (X G : RattleType) → (X .Denot → List (G .Denot) → O .Denot) → (X .Denot → List (G .Denot) → List (G .Denot)) → Form
+  of-into X G F C = record { lifetimes = 1; params = value X ∷ handed 0 tt G ∷ []; result = O; says-of = λ κs a r e. (r ≡ F (a .0) (now (a .1 .0))) × (now (e .1 .0) ≡ C (a .0) (now (a .1 .0))) }
 
   module _ (R : RattleType) where
     abbrev pub on-one : (X : RattleType) → OfOne (R .Denot) (X .Denot) (O .Denot) → OfOne (R .Denot) (X .Denot) (R .Denot) → Form
@@ -120,6 +133,14 @@ module _ (O : RattleType) where
       params = handed 0 tt R ∷ value N ∷ value X ∷ shown 1 tt E ∷ [];
       result = O;
       says-of = λ κs a r e. CellsTold F B (now (a .0)) (a .1 .0) (a .1 .1 .0) (now (a .1 .1 .1 .0)) r (now (e .0));
+    }
+
+    abbrev pub on-list : (N G : RattleType) → OfList (R .Denot) (N .Denot) (G .Denot) (O .Denot) → OfList (R .Denot) (N .Denot) (G .Denot) (List (G .Denot)) → Form
+    on-list N G F C = record {
+      lifetimes = 2;
+      params = shown 0 tt R ∷ value N ∷ handed 1 tt G ∷ [];
+      result = O;
+      says-of = λ κs a r e. ListTold F C (now (a .0)) (a .1 .0) (now (a .1 .1 .0)) r (now (e .1 .1 .0));
     }
 
     module _ (E G : RattleType) where

@@ -3,7 +3,7 @@
 --     Var              a value at hand: a parameter that comes by value (`param`), or a value that was found since, the newest or an older one
 --     Hands            the arguments of a call, each in its place:
 --                          same, shows, gives, lends     the next parameter: by value, a `&[R]`, a `&mut [R]`, a `&mut R`.        found v     a value at hand
---                      or leave, holds, rests     the next parameter, by value, a `&mut R` or a `&mut [R]`, is no argument.        stop     nor is any that is left.        every     all are
+--                      or leave, holds, rests, hides     the next parameter, by value, a `&mut R`, a `&mut [R]` or a `&[R]`, is no argument.        stop     nor is any that is left.        every     all are
 --     fresh, calling   the locals that a call takes, and its code
 --     Held, at-var     the values that were found, and the value and the type of one at hand
 --     plains, args, sure, Agree     what the callee is passed, and that the lifetimes are those that it names
@@ -58,6 +58,7 @@ pub data Hands {n m : ℕ} (Qs : List RattleType) (all : List (Kind n)) : List (
   leave : {R : RattleType} {ks : List (Kind n)} {ls : List (Kind m)} → Hands Qs all ks ls → Hands Qs all (value R ∷ ks) ls
   holds : {R : RattleType} {j : ℕ} {ok : Within n j} {ks : List (Kind n)} {ls : List (Kind m)} → Hands Qs all ks ls → Hands Qs all (behind j ok R ∷ ks) ls
   rests : {R : RattleType} {j : ℕ} {ok : Within n j} {ks : List (Kind n)} {ls : List (Kind m)} → Hands Qs all ks ls → Hands Qs all (handed j ok R ∷ ks) ls
+  hides : {R : RattleType} {j : ℕ} {ok : Within n j} {ks : List (Kind n)} {ls : List (Kind m)} → Hands Qs all ks ls → Hands Qs all (shown j ok R ∷ ks) ls
   shows : {R : RattleType} {j i : ℕ} {ok : Within n j} {ok′ : Within m i} {ks : List (Kind n)} {ls : List (Kind m)} → Hands Qs all ks ls → Hands Qs all (shown j ok R ∷ ks) (shown i ok′ R ∷ ls)
   gives : {R : RattleType} {j i : ℕ} {ok : Within n j} {ok′ : Within m i} {ks : List (Kind n)} {ls : List (Kind m)} → Hands Qs all ks ls → Hands Qs all (handed j ok R ∷ ks) (handed i ok′ R ∷ ls)
   lends : {R : RattleType} {j i : ℕ} {ok : Within n j} {ok′ : Within m i} {ks : List (Kind n)} {ls : List (Kind m)} → Hands Qs all ks ls → Hands Qs all (behind j ok R ∷ ks) (behind i ok′ R ∷ ls)
@@ -95,6 +96,7 @@ module _ {n m : ℕ} {Qs : List RattleType} {all : List (Kind n)} where
   fresh (leave h) = fresh h
   fresh (holds h) = fresh h
   fresh (rests h) = fresh h
+  fresh (hides h) = fresh h
   fresh (shows h) = fresh h
   fresh (gives {R = R} h) = by-values (ref-to erased mut R ∷ slice-of erased mut R ∷ []) ++ fresh h
   fresh (lends {R = R} h) = by-values (ref-to erased mut R ∷ []) ++ fresh h
@@ -107,6 +109,7 @@ module _ {n m : ℕ} {Qs : List RattleType} {all : List (Kind n)} where
   moves (leave h) ms i k = moves h ms (suc i) k
   moves (holds h) ms i k = moves h ms (suc i) k
   moves (rests h) ms i k = moves h ms (suc i) k
+  moves (hides h) ms i k = moves h ms (suc i) k
   moves (shows h) ms i k = let r = moves h ms (suc i) k in (r .0, i ∷ r .1)
   moves (gives {R = R} h) ms i k = let r = moves h ms (suc i) (suc (suc k)) in ((λ b. steps (hands-to R i k (suc k)) (r .0 b)), suc k ∷ r .1)
   moves (lends {R = R} h) ms i k = let r = moves h ms (suc i) (suc k) in ((λ b. steps (sets k (addrOf (place i (deref (ty R) ∷ []))) ∷ []) (r .0 b)), k ∷ r .1)
@@ -200,6 +203,7 @@ module _ {M : Type 1} (𝓤 : URA M) (H : Heap 𝓤) (A : Atoms 𝓤) where
     Agree (leave h) = Agree h
     Agree (holds h) = Agree h
     Agree (rests h) = Agree h
+    Agree (hides h) = Agree h
     Agree (shows {j = j} {i = i} {ok = ok} {ok′ = ok′} h) = (lftAt n j ok κs ≡ lftAt m i ok′ μs) × Agree h
     Agree (gives {j = j} {i = i} {ok = ok} {ok′ = ok′} h) = (lftAt n j ok κs ≡ lftAt m i ok′ μs) × Agree h
     Agree (lends {j = j} {i = i} {ok = ok} {ok′ = ok′} h) = (lftAt n j ok κs ≡ lftAt m i ok′ μs) × Agree h
@@ -211,6 +215,7 @@ module _ {M : Type 1} (𝓤 : URA M) (H : Heap 𝓤) (A : Atoms 𝓤) where
     plains (leave h) N = plains h (N .1)
     plains (holds h) N = plains h N
     plains (rests h) N = plains h N
+    plains (hides h) N = plains h N
     plains (shows h) N = plains h N
     plains (gives h) N = plains h N
     plains (lends h) N = plains h N
@@ -222,6 +227,7 @@ module _ {M : Type 1} (𝓤 : URA M) (H : Heap 𝓤) (A : Atoms 𝓤) where
     args (leave h) a = args h (a .1)
     args (holds h) a = args h (a .1)
     args (rests h) a = args h (a .1)
+    args (hides h) a = args h (a .1)
     args (shows h) a = (a .0, args h (a .1))
     args (gives h) a = (a .0, args h (a .1))
     args (lends h) a = (a .0, args h (a .1))
@@ -233,6 +239,7 @@ module _ {M : Type 1} (𝓤 : URA M) (H : Heap 𝓤) (A : Atoms 𝓤) where
     sure is-at (leave h) N a so = sure is-at h (N .1) (a .1) (so .1)
     sure is-at (holds h) N a so = sure is-at h N (a .1) so
     sure is-at (rests h) N a so = sure is-at h N (a .1) (so .1)
+    sure is-at (hides h) N a so = sure is-at h N (a .1) (so .1)
     sure is-at (shows h) N a so = sure is-at h N (a .1) (so .1)
     sure is-at (gives h) N a so = sure is-at h N (a .1) (so .1)
     sure is-at (lends h) N a so = sure is-at h N (a .1) so
@@ -245,6 +252,7 @@ module _ {M : Type 1} (𝓤 : URA M) (H : Heap 𝓤) (A : Atoms 𝓤) where
     kept (leave h) a = kept h (a .1)
     kept (holds {R = R} {j = j} {ok = ok} h) a = ‵ (mut-ref R (lftAt n j ok κs) (a .0)) ∷ kept h (a .1)
     kept (rests {R = R} {j = j} {ok = ok} h) a = ‵ (mut-slice R (lftAt n j ok κs) (a .0)) ∷ kept h (a .1)
+    kept (hides {R = R} {j = j} {ok = ok} h) a = ‵ (shared R (lftAt n j ok κs) (a .0)) ∷ kept h (a .1)
     kept (shows {R = R} {j = j} {ok = ok} h) a = ‵ (shared R (lftAt n j ok κs) (a .0)) ∷ kept h (a .1)
     kept (gives h) a = kept h (a .1)
     kept (lends h) a = kept h (a .1)
@@ -256,6 +264,7 @@ module _ {M : Type 1} (𝓤 : URA M) (H : Heap 𝓤) (A : Atoms 𝓤) where
     lent W (leave h) e a = lent W h e (a .1)
     lent W (holds {R = R} {j = j} {ok = ok} {ks = ks} {ls = ls} h) e a = stays (mut-ref R (lftAt n j ok κs) (a .0)) (given-of κs ks (a .1)) (kept h (a .1)) (⋆ 𝓤 H A (given-of μs ls (args h (a .1)))) (lent W h e (a .1))
     lent W (rests {R = R} {j = j} {ok = ok} {ks = ks} {ls = ls} h) e a = stays (mut-slice R (lftAt n j ok κs) (a .0)) (given-of κs ks (a .1)) (kept h (a .1)) (⋆ 𝓤 H A (given-of μs ls (args h (a .1)))) (lent W h e (a .1))
+    lent W (hides {R = R} {j = j} {ok = ok} {ks = ks} {ls = ls} h) e a = stays (shared R (lftAt n j ok κs) (a .0)) (given-of κs ks (a .1)) (kept h (a .1)) (⋆ 𝓤 H A (given-of μs ls (args h (a .1)))) (lent W h e (a .1))
     lent W (shows {R = R} {j = j} {ok = ok} {ks = ks} {ls = ls} h) e a =
         let κ : Lft = lftAt n j ok κs in
         let S : Fml = shared R κ (a .0) in
@@ -273,6 +282,7 @@ module _ {M : Type 1} (𝓤 : URA M) (H : Heap 𝓤) (A : Atoms 𝓤) where
     Quiet (leave h) = Quiet h
     Quiet (holds h) = Quiet h
     Quiet (rests h) = Quiet h
+    Quiet (hides h) = Quiet h
     Quiet (shows h) = Quiet h
     Quiet (gives h) = ⊥
     Quiet (lends h) = ⊥
@@ -284,6 +294,7 @@ module _ {M : Type 1} (𝓤 : URA M) (H : Heap 𝓤) (A : Atoms 𝓤) where
     restored (leave h) q a = restored h q (a .1)
     restored (holds {R = R} {j = j} {ok = ok} h) q a = ap {B = List (Item 𝓤)} (λ Γ. ‵ (mut-ref R (lftAt n j ok κs) (a .0)) ∷ Γ) (restored h q (a .1))
     restored (rests {R = R} {j = j} {ok = ok} h) q a = ap {B = List (Item 𝓤)} (λ Γ. ‵ (mut-slice R (lftAt n j ok κs) (a .0)) ∷ Γ) (restored h q (a .1))
+    restored (hides {R = R} {j = j} {ok = ok} h) q a = ap {B = List (Item 𝓤)} (λ Γ. ‵ (shared R (lftAt n j ok κs) (a .0)) ∷ Γ) (restored h q (a .1))
     restored (shows {R = R} {j = j} {ok = ok} h) q a = ap {B = List (Item 𝓤)} (λ Γ. ‵ (shared R (lftAt n j ok κs) (a .0)) ∷ Γ) (restored h q (a .1))
     restored (gives h) q a = absurd q
     restored (lends h) q a = absurd q
@@ -296,6 +307,7 @@ module _ {M : Type 1} (𝓤 : URA M) (H : Heap 𝓤) (A : Atoms 𝓤) where
     ends-of (leave h) a ws = ends-of h (a .1) ws
     ends-of (holds h) a ws = (now (a .0), ends-of h (a .1) ws)
     ends-of (rests h) a ws = (now (a .0), ends-of h (a .1) ws)
+    ends-of (hides h) a ws = ends-of h (a .1) ws
     ends-of (shows h) a ws = ends-of h (a .1) (ws .1)
     ends-of (gives h) a ws = (ws .0, ends-of h (a .1) (ws .1))
     ends-of (lends h) a ws = (ws .0, ends-of h (a .1) (ws .1))
@@ -310,6 +322,9 @@ module _ {M : Type 1} (𝓤 : URA M) (H : Heap 𝓤) (A : Atoms 𝓤) where
         ends (mut-ref R (lftAt n j ok κs) (a .0)) (fres (name (a .0)) (R .coded .code (now (a .0)))) (kept h (a .1)) (finals κs ks (a .1) (ending 𝓤 H A κs ks N (a .1) (ends-of h (a .1) ws))) (⋆ 𝓤 H A (finals μs ls (args h (a .1)) ws)) (seen-ref R (a .0) W (lftAt n j ok κs)) (settled W h N (a .1) ws)
     settled W (rests {R = R} {j = j} {ok = ok} {ks = ks} {ls = ls} h) N a ws =
         ends (mut-slice R (lftAt n j ok κs) (a .0)) (finally R (name (a .0)) (now (a .0))) (kept h (a .1)) (finals κs ks (a .1) (ending 𝓤 H A κs ks N (a .1) (ends-of h (a .1) ws))) (⋆ 𝓤 H A (finals μs ls (args h (a .1)) ws)) (seen-row R (a .0) W (lftAt n j ok κs)) (settled W h N (a .1) ws)
+    settled W (hides {R = R} {j = j} {ok = ok} {ls = ls} h) N a ws =
+        let F : SProp 𝓤 = ⋆ 𝓤 H A (finals μs ls (args h (a .1)) ws) in
+        via 𝓤 (sep 𝓤 F (⋆ 𝓤 H A (kept h (a .1)))) (monoR 𝓤 F (drop⊢ 𝓤 H A (‵ (shared R (lftAt n j ok κs) (a .0))) (kept h (a .1)) (⋆ 𝓤 H A (kept h (a .1))) (id⊢ 𝓤 _))) (settled W h N (a .1) ws)
     settled W (shows {R = R} {j = j} {ok = ok} {ls = ls} h) N a ws =
         let F : SProp 𝓤 = ⋆ 𝓤 H A (finals μs ls (args h (a .1)) (ws .1)) in
         via 𝓤 (sep 𝓤 F (⋆ 𝓤 H A (kept h (a .1)))) (monoR 𝓤 F (drop⊢ 𝓤 H A (‵ (shared R (lftAt n j ok κs) (a .0))) (kept h (a .1)) (⋆ 𝓤 H A (kept h (a .1))) (id⊢ 𝓤 _))) (settled W h N (a .1) (ws .1))
@@ -325,6 +340,7 @@ module _ {M : Type 1} (𝓤 : URA M) (H : Heap 𝓤) (A : Atoms 𝓤) where
     lengths (leave h) N a ws l = lengths h (N .1) (a .1) ws l
     lengths (holds h) N a ws l = lengths h N (a .1) ws l
     lengths (rests h) N a ws l = (refl, lengths h N (a .1) ws l)
+    lengths (hides h) N a ws l = lengths h N (a .1) ws l
     lengths (shows h) N a ws l = lengths h N (a .1) (ws .1) l
     lengths (gives h) N a ws l = (l .0, lengths h N (a .1) (ws .1) (l .1))
     lengths (lends h) N a ws l = lengths h N (a .1) (ws .1) l
@@ -360,6 +376,7 @@ module _ {M : Type 1} {𝓤 : URA M} {H : Heap 𝓤} {A : Atoms 𝓤} (W : Given
   hands-in (leave h) N a so us i k ps vs ts c = hands-in h (N .1) (a .1) (so .1) us (suc i) k (ps .1) vs ts c
   hands-in (holds h) N a so us i k ps vs ts c = hands-in h N (a .1) so us (suc i) k (ps .1) vs ts c
   hands-in (rests h) N a so us i k ps vs ts c = hands-in h N (a .1) (so .1) us (suc i) k (ps .1) vs ts c
+  hands-in (hides h) N a so us i k ps vs ts c = hands-in h N (a .1) (so .1) us (suc i) k (ps .1) vs ts c
   hands-in (shows h) N a so us i k ps vs ts c = hands-in h N (a .1) (so .1) us (suc i) k (ps .1) vs ts (λ us′ s l. c us′ s (lies s (ps .0), l))
   hands-in (gives {R = R} {ks = ks} h) N a so us i k ps vs ts c =
       let us₁ : Store = put k (some (vptr (a .0 .ptr .0) (a .0 .ptr .1))) us in

@@ -7,12 +7,13 @@ pub mod Lent
 pub mod Frame
 pub mod Hands
 pub mod Pieces
+pub mod OverRow
 pub mod Rows
 pub mod LendArray
-pub mod OverRow
 pub mod Through
 pub mod Beside
 pub mod BesideTwo
+pub mod Twice
 pub mod Every
 pub mod Fold
 pub mod Sought

@@ -45,11 +45,11 @@ use Rattle.walks.proofs.Steps.{it, len-of, sets, steps, finds-elem, fit
 
 -- the element at i of a row of plain records, at its machine value: [the row]  to  [the element's cell; the others], and back as it was
 module _ {M : Type 1} {𝓤 : URA M} {H : Heap 𝓤} {A : Atoms 𝓤} {K : Type 0} {W : Given 𝓤 H A} {Γ : List (Item 𝓤)} {G : Goal 𝓤 H} (R : RattleType) (P : PlainType 𝓤 H A R) (y : RefT (List (R .Denot))) (q : Share) (i : ℕ) (none : R .Denot) (l : i < length (now y)) where
-  takes-out : K → (Is R (getD (now y) i none) (P .val (getD (now y) i none) ∷ []) → Seq K W (‵ (cellAt q (R .mir) (P .val (getD (now y) i none) ∷ []) (y .ptr .0) (Index.place (mem R .size) (y .ptr .1) i)) ∷ ‵ (others (shares R) q (now y) i (y .ptr .0) (y .ptr .1)) ∷ Γ) G)
+  pub takes-out : K → (Is R (getD (now y) i none) (P .val (getD (now y) i none) ∷ []) → Seq K W (‵ (cellAt q (R .mir) (P .val (getD (now y) i none) ∷ []) (y .ptr .0) (Index.place (mem R .size) (y .ptr .1) i)) ∷ ‵ (others (shares R) q (now y) i (y .ptr .0) (y .ptr .1)) ∷ Γ) G)
       → Seq K W (‵ (row R q (now y) (y .ptr .0) (y .ptr .1)) ∷ Γ) G
   takes-out t k = elem-out t R (Is R) (shows 𝓤 H A R) (λ x. P .val x ∷ []) (P .tells) q (now y) i none (y .ptr .0) (y .ptr .1) l (λ g. move t (1 ∷ []) $ drop t $ k g)
 
-  puts-in : K → Is R (getD (now y) i none) (P .val (getD (now y) i none) ∷ [])
+  pub puts-in : K → Is R (getD (now y) i none) (P .val (getD (now y) i none) ∷ [])
       → Step K W (‵ (row R q (now y) (y .ptr .0) (y .ptr .1)) ∷ Γ) G (‵ (cellAt q (R .mir) (P .val (getD (now y) i none) ∷ []) (y .ptr .0) (Index.place (mem R .size) (y .ptr .1) i)) ∷ ‵ (others (shares R) q (now y) i (y .ptr .0) (y .ptr .1)) ∷ Γ) G
   puts-in t g = step (λ s. owned t R (Is R) (P .makes) (getD (now y) i none) _ g $ move t (1 ∷ 0 ∷ []) $ elem-back t R q (now y) i none _ (y .ptr .0) (y .ptr .1) l $ s)
 

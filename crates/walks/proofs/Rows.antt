@@ -4,6 +4,7 @@
 --     asks-row F g     a look, `g(row)`: the row is shown for the time of the call.        asks-slice F g     the same of a `&[R]`
 --     how-many         a look, `row.len()`
 --     at-place v F g p q     the piece `let at = g(x); if at < row.len() { p } q`, of one value at hand: it says `r ≡ F x`. For p and q it is the newest
+--     at-shown         the same of a `&[R]`.        copies-at B T v z p     the piece p with a copy of the element at v at hand, as in `g(row[at], ..)`: the newest value, in no local that has a name. z is what stands past the end
 --     lends-at v z ls h S g     the piece `g(&mut row[at], ..)`, whose answer is returned: the element is lent for the time of the call, and h hands on of the other parameters. z is what stands past the end
 --     first-key, later-keys     the token of the first lifetime, and those of all others
 use mathlib.Core.Path.{_≡_, refl, sym, _∙_, ap, subst}
@@ -30,7 +31,7 @@ use denote.Builtin.{usize}
 use denote.Ref.{RefT, now, name}
 use denote.Slice.{Room, sliceTy, finally}
 use denote.Memory.{mem}
-use denote.Index.{place-is}
+use denote.Index.{place-is, shuts-slice}
 use denote.Index as Index
 use denote.Steps.{only}
 use denote.Struct.Declared as D
@@ -40,12 +41,13 @@ use denote.Exit.{yes}
 use Rattle.walks.proofs.Plain.{ty, PlainType, has, uint}
 use Rattle.walks.proofs.Walk.{offset-fits, size-fits, size-lit}
 use Rattle.walks.proofs.Steps.{it, ptr-of, len-of, sets, steps, by-values, ref-to, slice-of, hands-to, finds-elem, fits-slice, fits-offset}
-use Rattle.walks.proofs.Form.{Said, Kind, shown, handed, behind, slots, param-types, Passed, Plains, Facts, Lasting, Ends, ending, left-at, met, exits, slice-val, tokens, gives as given-of, finals, mut-ref, mut-slice, paired, listed}
-use Rattle.walks.proofs.Callee.{of-one, of-slice, calls-slice}
+use Rattle.walks.proofs.OverRow.{takes-out, puts-in, looks-into}
+use Rattle.walks.proofs.Form.{Form, Said, Kind, shown, handed, behind, slots, param-types, Passed, Plains, Facts, Lasting, Ends, ending, left-at, met, exits, slice-val, tokens, gives as given-of, finals, mut-ref, mut-slice, shared, paired, listed}
+use Rattle.walks.proofs.Callee.{of-one, of-slice, calls-slice, keeps-copy}
 use Rattle.walks.proofs.Lent.{lent-as, elem, ElemKept, settles, lends-elem, elem-home, opens-ref, shuts-ref, shows-row, row-home}
 use Rattle.walks.proofs.Frame.{itself, one-more, less, up-to, past, past-le, Store, put, put-here, Same, put-same, then-same, Layout, Inside, frame, Local-is, Locals-are, Known, still, newly, still-params, lies, var-in, len-in, ptr-in, points-in, sets-in, slice-in, lands-in, returns-in, turns}
 use Rattle.walks.proofs.Hands.{Var, newest, Hands, stop, shows, Spots, place-of, fresh, moves, calling, Held, words, Agree, args, plains, sure, kept, lent, ends-of, settled, lengths, hands-in, calls-in}
-use Rattle.walks.proofs.Pieces.{Scene, values, whole, End, Runs, still-hand, finds, known-var, Look, Piece, lets, forks, Keys, asks, asks-of}
+use Rattle.walks.proofs.Pieces.{Scene, Hand, values, whole, End, Runs, still-hand, finds, known-var, Look, Piece, lets, forks, Keys, asks, asks-of}
 
 -- ---- the first token and the first of what is given, apart from the other tokens and the rest
 module _ {M : Type 1} (𝓤 : URA M) (H : Heap 𝓤) (A : Atoms 𝓤) (T X : Fml) (Γ Δ : List (Item 𝓤)) where
@@ -134,7 +136,7 @@ module _ {M : Type 1} {𝓤 : URA M} {H : Heap 𝓤} {A : Atoms 𝓤} {W : Given
   }
 
 -- ---- a row that is the first parameter
--- its element at x: where it is goes to the k-th local and the two after it
+-- its element at x: where it is goes to the k-th local and those after it
 module _ (R : RattleType) (y : RefT (List (R .Denot))) (x : ℕ) where
   abbrev at-elem : Val
   at-elem = vptr (y .ptr .0) (Index.place (mem R .size) (y .ptr .1) x)
@@ -142,22 +144,29 @@ module _ (R : RattleType) (y : RefT (List (R .Denot))) (x : ℕ) where
   abbrev its-offset : Val
   its-offset = vint w64 (x * mem R .size)
 
+  abbrev aimed-elem : ℕ → Store → Store
+  aimed-elem k us = put (suc k) (some at-elem) (put k (some its-offset) us)
+
   abbrev found-elem : ℕ → Store → Store
-  found-elem k us = put (suc (suc k)) (some at-elem) (put (suc k) (some at-elem) (put k (some its-offset) us))
+  found-elem k us = put (suc (suc k)) (some at-elem) (aimed-elem k us)
 
 -- x lies in the local n
 module _ {M : Type 1} {𝓤 : URA M} {H : Heap 𝓤} {A : Atoms 𝓤} {K : Type 0} {W : Given 𝓤 H A} {Γ : List (Item 𝓤)} {C : Calls 𝓤 H} {Λ : Loops 𝓤 H} {q : After 𝓤 H} (E : Layout) (us : Store) (R : RattleType) (y : RefT (List (R .Denot))) (x n k : ℕ) where
+  aims-in : K → {ρ : Ty} {rest : Body} → Room R (length (now y)) → x < length (now y) → Known E us k 1 (sliceTy ρ) (slice-val y) → Inside E n × (us n ≡ some (vint w64 x)) → Local-is E k (tyInt w64) → Local-is E (suc k) tyPtr
+      → Step K W (raw (frame 𝓤 H E (aimed-elem R y x k us)) ∷ Γ) (runs C Λ E rest q) (raw (frame 𝓤 H E us) ∷ Γ) (runs C Λ E (steps (finds-elem R 1 n k (suc k)) rest) q)
+  aims-in t space l row at offset-is ptr-is =
+      let w : Val = its-offset R y x in
+      let us₁ : Store = put k (some w) us in
+      step (λ s.
+      sets-in t E us k offset-is (fits-offset R (length (now y)) x space l) (bin t (var-in t zero E us n refl at) (size-lit t (size-fits R space l)) (record { fits = offset-fits R space l })) $
+      sets-in t E us₁ (suc k) ptr-is (tt, tt) (subst (λ (o : ℕ). Rv K W (raw (frame 𝓤 H E us₁) ∷ Γ) E (op2 offset (ptr-of 1) (it k)) (vptr (y .ptr .0) o)) (sym (place-is (mem R .size) (y .ptr .1) x)) (bin t {o = offset} (ptr-in E us₁ 1 t (still (put-same k (some w) us) (itself k) row)) (var-in t zero E us₁ k refl (offset-is .inside, put-here k (some w) us)) tt)) $ s)
+
   reaches-in : K → {ρ : Ty} {rest : Body} → Room R (length (now y)) → x < length (now y) → Known E us k 1 (sliceTy ρ) (slice-val y) → Inside E n × (us n ≡ some (vint w64 x)) → Locals-are E k (by-values (tyInt w64 ∷ tyPtr ∷ ref-to erased mut R ∷ []))
       → Step K W (raw (frame 𝓤 H E (found-elem R y x k us)) ∷ Γ) (runs C Λ E rest q) (raw (frame 𝓤 H E us) ∷ Γ) (runs C Λ E (steps (finds-elem R 1 n k (suc k)) (seq (sets (suc (suc k)) (addrOf (place (suc k) (deref (ty R) ∷ [])))) rest)) q)
   reaches-in t space l row at are =
-      let w : Val = its-offset R y x in
-      let p : Val = at-elem R y x in
-      let us₁ : Store = put k (some w) us in
-      let us₂ : Store = put (suc k) (some p) us₁ in
       step (λ s.
-      sets-in t E us k (are .0) (fits-offset R (length (now y)) x space l) (bin t (var-in t zero E us n refl at) (size-lit t (size-fits R space l)) (record { fits = offset-fits R space l })) $
-      sets-in t E us₁ (suc k) (are .1 .0) (tt, tt) (subst (λ (o : ℕ). Rv K W (raw (frame 𝓤 H E us₁) ∷ Γ) E (op2 offset (ptr-of 1) (it k)) (vptr (y .ptr .0) o)) (sym (place-is (mem R .size) (y .ptr .1) x)) (bin t {o = offset} (ptr-in E us₁ 1 t (still (put-same k (some w) us) (itself k) row)) (var-in t zero E us₁ k refl (are .0 .inside, put-here k (some w) us)) tt)) $
-      sets-in t E us₂ (suc (suc k)) (are .1 .1 .0) (tt, tt) (addr t (points-in t E us₂ (suc k) (newly p us₁ (are .1 .0)))) $ s)
+      aims-in t space l row at (are .0) (are .1 .0) $
+      sets-in t E (aimed-elem R y x k us) (suc (suc k)) (are .1 .1 .0) (tt, tt) (addr t (points-in t E (aimed-elem R y x k us) (suc k) (newly (at-elem R y x) (put k (some (its-offset R y x)) us) (are .1 .0)))) $ s)
 
 -- the code of a test whether what lies in the local n is a place in it
 abbrev if-within : ℕ → ℕ → Body → Body → Body
@@ -166,6 +175,68 @@ if-within n k b₁ b₂ = steps (sets k (rvOpd (len-of 1)) ∷ sets (suc k) (op2
 -- the code by which its element at v is lent on
 abbrev lending : {n m : ℕ} {Qs : List RattleType} {all ks : List (Kind n)} {ls : List (Kind m)} → RattleType → Var all Qs usize → Hands Qs all ks ls → Name → Spots Qs → ℕ → ℕ → Body
 lending R v h g ms j k = steps (finds-elem R 1 (place-of v ms) k (suc k)) (seq (sets (suc (suc k)) (addrOf (place (suc k) (deref (ty R) ∷ [])))) (calling h (suc (suc k) ∷ []) g ms 2 zero (suc (suc (suc k))) return))
+
+-- a place in the row y, which is the first parameter, shown or handed on
+module _ {M : Type 1} {𝓤 : URA M} {H : Heap 𝓤} {A : Atoms 𝓤} {g : Form} (c : Scene 𝓤 H A g) (R : RattleType) (y : RefT (List (R .Denot))) (space : Room R (length (now y))) {ρ : Ty} (lies-first : (Qs : List RattleType) (ms : Spots Qs) (hs : Held 𝓤 H A Qs) (E : Layout) (us : Store) (k : ℕ) → Hand c Qs ms hs E us k → Known E us k 1 (sliceTy ρ) (slice-val y)) where
+  -- it lies in a local already
+  within : {Qs : List RattleType} {hs : Held 𝓤 H A Qs} (v : Var (g .params) Qs usize) {ns₁ ns₂ ts₁ ts₂ : List Local} {b₁ b₂ : Spots Qs → ℕ → ℕ → Body} → let i = values c hs usize v .1 in
+      (i < length (now y) → Piece c Qs hs ns₁ ts₁ b₁) → (length (now y) ≤ i → Piece c Qs hs ns₂ ts₂ b₂)
+      → Piece c Qs hs (ns₁ ++ ns₂) (by-values (tyInt w64 ∷ tyBool ∷ []) ++ (ts₁ ++ ts₂)) (λ ms j k. if-within (place-of v ms) k (b₁ ms j (suc (suc k))) (b₂ ms (past ns₁ j) (past ts₁ (suc (suc k)))))
+  within {Qs} {hs} v {ns₁} {ns₂} p₁ p₂ = record {
+    walks = λ E us ms j k q le h′ named are e.
+        let i : ℕ = values c hs usize v .1 in
+        let n : ℕ = length (now y) in
+        let here : j ≤ k = up-to (past-le (ns₁ ++ ns₂) j) le in
+        let h = still-hand c (λ _ _. refl) here h′ in
+        let x = known-var c E us k h usize v in
+        let w : Val = vbool (ltb i n) in
+        let us₁ : Store = put k (some (vint w64 n)) us in
+        let s₁ : Same k us us₁ = put-same k (some (vint w64 n)) us in
+        sets-in ! E us k (are .0) (tt, record { fits = space .0 }) (of-opd ! (len-in E us 1 ! (lies-first Qs ms hs E us k h))) $
+        sets-in ! E us₁ (suc k) (are .1 .0) (tt, tt) (bin ! (var-in ! zero E us₁ (place-of v ms) refl (lies s₁ (x .0) .0, lies s₁ (x .0) .1 ∙ ap (λ (vs : List Val). some (only vs)) (x .1 .0))) (var-in ! zero E us₁ k refl (are .0 .inside, put-here k (some (vint w64 n)) us)) tt) $
+        forks (ltb i n) (λ y. p₁ (ltb→lt i n y)) (λ y. p₂ (nltb→le i n y)) E (put (suc k) (some w) us₁) ms (suc k) j (suc (suc k)) q (are .1 .0) (put-here (suc k) (some w) us₁) (up-to le (less (one-more (suc k)))) (still-hand c (λ n b. then-same (one-more k) s₁ (put-same (suc k) (some w) us₁) n (up-to b here)) (itself j) h′) named (are .1 .1) e;
+  }
+
+  finds-place : {Qs : List RattleType} {hs : Held 𝓤 H A Qs} {X : RattleType} (v : Var (g .params) Qs X) (F : X .Denot → ℕ) (f : Name) → Triple 𝓤 (c .𝓣 .C f) (met (of-one usize X F) 𝓤 H A) → {ns₁ ns₂ ts₁ ts₂ : List Local} {b₁ b₂ : Spots (usize ∷ Qs) → ℕ → ℕ → Body} → let i = F (values c hs X v .1) in
+      (i < length (now y) → Piece c (usize ∷ Qs) ((uint 𝓤 H A (c .W) w64, i), hs) ns₁ ts₁ b₁) → (length (now y) ≤ i → Piece c (usize ∷ Qs) ((uint 𝓤 H A (c .W) w64, i), hs) ns₂ ts₂ b₂)
+      → Piece c Qs hs (by-values (tyInt w64 ∷ []) ++ (ns₁ ++ ns₂)) (by-values (tyInt w64 ∷ tyBool ∷ []) ++ (ts₁ ++ ts₂)) (λ ms j k. seq (call f (it (place-of v ms) ∷ []) (place j [])) (if-within j k (b₁ (j, ms) (suc j) (suc (suc k))) (b₂ (j, ms) (past ns₁ (suc j)) (past ts₁ (suc (suc k))))))
+  finds-place v F f meets p₁ p₂ = lets (uint 𝓤 H A (c .W) w64) _ (asks-of v F f meets) (within newest p₁ p₂)
+
+module _ {M : Type 1} {𝓤 : URA M} {H : Heap 𝓤} {A : Atoms 𝓤} {W : Given 𝓤 H A} {𝓣 : Tables 𝓤 H} {m : ℕ} {R : RattleType} {ks : List (Kind (suc m))} {O : RattleType} {S : Said (shown zero tt R ∷ ks) O} {N : Plains 𝓤 H A ks} {P₀ : PlainType 𝓤 H A O} {κs : Lfts (suc m)} {qs : Shares (suc m)} {a : Passed κs (shown zero tt R ∷ ks)} {so : Facts 𝓤 H A κs (shown zero tt R ∷ ks) N a} where
+  pub at-shown : {Qs : List RattleType} {hs : Held 𝓤 H A Qs} {X : RattleType} (v : Var (shown zero tt R ∷ ks) Qs X) (F : X .Denot → ℕ) (g : Name) → Triple 𝓤 (𝓣 .C g) (met (of-one usize X F) 𝓤 H A) → {ns₁ ns₂ ts₁ ts₂ : List Local} {b₁ b₂ : Spots (usize ∷ Qs) → ℕ → ℕ → Body} → let c = scene W 𝓣 (shown zero tt R ∷ ks) O S N P₀ κs qs a so in let i = F (values c hs X v .1) in
+      (i < length (now (a .0)) → Piece c (usize ∷ Qs) ((uint 𝓤 H A W w64, i), hs) ns₁ ts₁ b₁) → (length (now (a .0)) ≤ i → Piece c (usize ∷ Qs) ((uint 𝓤 H A W w64, i), hs) ns₂ ts₂ b₂)
+      → Piece c Qs hs (by-values (tyInt w64 ∷ []) ++ (ns₁ ++ ns₂)) (by-values (tyInt w64 ∷ tyBool ∷ []) ++ (ts₁ ++ ts₂)) (λ ms j k. seq (call g (it (place-of v ms) ∷ []) (place j [])) (if-within j k (b₁ (j, ms) (suc j) (suc (suc k))) (b₂ (j, ms) (past ns₁ (suc j)) (past ts₁ (suc (suc k))))))
+  at-shown = finds-place (scene W 𝓣 (shown zero tt R ∷ ks) O S N P₀ κs qs a so) R (a .0) (so .0) (λ Qs ms hs E us k h. h .params .0)
+
+module _ {M : Type 1} {𝓤 : URA M} {H : Heap 𝓤} {A : Atoms 𝓤} {W : Given 𝓤 H A} {𝓣 : Tables 𝓤 H} {m : ℕ} {ks : List (Kind (suc m))} {O : RattleType} {N : Plains 𝓤 H A ks} {P₀ : PlainType 𝓤 H A O} {κs : Lfts (suc m)} {qs : Shares (suc m)} (B : D.Declared) (T : PlainType 𝓤 H A (D.row B)) {S : Said (shown zero tt (D.row B) ∷ ks) O} {a : Passed κs (shown zero tt (D.row B) ∷ ks)} {so : Facts 𝓤 H A κs (shown zero tt (D.row B) ∷ ks) N a} where
+  pub copies-at : {Qs : List RattleType} {hs : Held 𝓤 H A Qs} {ts : List Local} {b : Spots (D.row B ∷ Qs) → ℕ → ℕ → Body} (v : Var (shown zero tt (D.row B) ∷ ks) Qs usize) (none : B .D) → let c = scene W 𝓣 (shown zero tt (D.row B) ∷ ks) O S N P₀ κs qs a so in let i = values c hs usize v .1 in i < length (now (a .0))
+      → Piece c (D.row B ∷ Qs) ((T, getD (now (a .0)) i none), hs) [] ts b
+      → Piece c Qs hs [] (by-values (tyInt w64 ∷ tyPtr ∷ ty (D.row B) ∷ []) ++ ts) (λ ms j k. steps (finds-elem (D.row B) 1 (place-of v ms) k (suc k)) (seq (sets (suc (suc k)) (rvOpd (copy (place (suc k) (deref (ty (D.row B)) ∷ []))))) (b (suc (suc k), ms) (suc (suc (suc k))) (suc (suc (suc k))))))
+  copies-at {Qs} {hs} v none l p = record {
+    walks = λ E us ms j k q le h′ named are e.
+        let c = scene W 𝓣 (shown zero tt (D.row B) ∷ ks) O S N P₀ κs qs a so in
+        let R : RattleType = D.row B in
+        let y : RefT (List (R .Denot)) = a .0 in
+        let i : ℕ = values c hs usize v .1 in
+        let h = still-hand c (λ _ _. refl) le h′ in
+        let x = known-var c E us k h usize v in
+        let us₁ : Store = put k (some (its-offset R y i)) us in
+        let us₂ : Store = aimed-elem R y i k us in
+        let z : R .Denot = getD (now y) i none in
+        let u = some (T .val z) in
+        let s₂ : Same k us us₂ = then-same (one-more k) (put-same k (some (its-offset R y i)) us) (put-same (suc k) (some (at-elem R y i)) us₁) in
+        let Γ : List (Item 𝓤) = tokens m (κs .1) (qs .1) in
+        let Δ : List (Item 𝓤) = given-of κs ks (a .1) in
+        aims-in E us R y i (place-of v ms) k ! (so .0) l (h .params .0) (x .0 .is .inside, x .0 .has ∙ ap (λ (vs : List Val). some (only vs)) (x .1 .0)) (are .0) (are .1 .0) $
+        heads (flft (κs .0) (qs .0)) (shared R (κs .0) y) Γ Δ ! (frame 𝓤 H E us₂) $ move ! (1 ∷ []) $ keeps-copy ! R (κs .0) y $ move ! (2 ∷ 0 ∷ []) $ looks-into ! tt R T y (λ s.
+        -- [the elements; the open borrow; the row; the frame; the other tokens; the rest]
+        takes-out R T y s i none l ! (λ g.
+        -- [the element; the other elements; the open borrow; the row; the frame; the other tokens; the rest]
+        move ! (4 ∷ []) $ sets-in ! E us₂ (suc (suc k)) (are .1 .1 .0) (has T z g) (of-opd ! (load ! (points-in ! E us₂ (suc k) (newly (at-elem R y i) us₁ (are .1 .0))) (look-raw ! 1 refl))) $
+        move ! (1 ∷ 2 ∷ []) $ puts-in R T y s i none l ! g $ move ! (0 ∷ 2 ∷ []) $ shuts-slice ! tt R s (now y) (y .ptr .0) (y .ptr .1) $
+        move ! (0 ∷ 2 ∷ []) $ homes (flft (κs .0) (qs .0)) (shared R (κs .0) y) Γ Δ ! (frame 𝓤 H E (put (suc (suc k)) u us₂)) $
+        p .walks E (put (suc (suc k)) u us₂) (suc (suc k), ms) (suc (suc (suc k))) (suc (suc (suc k))) q (itself (suc (suc (suc k)))) (finds c (T, z) (still-hand c s₂ (less (one-more (suc k))) h) (λ _ _. refl) (are .1 .1 .0) g) tt (are .1 .1 .1) e));
+  }
 
 module _ {M : Type 1} {𝓤 : URA M} {H : Heap 𝓤} {A : Atoms 𝓤} {W : Given 𝓤 H A} {𝓣 : Tables 𝓤 H} {m : ℕ} {R : RattleType} {ks : List (Kind (suc m))} {O : RattleType} {S : Said (handed zero tt R ∷ ks) O} {N : Plains 𝓤 H A ks} {P₀ : PlainType 𝓤 H A O} {κs : Lfts (suc m)} {qs : Shares (suc m)} {a : Passed κs (handed zero tt R ∷ ks)} {so : Facts 𝓤 H A κs (handed zero tt R ∷ ks) N a} where
   pub asks-row : {Qs : List RattleType} {hs : Held 𝓤 H A Qs} {Q : RattleType} {P : PlainType 𝓤 H A Q} (F : List (R .Denot) → Q .Denot) (g : Name) → Triple 𝓤 (𝓣 .C g) (met (of-slice Q R F) 𝓤 H A)
@@ -188,30 +259,10 @@ module _ {M : Type 1} {𝓤 : URA M} {H : Heap 𝓤} {A : Atoms 𝓤} {W : Given
   pub how-many : {Qs : List RattleType} {hs : Held 𝓤 H A Qs} → Look (scene W 𝓣 (handed zero tt R ∷ ks) O S N P₀ κs qs a so) Qs hs usize (uint 𝓤 H A W w64) (length (now (a .0))) [] (λ ms d k rest. seq (sets d (rvOpd (len-of 1))) rest)
   how-many = record { looks = λ E us ms d k q rest h are d-is go. sets-in ! E us d d-is (tt, record { fits = so .0 .0 }) (of-opd ! (len-in E us 1 ! (h .params .0))) $ go us (λ _ _. refl) (refl, so .0 .0) }
 
-  -- the place lies in a local already
-  within : {Qs : List RattleType} {hs : Held 𝓤 H A Qs} (v : Var (handed zero tt R ∷ ks) Qs usize) {ns₁ ns₂ ts₁ ts₂ : List Local} {b₁ b₂ : Spots Qs → ℕ → ℕ → Body} → let c = scene W 𝓣 (handed zero tt R ∷ ks) O S N P₀ κs qs a so in let i = values c hs usize v .1 in
-      (i < length (now (a .0)) → Piece c Qs hs ns₁ ts₁ b₁) → (length (now (a .0)) ≤ i → Piece c Qs hs ns₂ ts₂ b₂)
-      → Piece c Qs hs (ns₁ ++ ns₂) (by-values (tyInt w64 ∷ tyBool ∷ []) ++ (ts₁ ++ ts₂)) (λ ms j k. if-within (place-of v ms) k (b₁ ms j (suc (suc k))) (b₂ ms (past ns₁ j) (past ts₁ (suc (suc k)))))
-  within {hs = hs} v {ns₁} {ns₂} p₁ p₂ = record {
-    walks = λ E us ms j k q le h′ named are e.
-        let c = scene W 𝓣 (handed zero tt R ∷ ks) O S N P₀ κs qs a so in
-        let i : ℕ = values c hs usize v .1 in
-        let n : ℕ = length (now (a .0)) in
-        let here : j ≤ k = up-to (past-le (ns₁ ++ ns₂) j) le in
-        let h = still-hand c (λ _ _. refl) here h′ in
-        let x = known-var c E us k h usize v in
-        let w : Val = vbool (ltb i n) in
-        let us₁ : Store = put k (some (vint w64 n)) us in
-        let s₁ : Same k us us₁ = put-same k (some (vint w64 n)) us in
-        sets-in ! E us k (are .0) (tt, record { fits = so .0 .0 }) (of-opd ! (len-in E us 1 ! (h .params .0))) $
-        sets-in ! E us₁ (suc k) (are .1 .0) (tt, tt) (bin ! (var-in ! zero E us₁ (place-of v ms) refl (lies s₁ (x .0) .0, lies s₁ (x .0) .1 ∙ ap (λ (vs : List Val). some (only vs)) (x .1 .0))) (var-in ! zero E us₁ k refl (are .0 .inside, put-here k (some (vint w64 n)) us)) tt) $
-        forks (ltb i n) (λ y. p₁ (ltb→lt i n y)) (λ y. p₂ (nltb→le i n y)) E (put (suc k) (some w) us₁) ms (suc k) j (suc (suc k)) q (are .1 .0) (put-here (suc k) (some w) us₁) (up-to le (less (one-more (suc k)))) (still-hand c (λ n b. then-same (one-more k) s₁ (put-same (suc k) (some w) us₁) n (up-to b here)) (itself j) h′) named (are .1 .1) e;
-  }
-
   pub at-place : {Qs : List RattleType} {hs : Held 𝓤 H A Qs} {X : RattleType} (v : Var (handed zero tt R ∷ ks) Qs X) (F : X .Denot → ℕ) (g : Name) → Triple 𝓤 (𝓣 .C g) (met (of-one usize X F) 𝓤 H A) → {ns₁ ns₂ ts₁ ts₂ : List Local} {b₁ b₂ : Spots (usize ∷ Qs) → ℕ → ℕ → Body} → let c = scene W 𝓣 (handed zero tt R ∷ ks) O S N P₀ κs qs a so in let i = F (values c hs X v .1) in
       (i < length (now (a .0)) → Piece c (usize ∷ Qs) ((uint 𝓤 H A W w64, i), hs) ns₁ ts₁ b₁) → (length (now (a .0)) ≤ i → Piece c (usize ∷ Qs) ((uint 𝓤 H A W w64, i), hs) ns₂ ts₂ b₂)
       → Piece c Qs hs (by-values (tyInt w64 ∷ []) ++ (ns₁ ++ ns₂)) (by-values (tyInt w64 ∷ tyBool ∷ []) ++ (ts₁ ++ ts₂)) (λ ms j k. seq (call g (it (place-of v ms) ∷ []) (place j [])) (if-within j k (b₁ (j, ms) (suc j) (suc (suc k))) (b₂ (j, ms) (past ns₁ (suc j)) (past ts₁ (suc (suc k))))))
-  at-place {X = X} v F g meets p₁ p₂ = lets (uint 𝓤 H A W w64) _ (asks-of v F g meets) (within newest p₁ p₂)
+  at-place = finds-place (scene W 𝓣 (handed zero tt R ∷ ks) O S N P₀ κs qs a so) R (a .0) (so .0) (λ Qs ms hs E us k h. h .params .0)
 
   pub lends-at : {Qs : List RattleType} {hs : Held 𝓤 H A Qs} (v : Var (handed zero tt R ∷ ks) Qs usize) (none : R .Denot) (ls : List (Kind (suc m))) (h : Hands Qs (handed zero tt R ∷ ks) ks ls) → let c = scene W 𝓣 (handed zero tt R ∷ ks) O S N P₀ κs qs a so in let i = values c hs usize v .1 in let x = values c hs in
       let μs : ℕ → Lfts (suc m) = λ ν. (ν ∷ [], κs .1) in
