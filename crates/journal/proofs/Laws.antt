@@ -1,20 +1,20 @@
 -- The laws of the journal: a listing has at most 128 entries; with room the new one comes to its end, and when full the oldest goes too;
 -- so entries one after the other are listed as the last 128 of them (02, ticket 8).
 -- Assumes nothing.
-use Prim.Native.Nat.{ℕ, zero, suc, _+_, _-_, _<_, _≤_}
+use Prim.Native.Nat.{ℕ, zero, suc, _+_, _-_, _*_, _/_, _%_, _<_, _≤_}
 use native.Mathlib.Omega.{arith}
-use mathlib.Core.Path.{_≡_, refl, sym, ap, _∙_}
+use mathlib.Core.Path.{_≡_, refl, sym, ap, ap₂, _∙_}
+use mathlib.Core.Bool.{Bool, true, false, cond}
 use mathlib.Core.List.{List, [], _∷_, _++_, append-assoc, append-nil}
 use lib.Dec.{ltb}
-use lib.ListN.{length, getD, set, drop, length-append, length-drop, length-set, length-replicate, List·getD-eq-default}
-use lib.Seq.{getD-set-same, getD-set-other, drop-append-le, drop-drop}
+use lib.ListN.{length, getD, set, take, drop, length-append, length-drop, length-set, length-replicate, drop-of-length-le, take-append-drop}
+use lib.Seq.{getD-set-same, getD-set-other, drop-append-le, drop-drop, drop-cons}
 use borrow.Author.Tests.{ltb-true, ltb-false}
 use Rattle.lists.specs.Each.{each}
-use Rattle.lists.proofs.Each.{each-length, each-place, each-same}
+use Rattle.lists.proofs.Each.{each-length, each-place, each-same, set-front}
 use Rattle.lists.proofs.Split.{split}
-use Rattle.journal.specs.declared.Entry.{Entry}
 use Rattle.journal.specs.declared.Journal.{Journal}
-use Rattle.journal.specs.Ring.{here, held, kept, noEntries, entered, enteredAll, placeAt, listing, latest}
+use Rattle.journal.specs.Ring.{Entry, entry, latching, here, held, kept, noEntries, entered, enteredAll, noted, placeAt, listing, latest, words, wordsOver}
 
 -- ---- lists by places: one place more at the end, and all places one further
 each-end : (f : ℕ → Entry) (i n : ℕ) → each i (suc n) f ≡ each i n f ++ (f (i + n) ∷ [])
@@ -40,9 +40,6 @@ listing-short j = omega (arith, listing-length j)
 pub listing-at : (j : Journal) (k : ℕ) (other : Entry) → k < held j → getD (listing j) k other ≡ kept j (placeAt j k)
 unfolding listing
 listing-at j k other p = each-place (λ i. kept j (placeAt j i)) (held j) k other p
-
-pub listing-past : (j : Journal) (k : ℕ) (other : Entry) → held j ≤ k → getD (listing j) k other ≡ other
-listing-past j k other p = List·getD-eq-default (listing j) other (omega (arith, listing-length j))
 
 -- ---- a ring of 128 places, as every record has; what `next` and `len` say does not matter
 abbrev pub Sound : Journal → Type 0
@@ -171,6 +168,18 @@ all-listing j [] s = rw append-nil (sym (latest-all 128 (listing j) (listing-sho
 all-listing j (e ∷ es) s =
     all-listing (entered j e) es (entered-sound j e s) ∙ ap (λ (l : List Entry). latest 128 (l ++ es)) (entered-listing j e s) ∙ latest-twice 128 (listing j ++ (e ∷ [])) es ∙ ap (latest 128) (append-assoc (listing j) (e ∷ []) es)
 
+-- one cause of those that are left: what is entered of it, and then of the rest
+pub noted-turn : (up : ℕ → Bool) (cell : ℕ → ℕ) (number i : ℕ) (j next : Journal) → i < 5 → next ≡ cond (up i) (entered j (latching i (cell i) number)) j
+    → enteredAll next (noted up cell number (i + 1) (5 - (i + 1))) ≡ enteredAll j (noted up cell number i (5 - i))
+unfolding noted
+noted-turn up cell number i j next p is =
+    let one : 5 - i ≡ suc (5 - (i + 1)) = omega arith in
+    rw (one, is) (split (up i) (λ e. rw e) (λ e. rw e))
+
+pub noted-sound : (up : Bool) (e : Entry) (j next : Journal) → next ≡ cond up (entered j e) j → Sound j → Sound next
+noted-sound true e j next is s = rw is (entered-sound j e s)
+noted-sound false e j next is s = rw is s
+
 pub all-more : (j : Journal) (es fs : List Entry) → enteredAll j (es ++ fs) ≡ enteredAll (enteredAll j es) fs
 all-more j [] fs = refl
 all-more j (e ∷ es) fs = all-more (entered j e) es fs
@@ -182,3 +191,39 @@ blank-listing = refl
 -- from a board's start: exactly the last 128 of the entries, or all if fewer
 pub last-listed : (es : List Entry) → listing (enteredAll noEntries es) ≡ latest 128 es
 last-listed es = all-listing noEntries es blank-sound ∙ ap (λ (l : List Entry). latest 128 (l ++ es)) blank-listing
+
+-- ---- in words: a cause and a cell come back out of their byte
+pub words-of : (cause cell number : ℕ) → cause < 16 → cell < 16 → words (latching cause cell number ∷ []) ≡ cause ∷ cell ∷ number ∷ []
+unfolding words
+words-of cause cell number p q =
+    let top : (16 * (cause % 16) + cell % 16) / 16 ≡ cause = omega arith in
+    let low : (16 * (cause % 16) + cell % 16) % 16 ≡ cell = omega arith in
+    rw (top, low)
+
+-- the buffer from the last entry down to the one with k older: before it the buffer is as it was lent
+module _ (es : List Entry) (old : List ℕ) where
+  abbrev pub put-down : ℕ → List ℕ
+  put-down k = take (3 * k) old ++ (words (drop k es) ++ drop (3 * length es) old)
+
+  pub put-none : old ≡ put-down (length es)
+  unfolding words
+  put-none = let none : drop (length es) es ≡ [] = drop-of-length-le es {i = length es} (omega arith) in rw none (sym (take-append-drop (3 * length es) old))
+
+  pub put-turn : (k : ℕ) (e other : Entry) (out : List ℕ) → 0 < k → k ≤ length es → 3 * length es ≤ length old → out ≡ put-down k → getD es (k - 1) other ≡ e
+      → set (set (set out (3 * (k - 1) + 2) (e .number)) (3 * (k - 1) + 1) (e .what % 16)) (3 * (k - 1)) (e .what / 16) ≡ put-down (k - 1)
+  unfolding words
+  put-turn k e other out p q room o is =
+      let at = 3 * (k - 1) in
+      let rest = words (drop k es) ++ drop (3 * length es) old in
+      let three : 3 * k ≡ suc (at + 2) = omega arith in
+      let two : at + 2 ≡ suc (at + 1) = omega arith in
+      let one : at + 1 ≡ suc at = omega arith in
+      let back : suc (k - 1) ≡ k = omega arith in
+      let cons : drop (k - 1) es ≡ e ∷ drop k es = drop-cons es (k - 1) other (omega arith) ∙ ap₂ (λ (f : Entry) (m : ℕ). f ∷ drop m es) is back in
+      let number : set out (at + 2) (e .number) ≡ take (at + 2) old ++ (e .number ∷ rest)
+      = ap (λ (l : List ℕ). set l (at + 2) (e .number)) (o ∙ ap (λ (m : ℕ). take m old ++ rest) three) ∙ set-front old rest (at + 2) (e .number) (omega arith) in
+      let cell : set (set out (at + 2) (e .number)) (at + 1) (e .what % 16) ≡ take (at + 1) old ++ (e .what % 16 ∷ e .number ∷ rest)
+      = ap (λ (l : List ℕ). set l (at + 1) (e .what % 16)) (number ∙ ap (λ (m : ℕ). take m old ++ (e .number ∷ rest)) two) ∙ set-front old (e .number ∷ rest) (at + 1) (e .what % 16) (omega arith) in
+      ap (λ (l : List ℕ). set l at (e .what / 16)) (cell ∙ ap (λ (m : ℕ). take m old ++ (e .what % 16 ∷ e .number ∷ rest)) one)
+      ∙ set-front old (e .what % 16 ∷ e .number ∷ rest) at (e .what / 16) (omega arith)
+      ∙ ap (λ (ds : List Entry). take at old ++ (words ds ++ drop (3 * length es) old)) (sym cons)
