@@ -15,7 +15,7 @@ use denote.Builtin.{u8, u32}
 use denote.Ref.{now}
 use denote.Triple.Clauses.{closing}
 use Rattle.walks.proofs.Form.{Form, value, shown, handed, behind, ended-of, clauses-of}
-use Rattle.walks.proofs.Callee.{on-frame}
+use Rattle.walks.proofs.Callee.{on-frame, on-list}
 use Rattle.board.specs.Sample.{sampleOf}
 use Rattle.board.specs.declared.Board.{Board}
 use Rattle.board.proofs.Board as Boards
@@ -23,7 +23,8 @@ use Rattle.board.proofs.Readings as Readings
 use Rattle.stack.specs.Open.{openRow, openCountsRow}
 use Rattle.stack.specs.Sample.{sampleRow}
 use Rattle.stack.specs.Frame.{frameRow, frameBuffer}
-use Rattle.adomvik.specs.Calls.{openNumber, countsNumber, sampleNumber, sampleOut, boardNumber, boardOut, frameNumber, readNumber, readOut}
+use Rattle.stack.specs.List.{listBuffer}
+use Rattle.adomvik.specs.Calls.{openNumber, countsNumber, sampleNumber, sampleOut, boardNumber, boardOut, frameNumber, listNumber, readNumber, readOut}
 use Rattle.adomvik.proofs.Sampled as Sampled
 use Rattle.adomvik.proofs.Reading as Reading
 use Rattle.adomvik.proofs.adomvik_open as adomvik-open
@@ -31,6 +32,7 @@ use Rattle.adomvik.proofs.adomvik_open_plans as adomvik-open-plans
 use Rattle.adomvik.proofs.adomvik_sample as adomvik-sample
 use Rattle.adomvik.proofs.adomvik_sample_board as adomvik-sample-board
 use Rattle.adomvik.proofs.adomvik_frame as adomvik-frame
+use Rattle.adomvik.proofs.adomvik_list as adomvik-list
 use Rattle.adomvik.proofs.adomvik_read as adomvik-read
 
 -- the number and the row
@@ -80,6 +82,10 @@ boardForm = record {
 abbrev pub frameForm : Form
 frameForm = on-frame u8 Boards.the-row u8 u8 frameNumber frameRow frameBuffer
 
+-- the number and the words; the row is only read
+abbrev pub listForm : Form
+listForm = on-list u32 Boards.the-row u32 u32 listNumber listBuffer
+
 -- the number and the place; the row is only read
 abbrev pub readForm : Form
 readForm = record {
@@ -104,6 +110,9 @@ module _ {M : Type 1} (𝓤 : URA M) (H : Heap 𝓤) (A : Atoms 𝓤) (mem : Mem
 
   pub frame-says : adomvik-frame.spec 𝓤 H A mem run ≡ closing 𝓤 H A (ended-of frameForm) (clauses-of frameForm 𝓤)
   frame-says = refl
+
+  pub list-says : adomvik-list.spec 𝓤 H A mem run ≡ closing 𝓤 H A (ended-of listForm) (clauses-of listForm 𝓤)
+  list-says = refl
 
   pub read-says : adomvik-read.spec 𝓤 H A mem run ≡ closing 𝓤 H A (ended-of readForm) (clauses-of readForm 𝓤)
   read-says = refl

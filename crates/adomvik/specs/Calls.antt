@@ -9,11 +9,12 @@ use Rattle.frame.specs.Reply.{replySaid}
 use Rattle.stack.specs.Open.{openingSaid, openAnswer, countPlans}
 use Rattle.stack.specs.Sample.{sampleAnswer}
 use Rattle.stack.specs.Frame.{frameAnswer}
+use Rattle.stack.specs.List.{listingSaid, listAnswer}
 use Rattle.stack.specs.Read.{viewSaid}
 use Rattle.stack.specs.Read as stack
 use Rattle.adomvik.specs.declared.Sampled.{Sampled}
 use Rattle.adomvik.specs.declared.Reading.{Reading}
-use Rattle.adomvik.specs.Placed.{placed, sampledOf, readingOf}
+use Rattle.adomvik.specs.Placed.{placed, sampledOf, readingOf, countOrRefusal}
 
 -- the opening of the row, by plans and by bare cell counts
 unfoldable pub openNumber : List Board → List ℕ → ℕ
@@ -39,6 +40,10 @@ boardOut b x mv out = placed (answerSaid (sampleOf b x mv .answer)) out (sampled
 -- a frame; its reply is the library's own
 unfoldable pub frameNumber : List Board → List ℕ → List ℕ → ℕ
 frameNumber row bytes buffer = replySaid (frameAnswer row bytes buffer) .number
+
+-- a listing; its words are the library's own
+unfoldable pub listNumber : List Board → ℕ → List ℕ → ℕ
+listNumber row n words = countOrRefusal (listingSaid (listAnswer row n words))
 
 -- the whole-stack reading
 unfoldable pub readNumber : List Board → ℕ

@@ -1,6 +1,6 @@
 -- What an answer puts into its lent place, and its number: that of the refusal, or 0 (01, Refusal numbers).
 -- Assumes nothing.
-use Prim.Native.Nat.{ℕ}
+use Prim.Native.Nat.{ℕ, _+_}
 use mathlib.Core.Bool.{cond}
 use lib.Dec.{eqb}
 use Rattle.refusal.specs.Said.{Said, value}
@@ -8,9 +8,11 @@ use Rattle.board.specs.declared.Answer.{Answer}
 use Rattle.board.specs.Sample.{answerSaid}
 use Rattle.frame.specs.declared.Reply.{Reply}
 use Rattle.frame.specs.Reply.{replySaid}
+use Rattle.stack.specs.declared.Listing.{Listing}
 use Rattle.stack.specs.declared.Opening.{Opening}
 use Rattle.stack.specs.declared.View.{View}
 use Rattle.stack.specs.Open.{openingSaid}
+use Rattle.stack.specs.List.{listingSaid}
 use Rattle.stack.specs.Read.{viewSaid}
 use Rattle.adomvik.specs.declared.Sampled.{Sampled}
 use Rattle.adomvik.specs.declared.Reading.{Reading}
@@ -36,6 +38,13 @@ placedReading out v = record { out = placed (viewSaid v) out (readingOf (viewSai
 
 unfoldable pub numberOfReply : Reply → ℕ
 numberOfReply a = replySaid a .number
+
+-- a listing tells by one number how many entries there are, or 256 more than the number of its refusal
+abbrev pub countOrRefusal : Said → ℕ
+countOrRefusal s = cond (eqb (s .number) 0) (value 0 s) (256 + s .number)
+
+unfoldable pub numberOfListing : Listing → ℕ
+numberOfListing a = countOrRefusal (listingSaid a)
 
 unfoldable pub numberOfOpening : Opening → ℕ
 numberOfOpening a = openingSaid a .number

@@ -3,15 +3,17 @@
 ghost use mathlib.Core.Path.{_≡_};
 ghost use Rattle.stack.specs.Sample.{sampleRow};
 ghost use Rattle.stack.specs.Frame.{frameRow, frameBuffer};
+ghost use Rattle.stack.specs.List.{listBuffer};
 ghost use Rattle.board.specs.Sample.{sampleOf};
 ghost use Rattle.lists.specs.Marks.{bit};
 ghost use Rattle.stack.specs.Open.{openRow, openCountsRow};
-ghost use Rattle.adomvik.specs.Placed.{placedSample, placedReading, numberOfReply, numberOfOpening};
-ghost use Rattle.adomvik.specs.Calls.{openNumber, countsNumber, sampleNumber, sampleOut, boardNumber, boardOut, frameNumber, readNumber, readOut};
+ghost use Rattle.adomvik.specs.Placed.{placedSample, placedReading, numberOfReply, numberOfOpening, numberOfListing};
+ghost use Rattle.adomvik.specs.Calls.{openNumber, countsNumber, sampleNumber, sampleOut, boardNumber, boardOut, frameNumber, listNumber, readNumber, readOut};
 use board::Answer;
 use board::Board;
 use board::Readings;
 use frame::Reply;
+use stack::Listing;
 use stack::Opening;
 use stack::View;
 
@@ -129,6 +131,16 @@ fn opening_number(a: Opening) -> u8
     }
 }
 
+// How many entries, or 256 more than the number of the refusal.
+fn listing_number(a: Listing) -> u32
+    ensures { λ r. ⌜ r ≡ numberOfListing a ⌝ }
+{
+    match a {
+        Listing::Listed(many) => many,
+        Listing::Refused(why) => 256 + refusal::number(why) as u32,
+    }
+}
+
 // ---- the acts
 
 // The cell count of each board, southernmost first: every record of the row as a stand-alone board starts.
@@ -185,6 +197,16 @@ pub extern "C" fn adomvik_frame(row: &mut [Board], bytes: &[u8], reply: &mut [u8
 {
     let a = stack::frame_stack(row, bytes, reply);
     reply_number(a)
+}
+
+// The journal of one board of the row, in words: cause, cell and sample number of each entry, oldest first. The header has it by entries, with the
+// count in a place of its own.
+#[no_mangle]
+pub extern "C" fn adomvik_list(row: &[Board], board: u32, words: &mut [u32]) -> u32
+    ensures { λ r. ⌜ (r ≡ listNumber (now (row .entry)) board (now (words .entry))) × (now (words .exit) ≡ listBuffer (now (row .entry)) board (now (words .entry))) ⌝ }
+{
+    let a = stack::list_stack(row, board, words);
+    listing_number(a)
 }
 
 // The whole-stack reading.

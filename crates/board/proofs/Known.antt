@@ -19,6 +19,10 @@ use Rattle.board.proofs.Found as Found
 use Rattle.board.proofs.Found.Laws as Found′
 use Rattle.board.proofs.Stepped as Stepped
 use Rattle.board.proofs.Stepped.Laws as Stepped′
+use Rattle.board.proofs.Note as Note
+use Rattle.board.proofs.Note.Laws as Note′
+use Rattle.board.proofs.Noted as Noted
+use Rattle.board.proofs.Noted.Laws as Noted′
 
 module _ {M : Type 1} (𝓤 : URA M) (H : Heap 𝓤) (A : Atoms 𝓤) (W : Given 𝓤 H A) where
   abbrev pub board : PlainType 𝓤 H A Board.the-row
@@ -36,7 +40,21 @@ module _ {M : Type 1} (𝓤 : URA M) (H : Heap 𝓤) (A : Atoms 𝓤) (W : Given
   abbrev pub found : PlainType 𝓤 H A Found.the-row
   found = enumeration 𝓤 H A W Found.the-type Found′.the-laws Found′.the-plain Found′.the-copy tt
 
+  abbrev pub note : PlainType 𝓤 H A Note.the-row
+  note = struct 𝓤 H A W Note.the-type Note′.the-laws Note′.the-plain Note′.the-copy
+
   -- what the functions by value return
+  abbrev pub noted : PlainPair 𝓤 H A Noted.the-type Board.the-row Note.the-row (λ z. z .board) (λ z. z .note)
+  noted =
+      record {
+        both = struct 𝓤 H A W Noted.the-type Noted′.the-laws Noted′.the-plain Noted′.the-copy;
+        first = board;
+        second = note;
+        laid-out = refl;
+        spelled = λ z. refl;
+        owed = λ z is. (LL.owed Noted.the-type Noted′.the-laws z _ is .0, LL.owed Noted.the-type Noted′.the-laws z _ is .1 .0);
+      }
+
   abbrev pub stepped : PlainPair 𝓤 H A Stepped.the-type Board.the-row Answer.the-row (λ z. z .board) (λ z. z .answer)
   stepped =
       record {

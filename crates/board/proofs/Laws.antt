@@ -16,7 +16,7 @@ use Rattle.board.specs.declared.Readings.{Readings}
 use Rattle.board.specs.declared.Answer.{Answer}
 use Rattle.board.specs.declared.Answer.the-variants.{Sampled, Refused}
 use Rattle.latches.specs.Latches.{latch, latches, latchNext, latchesOf}
-use Rattle.board.specs.Sample.{answerSaid, answerSaying, sweptAt, latchesAfter, latchesNext, boardWith, runsNext, currentsNext, stands, letsGo, outOfRange}
+use Rattle.board.specs.Sample.{answerSaid, answerSaying, sweptAt, latchesAfter, latchesNext, boardWith, entered, runsNext, currentsNext, stands, letsGo, outOfRange}
 use Rattle.board.specs.Host.{holdsOn}
 use Rattle.board.specs.Way.{outOfRangeBy, latchesBy, latchesLeft}
 use Rattle.latches.proofs.Packed.{latches-kept, latch-of}
@@ -32,7 +32,7 @@ pub latch-after : (f : Fault) (b : Board) (x : Readings) (mv : List ℕ)
     → latch f (latchesOf (runsNext b x mv .latches))
     ≡ latchNext (latch f (latchesOf (b .latches))) (stands (b .working) (sweptAt b x mv) (currentsNext (b .working) (b .currents) x) x f)
     (not (holdsOn (b .kind) f) && letsGo (b .working) (sweptAt b x mv) (currentsNext (b .working) (b .currents) x) x mv f)
-unfolding boardWith latchesNext
+unfolding boardWith entered latchesNext
 latch-after f b x mv = rw (latches-kept (latchesAfter b x mv), latch-of f)
 
 -- a cell reads above 5,000 mV exactly if the highest does

@@ -1,4 +1,4 @@
--- A quiet sample is in range, changes nothing of the board but the last sample and bleeds no cell: it is answered from the record.
+-- A quiet sample is in range, changes nothing of the board but the last sample and its number, and bleeds no cell: it is answered from the record.
 -- Assumes nothing.
 use Prim.Native.Nat.{ℕ}
 use mathlib.Core.Path.{_≡_, refl, sym, ap, _∙_}
@@ -17,7 +17,7 @@ use Rattle.cells.specs.declared.Swept.{Swept}
 use Rattle.cells.specs.Cells.{spanOf}
 use Rattle.cells.specs.Way.{calmOf}
 use Rattle.cells.proofs.Stays.{calm-readable, calm-sweep}
-use Rattle.latches.specs.Latches.{latches, latchesByte}
+use Rattle.latches.specs.Latches.{latches, latchesByte, anyLatch}
 use Rattle.latches.specs.Control.{controlNext}
 use Rattle.latches.specs.Tallies.{talliesNext}
 use Rattle.latches.proofs.Tallied.{none-latched}
@@ -26,8 +26,10 @@ use Rattle.board.specs.declared.Readings.{Readings}
 use Rattle.board.specs.Shunt.{shuntAbove, shuntOutside}
 use Rattle.board.specs.Plan.{isHost, isGarden}
 use Rattle.board.specs.Host.{lastOf}
-use Rattle.board.specs.Sample.{currentsNext, latchesNext, hot, sweptAt, latchesAfter, risenBy, controlWith, boardWith, runsNext, boardNext, sampleValues, answerSaying, outOfRange}
+use Rattle.board.specs.Sample.{currentsNext, latchesNext, hot, sweptAt, latchesAfter, risenBy, controlWith, boardWith, stoodCell, runsNext, boardNext, sampleValues, answerSaying, outOfRange}
+use Rattle.board.specs.Latchings.{numberNext}
 use Rattle.board.specs.Way.{clear, idle, currentsBelow, warm, quietOf, keeping, restedOf}
+use Rattle.board.proofs.Entering.{nothing-entered}
 
 module _ (b : Board) (x : Readings) (mv : List ℕ) (q : quietOf b x (spanOf mv) ≡ true) where
   -- its parts
@@ -134,9 +136,9 @@ module _ (b : Board) (x : Readings) (mv : List ℕ) (q : quietOf b x (spanOf mv)
   same-tallies : talliesNext (risenBy b (latchesAfter b x mv)) (b .tallies) ≡ b .tallies
   same-tallies = rw unlatched (sym (none-latched (latches (λ f. false)) (b .tallies) refl))
 
-  kept-board : runsNext b x mv ≡ keeping b (lastOf x mv)
+  stepped-only : boardWith b x mv (latchesAfter b x mv) (lastOf x mv) ≡ keeping b (lastOf x mv)
   unfolding boardWith latchesByte number
-  kept-board =
+  stepped-only =
       let byte = ap latchesByte unlatched ∙ sym no-latch in
       let flags = ap (λ (w : Swept). w .flags) swept ∙ sym no-flag in
       let cells = ap (λ (w : Swept). w .cells) swept in
@@ -154,7 +156,18 @@ module _ (b : Board) (x : Readings) (mv : List ℕ) (q : quietOf b x (spanOf mv)
         control = same-control i;
         garden = b .garden;
         tallies = same-tallies i;
+        samples = numberNext (b .samples);
+        journal = b .journal;
       }
+
+  -- and nothing is entered
+  nothing-risen : anyLatch (risenBy b (latchesAfter b x mv)) ≡ false
+  nothing-risen = rw unlatched
+
+  kept-board : runsNext b x mv ≡ keeping b (lastOf x mv)
+  kept-board =
+      let left = latchesAfter b x mv in
+      nothing-entered (boardWith b x mv left (lastOf x mv)) (risenBy b left) (stoodCell (sweptAt b x mv)) nothing-risen ∙ stepped-only
 
   pub in-range : outOfRange x mv ≡ false
   in-range = rw (calm-readable (b .working) (b .cells) mv calm, not-high, inside, a-flag)

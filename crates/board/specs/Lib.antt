@@ -1,5 +1,6 @@
 pub mod Plan
 pub mod Shunt
 pub mod Host
+pub mod Latchings
 pub mod Sample
 pub mod Way

@@ -1,4 +1,4 @@
--- A sample of one board (01, The stack and its readings; Refusal numbers 1, 3, 4, 5; When a fault latches and lets go; 02, tickets 3, 5 and 7).
+-- A sample of one board (01, The stack and its readings; Refusal numbers 1, 3, 4, 5; When a fault latches and lets go; 02, tickets 3, 5, 7 and 8).
 -- Assumes nothing.
 use Prim.Native.Nat.{ℕ}
 use mathlib.Core.Bool.{Bool, false, cond, not, _&&_, _||_}
@@ -14,7 +14,7 @@ use Rattle.settings.specs.Levels.{factory, ovRelease, uvRelease, ocdLevel, scdL
 use Rattle.settings.specs.Faults.{Fault, SCD, OCD, OV, UV, OT, delay}
 use Rattle.runs.specs.Stored.{runNext, stood}
 use Rattle.cells.specs.declared.Swept.{Swept}
-use Rattle.cells.specs.Cells.{sweepOf, noCells, readable}
+use Rattle.cells.specs.Cells.{sweepOf, lowestCell, noCells, readable}
 use Rattle.garden.specs.declared.Grown.{Grown}
 use Rattle.garden.specs.Filter.{growOf}
 use Rattle.board.specs.declared.Board.{Board}
@@ -28,15 +28,18 @@ use Rattle.board.specs.declared.Stepped.{Stepped}
 use Rattle.board.specs.Plan.{Plan, isHost, isGarden, badPlan, planOf}
 use Rattle.board.specs.Shunt.{shuntAbove, shuntOutside}
 use Rattle.board.specs.Host.{statusBy, holdsOn, lastOf, noLast}
+use Rattle.board.specs.Latchings.{numberNext, cellOf, latchings}
 use Rattle.latches.specs.Latches.{latch, latches, latchNext, risen, latchesOf, latchesByte}
 use Rattle.latches.specs.Control.{controlNext}
 use Rattle.latches.specs.Tallies.{tallies, talliesNext}
+use Rattle.journal.specs.declared.Journal.{Journal}
+use Rattle.journal.specs.Ring.{noEntries, enteredAll}
 
 -- a garden board starts with OV latched, b2 of register 0; any other with no latch
 abbrev pub firstLatches : ℕ → ℕ
 firstLatches kind = cond (isGarden kind) 4 0
 
--- a board starts from the factory settings, with no flagged cell, no cycle spent, no latching counted, staged equal to working; register 1 starts with 0
+-- a board starts from the factory settings, with no flagged cell, no cycle spent, no latching counted or entered, staged equal to working; register 1 starts with 0
 unfoldable pub fresh : ℕ → Board
 fresh plan =
     record {
@@ -53,6 +56,8 @@ fresh plan =
       control = 0;
       garden = record { row = planOf plan .row; trigger = planOf plan .trigger; «ov_back» = 0; «uv_back» = 0 };
       tallies = tallies (λ f. 0);
+      samples = 0;
+      journal = noEntries;
     }
 
 -- OCD and SCD: the shunt above the level
@@ -110,7 +115,7 @@ controlUp b up = cond (isHost (b .kind)) (controlNext (b .control) up) (b .contr
 abbrev pub controlWith : Board → Latches → ℕ
 controlWith b left = controlUp b (risenBy b left)
 
--- the board after an accepted sample, with the latches that it leaves and what is kept of it: settings and cycles stay
+-- the board after an accepted sample, with the latches that it leaves and what is kept of it, its journal not yet entered: settings and cycles stay
 unfoldable pub boardWith : Board → Readings → List ℕ → Latches → Last → Board
 boardWith b x mv left last =
     record {
@@ -127,10 +132,43 @@ boardWith b x mv left last =
       control = controlWith b left;
       garden = b .garden;
       tallies = talliesNext (risenBy b left) (b .tallies);
+      samples = numberNext (b .samples);
+      journal = b .journal;
     }
 
+-- the board with another journal
+abbrev pub journaled : Board → Journal → Board
+journaled b journal =
+    record {
+      count = b .count;
+      latches = b .latches;
+      cycles = b .cycles;
+      kind = b .kind;
+      flags = b .flags;
+      working = b .working;
+      staged = b .staged;
+      currents = b .currents;
+      cells = b .cells;
+      last = b .last;
+      control = b .control;
+      garden = b .garden;
+      tallies = b .tallies;
+      samples = b .samples;
+      journal = journal;
+    }
+
+-- then what latched is entered, each at the number of the sample
+unfoldable pub entered : Board → Latches → (Fault → ℕ) → Board
+entered b up cell = journaled b (enteredAll (b .journal) (latchings (λ f. latch f up) cell (b .samples)))
+
+-- the lowest cells whose runs have stood
+abbrev pub stoodCell : Swept → Fault → ℕ
+stoodCell swept = cellOf (lowestCell (swept .«ov_stood»)) (lowestCell (swept .«uv_stood»))
+
 abbrev pub runsNext : Board → Readings → List ℕ → Board
-runsNext b x mv = boardWith b x mv (latchesAfter b x mv) (lastOf x mv)
+runsNext b x mv =
+    let left = latchesAfter b x mv in
+    entered (boardWith b x mv left (lastOf x mv)) (risenBy b left) (stoodCell (sweptAt b x mv))
 
 -- ---- a garden board: counts in place of runs, and of the faults OV and UV alone
 abbrev pub grownAt : Board → Readings → List ℕ → Grown
@@ -139,7 +177,7 @@ grownAt b x mv = growOf (b .garden) (b .cells) (latch OV (latchesOf (b .latches)
 abbrev pub grownLatches : Grown → Latches
 grownLatches w = record { scd = false; ocd = false; ov = w .ov; uv = w .uv; ot = false }
 
--- the counts lie where another board has its runs; of the rest only what is kept of the sample and the tallies change
+-- the counts lie where another board has its runs; of the rest only what is kept of the sample, the tallies and the number change
 unfoldable pub gardenWith : Board → Grown → Last → Board
 gardenWith b w last =
     record {
@@ -156,10 +194,18 @@ gardenWith b w last =
       control = b .control;
       garden = w .garden;
       tallies = talliesNext (risenBy b (grownLatches w)) (b .tallies);
+      samples = numberNext (b .samples);
+      journal = b .journal;
     }
 
+-- the lowest cells that reached the trigger
+abbrev pub reachedCell : Grown → Fault → ℕ
+reachedCell w = cellOf (w .«ov_cell») (w .«uv_cell»)
+
 abbrev pub gardenNext : Board → Readings → List ℕ → Board
-gardenNext b x mv = gardenWith b (grownAt b x mv) (lastOf x mv)
+gardenNext b x mv =
+    let w = grownAt b x mv in
+    entered (gardenWith b w (lastOf x mv)) (risenBy b (grownLatches w)) (reachedCell w)
 
 -- ---- by the kind
 abbrev pub boardNext : Board → Readings → List ℕ → Board

@@ -12,12 +12,12 @@ use Rattle.settings.specs.Levels.{ovRelease, uvRelease, ocdLevel, scdLevel}
 use Rattle.settings.specs.Faults.{Fault, SCD, OCD, OV, UV, OT}
 use Rattle.cells.specs.declared.Span.{Span}
 use Rattle.cells.specs.declared.Swept.{Swept}
-use Rattle.cells.specs.Cells.{spanOf}
+use Rattle.cells.specs.Cells.{spanOf, lowestCell}
 use Rattle.cells.specs.Way.{calmOf}
 use Rattle.garden.specs.declared.Grown.{Grown}
 use Rattle.garden.specs.Way.{growBy}
 use Rattle.latches.specs.declared.Latches.{Latches}
-use Rattle.latches.specs.Latches.{latch, latches, latchNext, latchesOf}
+use Rattle.latches.specs.Latches.{latch, latches, latchNext, latchesOf, anyLatch}
 use Rattle.board.specs.declared.Board.{Board}
 use Rattle.board.specs.declared.Currents.{Currents}
 use Rattle.board.specs.declared.Last.{Last}
@@ -25,12 +25,15 @@ use Rattle.board.specs.declared.Readings.{Readings}
 use Rattle.board.specs.declared.Answer.{Answer}
 use Rattle.board.specs.declared.Answer.the-variants as answer
 use Rattle.board.specs.declared.Stepped.{Stepped}
+use Rattle.board.specs.declared.Note.{Note}
+use Rattle.board.specs.declared.Noted.{Noted}
 use Rattle.board.specs.declared.Found.{Found}
 use Rattle.board.specs.declared.Found.the-variants.{Refused, Quiet, Grows, Changes}
 use Rattle.board.specs.Shunt.{shuntAbove, shuntOutside}
 use Rattle.board.specs.Plan.{isGarden}
 use Rattle.board.specs.Host.{statusBy, holdsOn}
-use Rattle.board.specs.Sample.{currentsNext, hot, attached, stands, letsGo, sweptAt, controlWith, boardWith, grownLatches, gardenWith, sampleBars}
+use Rattle.board.specs.Latchings.{numberNext, cellOf}
+use Rattle.board.specs.Sample.{currentsNext, hot, attached, stands, letsGo, sweptAt, risenBy, controlWith, boardWith, entered, grownLatches, gardenWith, sampleBars}
 
 -- refusal 5 by the highest cell (the law range-by)
 abbrev pub outOfRangeBy : Readings → Span → Bool
@@ -96,7 +99,7 @@ spanFound (Quiet span) = span
 spanFound (Grows span) = span
 spanFound (Changes span) = span
 
--- ---- what comes of it: a quiet sample answers with register 0 of the record and no cell bled, and only itself is kept; any other is stepped
+-- ---- what comes of it: a quiet sample answers with register 0 of the record and no cell bled, and only itself is kept and counted; any other is stepped
 abbrev pub lastBy : Readings → Span → Last
 lastBy x span = record { low = span .low; high = span .high; shunt = x .shunt }
 
@@ -116,6 +119,8 @@ keeping b last =
       control = b .control;
       garden = b .garden;
       tallies = b .tallies;
+      samples = numberNext (b .samples);
+      journal = b .journal;
     }
 
 unfoldable pub restedOf : Board → Readings → Span → Stepped
@@ -137,18 +142,41 @@ abbrev pub latchesLeft : Board → Readings → Span → List ℕ → Latches
 latchesLeft b x span mv =
     latchesBy (b .working) (sweptAt b x mv) span (currentsNext (b .working) (b .currents) x) x (b .kind) (latchesOf (b .latches))
 
-unfoldable pub acceptedBy : Board → Readings → Span → List ℕ → Stepped
+-- a lowest cell is looked for only where its fault latched; no other is entered (the law noted-cells)
+abbrev pub lowestIf : Bool → ℕ → ℕ
+lowestIf up set = cond up (lowestCell set) 0
+
+abbrev pub noteOf : Answer → Latches → ℕ → ℕ → Note
+noteOf a up ov uv = record { answer = a; up = up; ov = ov; uv = uv }
+
+unfoldable pub acceptedBy : Board → Readings → Span → List ℕ → Noted
 acceptedBy b x span mv =
+    let left = latchesLeft b x span mv in
+    let up = risenBy b left in
+    let swept = sweptAt b x mv in
     record {
-      board = boardWith b x mv (latchesLeft b x span mv) (lastBy x span);
-      answer = answer.Sampled (statusBy (b .kind) (controlWith b (latchesLeft b x span mv)) (latchesLeft b x span mv)) (sweptAt b x mv .bled);
+      board = boardWith b x mv left (lastBy x span);
+      note = noteOf (answer.Sampled (statusBy (b .kind) (controlWith b left) left) (swept .bled)) up (lowestIf (latch OV up) (swept .«ov_stood»)) (lowestIf (latch UV up) (swept .«uv_stood»));
     }
 
 -- a garden board's, by the lowest and the highest cell (the law garden's grow-by)
 abbrev pub grownBy : Board → Readings → Span → List ℕ → Grown
 grownBy b x span mv = growBy (b .garden) (b .cells) (latch OV (latchesOf (b .latches))) (latch UV (latchesOf (b .latches))) (attached x) span mv
 
-unfoldable pub grownOf : Board → Readings → Span → List ℕ → Stepped
+unfoldable pub grownOf : Board → Readings → Span → List ℕ → Noted
 grownOf b x span mv =
     let w = grownBy b x span mv in
-    record { board = gardenWith b w (lastBy x span); answer = answer.Sampled (statusBy (b .kind) (b .control) (grownLatches w)) 0 }
+    record {
+      board = gardenWith b w (lastBy x span);
+      note = noteOf (answer.Sampled (statusBy (b .kind) (b .control) (grownLatches w)) 0) (risenBy b (grownLatches w)) (w .«ov_cell») (w .«uv_cell»);
+    }
+
+-- ---- then what latched is entered, where anything did (the law entering-is)
+abbrev pub nothingUp : Note → Bool
+nothingUp note = not (anyLatch (note .up))
+
+unfoldable pub enteredOf : Board → Note → Stepped
+enteredOf b note = record { board = entered b (note .up) (cellOf (note .ov) (note .uv)); answer = note .answer }
+
+abbrev pub entering : Noted → Stepped
+entering s = cond (nothingUp (s .note)) (record { board = s .board; answer = s .note .answer }) (enteredOf (s .board) (s .note))

@@ -1,15 +1,17 @@
-// One board: its record, and a sample of it, by value and then where the record lies (01, The stack and its readings; When a fault latches and lets go; 02, tickets 3, 5 and 7).
+// One board: its record, and a sample of it, by value and then where the record lies (01, The stack and its readings; When a fault latches and lets go; 02, tickets 3, 5, 7 and 8).
 ghost use mathlib.Core.Path.{_≡_};
 ghost use Rattle.latches.specs.Latches.{latchesOf, latchesByte};
 ghost use Rattle.board.specs.Shunt.{shuntAbove, shuntOutside};
 ghost use Rattle.board.specs.Plan.{planOf, badPlan, standAlone, host, gardenPlan, isHost, isGarden};
 ghost use Rattle.board.specs.Host.{mayDsg, mayChg, statusBy, clearedOf};
 ghost use Rattle.board.specs.Sample.{firstLatches, fresh, currentsNext, badBoard, controlUp, sampleOf};
-ghost use Rattle.board.specs.Way.{outOfRangeBy, quietOf, lookOf, isRefused, isQuiet, isGrowing, answerOf, spanFound, lastBy, restedOf, latchesBy, acceptedBy, grownOf};
+ghost use Rattle.board.specs.Latchings.{numberNext};
+ghost use Rattle.board.specs.Way.{outOfRangeBy, quietOf, lookOf, isRefused, isQuiet, isGrowing, answerOf, spanFound, lastBy, restedOf, latchesBy, lowestIf, acceptedBy, grownOf, nothingUp, enteredOf, entering};
 use cells::Cell;
 use cells::Span;
 use cells::Swept;
 use garden::Garden;
+use journal::Journal;
 use latches::Latches;
 use latches::Tallies;
 use refusal::Refusal;
@@ -30,7 +32,8 @@ pub struct Last {
     pub shunt: i32,
 }
 
-// A board's record. The latches are the low five bits of register 0, the flagged cells a number, and control is register 1.
+// A board's record. The latches are the low five bits of register 0, the flagged cells a number, and control is register 1; the accepted
+// samples are counted for the journal.
 #[repr(C)]
 pub struct Board {
     pub count: u8,
@@ -46,6 +49,8 @@ pub struct Board {
     pub control: u8,
     pub garden: Garden,
     pub tallies: Tallies,
+    pub samples: u32,
+    pub journal: Journal,
 }
 
 // What a sample reads beside the cells.
@@ -74,6 +79,20 @@ enum Found {
 pub struct Stepped {
     pub board: Board,
     pub answer: Answer,
+}
+
+// What an accepted sample leaves to be entered: its answer, the faults that latched, and of OV and UV the lowest cell that made them.
+struct Note {
+    answer: Answer,
+    up: Latches,
+    ov: u8,
+    uv: u8,
+}
+
+// The board after an accepted sample, its journal as it was.
+struct Noted {
+    board: Board,
+    note: Note,
 }
 
 // ---- a plan, as one number: a byte each for cells, kind, row and trigger
@@ -153,6 +172,7 @@ pub fn fresh_board(plan: u32) -> Board
         uv: 0,
         ot: 0,
     };
+    let journal = journal::blank();
     Board {
         count: (plan % 256) as u8,
         latches: latches,
@@ -167,6 +187,8 @@ pub fn fresh_board(plan: u32) -> Board
         control: 0,
         garden: garden,
         tallies: tallies,
+        samples: 0,
+        journal: journal,
     }
 }
 
@@ -259,6 +281,16 @@ fn last_by(x: Readings, span: Span) -> Last
 
 // ---- a sample
 
+// The number of the next accepted sample; at its top it stays.
+fn number_next(samples: u32) -> u32
+    ensures { λ r. ⌜ r ≡ numberNext samples ⌝ }
+{
+    if samples < 4294967295 {
+        return samples + 1;
+    }
+    samples
+}
+
 // The shunt reads above a level; no charge current does.
 fn shunt_above(shunt: i32, level: u32) -> bool
     ensures { λ r. ⌜ r ≡ shuntAbove level shunt ⌝ }
@@ -319,8 +351,10 @@ fn rest(b: Board, x: Readings, span: Span, mv: &[u32]) -> Stepped
     ensures { λ r. ⌜ r ≡ restedOf b x span ⌝ }
 {
     let last = last_by(x, span);
+    let samples = number_next(b.samples);
     let mut next = b;
     next.last = last;
+    next.samples = samples;
     Stepped {
         board: next,
         answer: Answer::Sampled {
@@ -330,8 +364,18 @@ fn rest(b: Board, x: Readings, span: Span, mv: &[u32]) -> Stepped
     }
 }
 
+// The lowest cell of a set, where its fault latched.
+fn lowest_if(up: bool, set: u16) -> u8
+    ensures { λ r. ⌜ r ≡ lowestIf up set ⌝ }
+{
+    if up {
+        return cells::lowest_of(set);
+    }
+    0
+}
+
 // Any other accepted sample.
-fn accept(b: Board, x: Readings, span: Span, mv: &[u32]) -> Stepped
+fn accept(b: Board, x: Readings, span: Span, mv: &[u32]) -> Noted
     ensures { λ r. ⌜ r ≡ acceptedBy b x span (now (mv .entry)) ⌝ }
 {
     let old = b.cells;
@@ -345,6 +389,7 @@ fn accept(b: Board, x: Readings, span: Span, mv: &[u32]) -> Stepped
     let tallies = latches::tallies_next(up, b.tallies);
     let cells = swept.cells;
     let last = last_by(x, span);
+    let samples = number_next(b.samples);
     let mut next = b;
     next.latches = byte;
     next.flags = swept.flags;
@@ -353,17 +398,24 @@ fn accept(b: Board, x: Readings, span: Span, mv: &[u32]) -> Stepped
     next.last = last;
     next.control = control;
     next.tallies = tallies;
-    Stepped {
-        board: next,
+    next.samples = samples;
+    let note = Note {
         answer: Answer::Sampled {
             status: status_by(b.kind, control, byte),
             bled: swept.bled,
         },
+        up: up,
+        ov: lowest_if(up.ov, swept.ov_stood),
+        uv: lowest_if(up.uv, swept.uv_stood),
+    };
+    Noted {
+        board: next,
+        note: note,
     }
 }
 
 // An accepted sample of a garden board.
-fn grow(b: Board, x: Readings, span: Span, mv: &[u32]) -> Stepped
+fn grow(b: Board, x: Readings, span: Span, mv: &[u32]) -> Noted
     ensures { λ r. ⌜ r ≡ grownOf b x span (now (mv .entry)) ⌝ }
 {
     let old = latches::latches_of(b.latches);
@@ -377,22 +429,64 @@ fn grow(b: Board, x: Readings, span: Span, mv: &[u32]) -> Stepped
         ot: false,
     };
     let latched = latches::byte_of(left);
-    let tallies = latches::tallies_next(latches::risen(old, left), b.tallies);
+    let up = latches::risen(old, left);
+    let tallies = latches::tallies_next(up, b.tallies);
     let counts = grown.cells;
     let garden = grown.garden;
     let last = last_by(x, span);
+    let samples = number_next(b.samples);
     let mut next = b;
     next.latches = latched;
     next.cells = counts;
     next.last = last;
     next.garden = garden;
     next.tallies = tallies;
-    Stepped {
-        board: next,
+    next.samples = samples;
+    let note = Note {
         answer: Answer::Sampled {
             status: status_by(b.kind, b.control, latched),
             bled: 0,
         },
+        up: up,
+        ov: grown.ov_cell,
+        uv: grown.uv_cell,
+    };
+    Noted {
+        board: next,
+        note: note,
+    }
+}
+
+// ---- what latched is entered, behind the step, as it seldom happens
+
+// Nothing latched.
+fn nothing(note: Note) -> bool
+    ensures { λ r. ⌜ r ≡ nothingUp note ⌝ }
+{
+    let up = note.up;
+    !(up.scd | up.ocd | up.ov | up.uv | up.ot)
+}
+
+fn answer_in(note: Note) -> Answer
+    ensures { λ r. ⌜ r ≡ note .answer ⌝ }
+{
+    note.answer
+}
+
+// The latchings of one sample, in their order.
+fn enter(b: Board, note: Note) -> Stepped
+    ensures { λ r. ⌜ r ≡ enteredOf b note ⌝ }
+{
+    let held = b.journal;
+    let causes = latches::byte_of(note.up) as u16;
+    let cells = [0, 0, note.ov, note.uv, 0];
+    let journal = journal::enter(held, causes, cells, b.samples);
+    let answer = note.answer;
+    let mut next = b;
+    next.journal = journal;
+    Stepped {
+        board: next,
+        answer: answer,
     }
 }
 
@@ -507,7 +601,7 @@ fn span_found(found: Found) -> Span
 
 // ---- the record behind a reference, by shapes of crate walks
 
-// The ways of an accepted sample: the record is taken apart, stepped by value and stored back.
+// The ways of an accepted sample: the record is taken apart, stepped by value and stored back. Where something latched it goes on to be entered.
 fn rest_board(b: &mut Board, x: Readings, span: Span, mv: &[u32]) -> Answer
     ensures { λ r. ⌜ (r ≡ restedOf (now (b .entry)) x span .answer) × (now (b .exit) ≡ restedOf (now (b .entry)) x span .board) ⌝ }
 {
@@ -517,19 +611,35 @@ fn rest_board(b: &mut Board, x: Readings, span: Span, mv: &[u32]) -> Answer
 }
 
 fn accept_board(b: &mut Board, x: Readings, span: Span, mv: &[u32]) -> Answer
-    ensures { λ r. ⌜ (r ≡ acceptedBy (now (b .entry)) x span (now (mv .entry)) .answer) × (now (b .exit) ≡ acceptedBy (now (b .entry)) x span (now (mv .entry)) .board) ⌝ }
+    ensures { λ r. ⌜ (r ≡ entering (acceptedBy (now (b .entry)) x span (now (mv .entry))) .answer) × (now (b .exit) ≡ entering (acceptedBy (now (b .entry)) x span (now (mv .entry))) .board) ⌝ }
 {
     let s = accept(*b, x, span, mv);
     *b = s.board;
-    s.answer
+    let note = s.note;
+    if nothing(note) {
+        return answer_in(note);
+    }
+    // a place of its own: the step's copy of the record then needs none
+    let stepped = *b;
+    let t = enter(stepped, note);
+    *b = t.board;
+    t.answer
 }
 
 fn grow_board(b: &mut Board, x: Readings, span: Span, mv: &[u32]) -> Answer
-    ensures { λ r. ⌜ (r ≡ grownOf (now (b .entry)) x span (now (mv .entry)) .answer) × (now (b .exit) ≡ grownOf (now (b .entry)) x span (now (mv .entry)) .board) ⌝ }
+    ensures { λ r. ⌜ (r ≡ entering (grownOf (now (b .entry)) x span (now (mv .entry))) .answer) × (now (b .exit) ≡ entering (grownOf (now (b .entry)) x span (now (mv .entry))) .board) ⌝ }
 {
     let s = grow(*b, x, span, mv);
     *b = s.board;
-    s.answer
+    let note = s.note;
+    if nothing(note) {
+        return answer_in(note);
+    }
+    // a place of its own: the step's copy of the record then needs none
+    let stepped = *b;
+    let t = enter(stepped, note);
+    *b = t.board;
+    t.answer
 }
 
 // A sample of one board: refused, with its answer; quiet; a garden board's; or it may change the board.

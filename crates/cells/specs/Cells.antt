@@ -9,7 +9,7 @@ use Rattle.lists.specs.Every.{every}
 use Rattle.settings.specs.declared.Settings.{Settings}
 use Rattle.settings.specs.Levels.{ovLevel, ovRelease, ovDelay, uvLevel, uvDelay}
 use Rattle.runs.specs.Stored.{runNext, stood}
-use Rattle.lists.specs.Marks.{number, marked}
+use Rattle.lists.specs.Marks.{number, marked, lowest}
 use Rattle.cells.specs.declared.Cell.{Cell}
 use Rattle.cells.specs.declared.Span.{Span}
 use Rattle.cells.specs.declared.Swept.{Swept}
@@ -81,6 +81,10 @@ module _ (l : Limits) (elapsed : ℕ) (cells : List Cell) (flags : ℕ) (mv : Li
 
 abbrev pub sweepOf : Settings → ℕ → List Cell → ℕ → List ℕ → Swept
 sweepOf s elapsed cells flags mv = sweepBy (limitsOf s) elapsed cells flags mv
+
+-- the lowest cell of a set, or 0 where there is none
+abbrev pub lowestCell : ℕ → ℕ
+lowestCell set = lowest 1 (each 0 10 (λ k. marked set k))
 
 -- no run and no flag: a board at its start; and a cycle that is spent starts every run over
 abbrev pub noCells : List Cell

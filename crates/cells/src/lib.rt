@@ -1,11 +1,11 @@
 // The cells of one board: their runs and flags, what they say of OV and UV, and bleeding
 // (01, When a fault latches and lets go; Bleeding).
 ghost use mathlib.Core.Path.{_≡_};
-ghost use Prim.Native.Nat.{min, max, _^_, _<_, _≤_};
+ghost use Prim.Native.Nat.{min, max, _+_, _^_, _<_, _≤_};
 ghost use mathlib.Core.Bool.{cond};
 ghost use lib.Dec.{eqb};
 ghost use Rattle.lists.specs.Marks.{number, marks};
-ghost use Rattle.cells.specs.Cells.{sweepOf, noCells, spanOf};
+ghost use Rattle.cells.specs.Cells.{sweepOf, lowestCell, noCells, spanOf};
 ghost use Rattle.lists.specs.Each.{each};
 ghost use Rattle.cells.specs.Bleed.{bled};
 ghost use Rattle.cells.specs.Way.{flagAt, noRuns, calmOf, markNext};
@@ -117,6 +117,27 @@ fn bled_of(flags: u16, cells: usize) -> u16
         out = mark_next(bleeds, out);
     }
     out
+}
+
+// This place's cell is the lowest so far, where it is one.
+pub fn lower_to(hit: bool, at: usize, low: u8) -> u8
+    requires { ⌜ at < 10 ⌝ }
+    ensures { λ r. ⌜ r ≡ cond hit (at + 1) low ⌝ }
+{
+    if hit { at as u8 + 1 } else { low }
+}
+
+// The lowest cell of a set, or 0.
+pub fn lowest_of(set: u16) -> u8
+    ensures { λ r. ⌜ r ≡ lowestCell set ⌝ }
+{
+    let mut low = 0;
+    let mut i = 10;
+    while 0 < i {
+        i -= 1;
+        low = lower_to(lists::mark_at(set, i), i, low);
+    }
+    low
 }
 
 // One pass over the cells, from the highest down. The settings are decoded once, in front of it.

@@ -1,15 +1,16 @@
 -- Two acts that are not tied commute: each keeps its outcome, and the logs after both are the same.
 -- Assumes nothing.
-use Prim.Native.Nat.{ℕ}
+use Prim.Native.Nat.{ℕ, _/_}
 use mathlib.Core.Path.{_≡_, refl, sym, ap, _∙_}
 use mathlib.Core.Bool.{Bool, true, false, true≢false, cond, not}
 use mathlib.Core.List.{List, [], _∷_, _++_}
-use lib.Dec.{eqb}
+use lib.Dec.{ltb, eqb}
 use lib.ListN.{length, set, drop, length-map}
 use lib.Seq.{getD-set-other, set-comm, set-getD}
 use borrow.Author.Tests.{eqb-true, eqb-false, eq-eqb, ne-eqb}
 use Rattle.lists.proofs.Split.{split, both, not-yes}
 use Rattle.refusal.specs.Said.{Said, Bar, bar, accepts, refuses, first, judged, unlessRefused}
+use Rattle.journal.specs.Ring as journal
 use Rattle.board.specs.declared.Board.{Board}
 use Rattle.board.specs.Plan.{Plan}
 use Rattle.board.specs.declared.Readings.{Readings}
@@ -19,10 +20,10 @@ use Rattle.registers.specs.Registers.{accessBars}
 use Rattle.stack.specs.Row.{goodRow, placeOf, boardAt}
 use Rattle.stack.specs.Frame.{framePlace}
 use Rattle.demands.specs.Paper.{Entry, sampled, framed}
-use Rattle.demands.specs.Acts.{Act, sample, frame, reading, Outcome, bars}
+use Rattle.demands.specs.Acts.{Act, sample, frame, listing, reading, Outcome, bars}
 use Rattle.demands.specs.Table.{lent}
 use Rattle.demands.specs.Tied.{Who, board, whole, nobody, early, who, ties, tied}
-use Rattle.demands.specs.Demands.{Log, noLog, logAt, joined, boardGiven, rowGiven, frameEntry, joins, taken, sampleSays, frameSays, told}
+use Rattle.demands.specs.Demands.{Log, noLog, logAt, joined, boardGiven, rowGiven, frameEntry, joins, taken, sampleSays, frameSays, listingSays, told}
 use Rattle.demands.specs.Refused.{plansOf}
 use Rattle.demands.proofs.Clear.{clear, numbered}
 use Rattle.demands.proofs.Tells.{board-at}
@@ -33,21 +34,31 @@ use Rattle.demands.proofs.Demanded.{same-plans, goodOf, good-plans}
 abbrev place : Act → ℕ
 place (sample n x mv) = placeOf n
 place (frame bytes buffer) = framePlace bytes
+place (listing n buffer) = placeOf n
 place reading = 0
 
 abbrev entry : Act → Entry
 entry (sample n x mv) = sampled x mv
 entry (frame bytes buffer) = frameEntry bytes
+entry (listing n buffer) = framed 0 0 0
 entry reading = framed 0 0 0
 
 abbrev late : Board → Act → List Bar
 late b (sample n x mv) = readingBars b x mv
 late b (frame bytes buffer) = accessBars b (writes (byte bytes 0)) (byte bytes 1) (byte bytes 2)
+late b (listing n buffer) = bar 14 (ltb (length buffer / 3) (length (journal.listing (b .journal)))) ∷ []
 late b reading = []
+
+-- it stands in its board's log, if it is not refused
+abbrev enters : Act → Bool
+enters (sample n x mv) = true
+enters (frame bytes buffer) = true
+enters (listing n buffer) = false
+enters reading = false
 
 -- what it makes of its board's log, and its outcome there; and its outcome where it is refused early
 abbrev stepIn : Log → Act → Log
-stepIn l a = unlessRefused (late (boardGiven l) a) l (joined l (entry a))
+stepIn l a = cond (enters a) (unlessRefused (late (boardGiven l) a) l (joined l (entry a))) l
 
 abbrev answerIn : Log → Act → Outcome
 answerIn l (sample n x mv) = record { said = judged (readingBars (boardGiven l) x mv) (sampleSays (joined l (sampled x mv))); buffer = [] }
@@ -55,6 +66,10 @@ answerIn l (frame bytes buffer) =
     let refusals = late (boardGiven l) (frame bytes buffer) in
     let reply = frameSays (joined l (frameEntry bytes)) bytes in
     record { said = judged refusals reply; buffer = unlessRefused refusals buffer (reply ++ drop 4 buffer) }
+answerIn l (listing n buffer) =
+    let refusals = late (boardGiven l) (listing n buffer) in
+    let entries = listingSays l in
+    record { said = judged refusals (length entries ∷ []); buffer = unlessRefused refusals buffer (journal.wordsOver entries buffer) }
 answerIn l reading = record { said = accepts []; buffer = [] }
 
 abbrev refusedEarly : ℕ → Act → Outcome
@@ -228,9 +243,30 @@ module _ (plans : List Plan) (good : goodOf plans ≡ true) where
         let left = kept-early bs (early m a) ls (parts a) refl buffer (reply ++ drop 4 buffer) e in
         (kept-early bs (early m a) ls (parts a) refl logs (joins logs at (frameEntry bytes)) e, λ i. record { said = said i; buffer = left i })
 
+    list-agrees : (n : ℕ) (buffer : List ℕ) → let a = listing n buffer in
+        (t : Bool) → eqb (first (early m a)) 0 ≡ t
+        → (taken logs a ≡ nextFor (cond t (board (placeOf n)) nobody) logs a) × (told logs a ≡ answerFor m (cond t (board (placeOf n)) nobody) logs a)
+    list-agrees n buffer true e =
+        let a = listing n buffer in
+        let l = logAt logs (placeOf n) in
+        let bs = bars (rowGiven logs) a in
+        let ls = late (boardGiven l) a in
+        let said = judged-late bs (early m a) ls (parts a) refl (length (listingSays l) ∷ []) e in
+        let left = kept-late bs (early m a) ls (parts a) refl buffer (journal.wordsOver (listingSays l) buffer) e in
+        (sym (set-getD logs (placeOf n) noLog), λ i. record { said = said i; buffer = left i })
+    list-agrees n buffer false e =
+        let a = listing n buffer in
+        let l = logAt logs (placeOf n) in
+        let bs = bars (rowGiven logs) a in
+        let ls = late (boardGiven l) a in
+        let said = judged-early bs (early m a) ls (parts a) refl (length (listingSays l) ∷ []) e in
+        let left = kept-early bs (early m a) ls (parts a) refl buffer (journal.wordsOver (listingSays l) buffer) e in
+        (refl, λ i. record { said = said i; buffer = left i })
+
     agrees : (a : Act) → (taken logs a ≡ nextFor (who m a) logs a) × (told logs a ≡ answerFor m (who m a) logs a)
     agrees (sample n x mv) = sample-agrees n x mv (eqb (first (early m (sample n x mv))) 0) refl
     agrees (frame bytes buffer) = frame-agrees bytes buffer (eqb (first (early m (frame bytes buffer))) 0) refl
+    agrees (listing n buffer) = list-agrees n buffer (eqb (first (early m (listing n buffer))) 0) refl
     agrees reading = (refl, refl)
 
   -- two acts that are not tied, the first before the second

@@ -18,7 +18,7 @@ use Rattle.stack.specs.Open.{goodPlans, opened, openRow}
 use Rattle.stack.specs.Frame.{framePlace}
 use Rattle.board.proofs.Counts.{good-plan}
 use Rattle.demands.specs.Paper.{Entry, sampled}
-use Rattle.demands.specs.Acts.{Act, sample, frame, reading, Outcome, bars, outcome, next, final, answers}
+use Rattle.demands.specs.Acts.{Act, sample, frame, listing, reading, Outcome, bars, outcome, next, final, answers}
 use Rattle.demands.specs.Demands.{Log, noLog, begun, logAt, joined, boardGiven, rowGiven, frameEntry, joins, taken, told, opens, Demand2}
 use Rattle.demands.specs.Refused.{plansBy, plansOf}
 use Rattle.demands.proofs.Given.{given-start}
@@ -38,6 +38,7 @@ kept-plans refusals logs at e = by (eqb (first refusals) 0)
 pub same-plans : (logs : List Log) (a : Act) → plansOf (taken logs a) ≡ plansOf logs
 same-plans logs (sample n x mv) = kept-plans (bars (rowGiven logs) (sample n x mv)) logs (placeOf n) (sampled x mv)
 same-plans logs (frame bytes buffer) = kept-plans (bars (rowGiven logs) (frame bytes buffer)) logs (framePlace bytes) (frameEntry bytes)
+same-plans logs (listing n buffer) = refl
 same-plans logs reading = refl
 
 abbrev pub goodOf : List Plan → Bool

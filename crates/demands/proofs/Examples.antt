@@ -12,6 +12,8 @@ use borrow.Author.Tests.{ltb-true, lt-ltb, eqb-true, eq-eqb}
 use Rattle.lists.proofs.Split.{split, both}
 use Rattle.lists.specs.Marks.{bit}
 use Rattle.lists.specs.Marks.{number, marks, lowest}
+use Rattle.journal.specs.Ring as journal
+use Rattle.board.specs.Latchings as sample
 use Rattle.lists.specs.Every.{every}
 use Rattle.lists.specs.Each.{each, all}
 use Rattle.cells.specs.Bleed.{bled}
@@ -22,7 +24,7 @@ use Rattle.stack.specs.Row.{goodRow}
 use Rattle.demands.specs.Acts.{reading}
 use Rattle.demands.specs.Tied.{tied}
 use Rattle.demands.specs.Shuffle.{times, turn, Shuffle, inside, keepsTurn, shuffles}
-use Rattle.demands.specs.Examples.{seven, orders, right, Matters}
+use Rattle.demands.specs.Examples.{eight, orders, right, Matters}
 use Rattle.demands.proofs.Lists.{all-at, all-yes}
 
 -- ---- places outside are not named
@@ -100,18 +102,18 @@ unfolding each
 orders-right = refl
 
 -- so one of them is a shuffle; one in which a board passes itself is none, nor one in which it passes a reading
-pub allowed : Shuffle (tied 2) reading seven (6 ∷ 2 ∷ 5 ∷ 0 ∷ 1 ∷ 3 ∷ 4 ∷ [])
+pub allowed : Shuffle (tied 2) reading eight (6 ∷ 2 ∷ 5 ∷ 0 ∷ 1 ∷ 3 ∷ 7 ∷ 4 ∷ [])
 unfolding each
-allowed = from-test (tied 2) reading seven (6 ∷ 2 ∷ 5 ∷ 0 ∷ 1 ∷ 3 ∷ 4 ∷ []) refl
+allowed = from-test (tied 2) reading eight (6 ∷ 2 ∷ 5 ∷ 0 ∷ 1 ∷ 3 ∷ 7 ∷ 4 ∷ []) refl
 
-pub past-itself : Shuffle (tied 2) reading seven (1 ∷ 0 ∷ 2 ∷ 3 ∷ 4 ∷ 5 ∷ 6 ∷ []) → ⊥
+pub past-itself : Shuffle (tied 2) reading eight (1 ∷ 0 ∷ 2 ∷ 3 ∷ 4 ∷ 5 ∷ 6 ∷ 7 ∷ []) → ⊥
 unfolding each
-past-itself w = true≢false (sym (to-test (tied 2) reading seven (1 ∷ 0 ∷ 2 ∷ 3 ∷ 4 ∷ 5 ∷ 6 ∷ []) w))
+past-itself w = true≢false (sym (to-test (tied 2) reading eight (1 ∷ 0 ∷ 2 ∷ 3 ∷ 4 ∷ 5 ∷ 6 ∷ 7 ∷ []) w))
 
-pub past-reading : Shuffle (tied 2) reading seven (0 ∷ 1 ∷ 3 ∷ 2 ∷ 4 ∷ 5 ∷ 6 ∷ []) → ⊥
+pub past-reading : Shuffle (tied 2) reading eight (0 ∷ 1 ∷ 3 ∷ 2 ∷ 4 ∷ 5 ∷ 6 ∷ 7 ∷ []) → ⊥
 unfolding each
-past-reading w = true≢false (sym (to-test (tied 2) reading seven (0 ∷ 1 ∷ 3 ∷ 2 ∷ 4 ∷ 5 ∷ 6 ∷ []) w))
+past-reading w = true≢false (sym (to-test (tied 2) reading eight (0 ∷ 1 ∷ 3 ∷ 2 ∷ 4 ∷ 5 ∷ 6 ∷ 7 ∷ []) w))
 
 pub order-matters : Matters
-unfolding each shuntAbove number bled latchesByte goodRow every readOf lineUp firstFlagged lowest marks
-order-matters = record { before-reading = refl; behind-reading = refl; then-rest = refl; rest-first = refl }
+unfolding each shuntAbove number bled latchesByte goodRow every readOf lineUp firstFlagged lowest marks journal.listing journal.entered journal.noEntries journal.words sample.latchings
+order-matters = record { before-reading = refl; behind-reading = refl; before-listing = refl; behind-listing = refl; then-rest = refl; rest-first = refl }

@@ -1,10 +1,10 @@
 -- The demands of the library for C: each call is an act of the demands, so what is shown of the acts is shown of the calls.
 -- Assumes nothing.
-use Prim.Native.Nat.{ℕ, zero, suc, _<_}
+use Prim.Native.Nat.{ℕ, zero, suc, _+_, _-_, _<_}
 use native.Mathlib.Omega.{arith}
 use mathlib.Core.Path.{_≡_, refl, sym, ap, ap₂, _∙_, subst}
 use mathlib.Core.Logic.{inl, inr}
-use mathlib.Core.Bool.{Bool, true, false, true≢false, not, _||_}
+use mathlib.Core.Bool.{Bool, true, false, true≢false, cond, not, _||_}
 use mathlib.Core.List.{List, [], _∷_, map}
 use lib.Dec.{eqb}
 use lib.ListN.{length, getD, set, replicate, length-replicate, length-map}
@@ -13,8 +13,10 @@ use borrow.Author.Tests.{eqb-true, eq-eqb, ne-eqb, le-ltb}
 use Rattle.lists.specs.Every.{every}
 use Rattle.lists.proofs.Every.{every-at}
 use Rattle.lists.proofs.Split.{split, both, not-yes}
-use Rattle.refusal.specs.Said.{Said, Bar, bar, first, judged, unlessRefused}
+use Rattle.refusal.specs.Said.{Said, value, Bar, bar, first, judged, unlessRefused}
 use Rattle.refusal.proofs.Laws.{number-back, judged-number}
+use Rattle.journal.specs.Ring as journal
+use Rattle.journal.proofs.Laws.{listing-short}
 use Rattle.board.specs.declared.Board.{Board}
 use Rattle.board.specs.declared.Readings.{Readings}
 use Rattle.board.specs.declared.Answer.{Answer}
@@ -25,16 +27,18 @@ use Rattle.stack.specs.Row.{badCount, goodRow, noBoard, placeOf, boardAt}
 use Rattle.stack.specs.Open.{goodPlans, openBars, openRow}
 use Rattle.stack.specs.Sample.{sampleAnswer, sampleRow}
 use Rattle.stack.specs.Frame.{frameRow, frameBuffer}
+use Rattle.stack.specs.List.{entriesOf, listBars, listingSaid, listAnswer, listBuffer}
+use Rattle.stack.proofs.Laws.{list-said}
 use Rattle.stack.specs.Read.{viewSaid, readBars, readingOf}
-use Rattle.adomvik.specs.Placed.{placed, sampledOf}
-use Rattle.adomvik.specs.Calls.{openNumber, sampleNumber, sampleOut, boardNumber, boardOut, frameNumber, readNumber, readOut}
+use Rattle.adomvik.specs.Placed.{placed, sampledOf, countOrRefusal}
+use Rattle.adomvik.specs.Calls.{openNumber, sampleNumber, sampleOut, boardNumber, boardOut, frameNumber, listNumber, readNumber, readOut}
 use Rattle.adomvik.proofs.Laws.{open-number, sample-number, frame-number}
 use Rattle.demands.specs.Acts.{Act, reading, Outcome, outcome, next, openedRow, final, answers}
 use Rattle.demands.specs.Shuffle.{picked}
 use Rattle.demands.specs.Table.{numbersOf}
 use Rattle.demands.specs.Demands.{Log, begun, boardGiven, rowGiven, taken, told, opens, nothing}
 use Rattle.demands.specs.Refused.{plansOf}
-use Rattle.demands.specs.Face.{Call, sampleCall, recordCall, frameCall, readCall, inSample, inReply, inReading, lent, Returned, returned, returns, leaves, actOf, inC, OfRow, AllOfRow, SameActs, barsOf, numbers, OneOf, NumberBy, FaceDemand1, takenIn, toldIn, FaceDemand2, noCall, noReturn, FaceDemand3}
+use Rattle.demands.specs.Face.{Call, sampleCall, recordCall, frameCall, listCall, readCall, inSample, inReply, inList, inReading, lent, Returned, returned, returns, leaves, actOf, inC, OfRow, AllOfRow, SameActs, barsOf, numbers, OneOf, NumberBy, FaceDemand1, takenIn, toldIn, FaceDemand2, noCall, noReturn, FaceDemand3}
 use Rattle.demands.proofs.Clear.{clear, numbered}
 use Rattle.demands.proofs.Table.{first-is, is-first, none-is, is-none, kept-old, reading-judged}
 use Rattle.demands.proofs.Tells.{tells, gives}
@@ -97,13 +101,34 @@ record-is row good at p x mv =
           ∙ sym (λ i. unlessRefused (bar 1 (not (good i)) ∷ bar 2 (there i) ∷ readingBars (boardAt row (here i)) x mv) row (set row (here i) (boardNext (boardAt row (here i)) x mv))),
     )
 
+-- what adomvik_list returns, taken apart: the refusal's number, and else the count, which is below 256
+told-apart : (s : Said) → value 0 s < 256 → (countOrRefusal s - 256 ≡ s .number) × ((count : ℕ) → cond (eqb (countOrRefusal s - 256) 0) (countOrRefusal s) count ≡ placed s count (value 0 s))
+told-apart s few =
+    split (eqb (s .number) 0)
+    (λ e.
+    let none : value 0 s - 256 ≡ 0 = omega arith in
+    (rw (e, none) (sym (eqb-true (s .number) 0 e)), λ count. rw (e, none)))
+    (λ e.
+    let some : 256 + s .number - 256 ≡ s .number = omega arith in
+    (rw (e, some), λ count. rw (e, some, e)))
+
+listing-small : (row : List Board) (n : ℕ) (words : List ℕ) → value 0 (listingSaid (listAnswer row n words)) < 256
+listing-small row n words =
+    let es = entriesOf row n in
+    let few = listing-short (boardAt row (placeOf n) .journal) in
+    let rows = listBars row n words in
+    subst (λ (s : Said). value 0 s < 256) (sym (list-said row n words)) (split (eqb (first rows) 0) (λ e. rw e (omega (arith, few))) (λ e. rw e (omega arith)))
+
 call-is : (row : List Board) → goodRow row ≡ true → (c : Call) → OfRow (length row) c → (returns row c ≡ inC c (outcome row (actOf c))) × (leaves row c ≡ next row (actOf c))
-unfolding sampleNumber sampleOut boardNumber boardOut frameNumber readNumber readOut
+unfolding sampleNumber sampleOut boardNumber boardOut frameNumber listNumber readNumber readOut
 call-is row good (sampleCall n x mv out) so = (refl, refl)
 call-is row good (recordCall at x mv out) so =
     let is = record-is row good at so x mv in
     (ap (λ (a : Answer). returned (answerSaid a .number) (inSample (placed (answerSaid a) out (sampledOf (answerSaid a))))) (is .0), is .1)
 call-is row good (frameCall bytes buffer) so = (refl, refl)
+call-is row good (listCall n words count) so =
+    let said = listingSaid (listAnswer row n words) in
+    ((λ i. returned (told-apart said (listing-small row n words) .0 i) (inList (listBuffer row n words) (told-apart said (listing-small row n words) .1 count i))), refl)
 call-is row good (readCall out) so = (refl, refl)
 
 pub same-acts : SameActs
@@ -125,12 +150,15 @@ board-said b x mv =
     split (eqb (first rows) 0) (λ e. rw e) (λ e. rw (e, e, number-back rows tt e))
 
 number-first : (row : List Board) (c : Call) → returns row c .number ≡ first (barsOf row c)
-unfolding boardNumber readNumber
+unfolding boardNumber listNumber readNumber
 number-first row (sampleCall n x mv out) = sample-number row n x mv
 number-first row (recordCall at x mv out) =
     let b = boardAt row at in
     ap (λ (s : Said). s .number) (board-said b x mv) ∙ judged-number (sampleBars b x mv) (sampleValues b x mv)
 number-first row (frameCall bytes buffer) = frame-number row bytes buffer
+number-first row (listCall n words count) =
+    let rows = listBars row n words in
+    told-apart (listingSaid (listAnswer row n words)) (listing-small row n words) .0 ∙ ap (λ (s : Said). s .number) (list-said row n words) ∙ judged-number rows (length (entriesOf row n) ∷ [])
 number-first row (readCall out) = ap (λ (s : Said). s .number) (reading-judged row) ∙ judged-number (readBars row) (wholeSaid (readOf (map summaryOf row)))
 
 by-first : (rows : List Bar) (number : ℕ) → numbered rows ≡ true → number ≡ first rows → NumberBy rows number
@@ -144,6 +172,7 @@ all-numbered : (row : List Board) (c : Call) → numbered (barsOf row c) ≡ tru
 all-numbered row (sampleCall n x mv out) = refl
 all-numbered row (recordCall at x mv out) = refl
 all-numbered row (frameCall bytes buffer) = refl
+all-numbered row (listCall n words count) = refl
 all-numbered row (readCall out) = refl
 
 -- the number of the first row that holds is 0 or one of theirs
@@ -162,6 +191,7 @@ numbers-are : (row : List Board) (c : Call) → numbersOf (barsOf row c) ≡ num
 numbers-are row (sampleCall n x mv out) = refl
 numbers-are row (recordCall at x mv out) = refl
 numbers-are row (frameCall bytes buffer) = refl
+numbers-are row (listCall n words count) = refl
 numbers-are row (readCall out) = refl
 
 own : (row : List Board) (c : Call) → OneOf (returns row c .number) (0 ∷ numbers c)
@@ -174,7 +204,7 @@ place-stays : {A : Type 0} (s : Said) (old new : A) → 0 < s .number → placed
 place-stays s old new p = rw (ne-eqb (s .number) 0 (λ z. omega arith))
 
 call-stays : (row : List Board) (c : Call) → 0 < returns row c .number → first (barsOf row c) ≡ returns row c .number → (leaves row c ≡ row) × (returns row c .place ≡ lent c)
-unfolding sampleRow frameRow frameBuffer sampleOf sampleNumber sampleOut boardNumber boardOut readNumber readOut
+unfolding sampleRow frameRow frameBuffer listBuffer sampleOf sampleNumber sampleOut boardNumber boardOut readNumber readOut
 call-stays row (sampleCall n x mv out) p e =
     (kept-old (barsOf row (sampleCall n x mv out)) _ p e _ _, ap inSample (place-stays (answerSaid (sampleAnswer row n x mv)) out _ p))
 call-stays row (recordCall at x mv out) p e =
@@ -185,6 +215,11 @@ call-stays row (recordCall at x mv out) p e =
 call-stays row (frameCall bytes buffer) p e =
     let rows = barsOf row (frameCall bytes buffer) in
     (kept-old rows _ p e _ _, ap inReply (kept-old rows _ p e _ _))
+call-stays row (listCall n words count) p e =
+    let number = listNumber row n words - 256 in
+    let left = kept-old (barsOf row (listCall n words count)) _ p e words (journal.wordsOver (entriesOf row n) words) in
+    let other : eqb number 0 ≡ false = ne-eqb number 0 (λ z. omega (arith, p, z)) in
+    (refl, λ i. inList (left i) (cond (other i) (listNumber row n words) count))
 call-stays row (readCall out) p e = (refl, ap inReading (place-stays (viewSaid (readingOf row)) out _ p))
 
 open-stays : (row : List Board) (plans : List ℕ) → 0 < openNumber row plans → openRow row plans ≡ row

@@ -16,7 +16,7 @@ use Rattle.settings.specs.Levels.{ovLevel, ovRelease, uvLevel, uvRelease, ocdLe
 use Rattle.settings.specs.declared.Settings.{Settings}
 use Rattle.settings.specs.Bytes.{withByte, same}
 use Rattle.settings.specs.Faults.{Fault, SCD, OCD, OV, UV, OT, delay}
-use Rattle.lists.specs.Marks.{number, marked}
+use Rattle.lists.specs.Marks.{number, marked, lowest}
 use Rattle.runs.specs.Run.{past, lasting, stretch}
 use Rattle.runs.specs.Stored.{stored, runNext, stood}
 use Rattle.runs.proofs.Laws.{kept-run, stood-delay}
@@ -25,12 +25,12 @@ use Rattle.cells.specs.declared.Swept.{Swept}
 use Rattle.lists.specs.Each.{each, some as someOf}
 use Rattle.lists.proofs.Each.{all-places}
 use Rattle.cells.proofs.Stays.{none-number}
-use Rattle.cells.proofs.Sets.{some-number, set-at}
+use Rattle.cells.proofs.Sets.{some-number, set-at, lowest-set}
 use Rattle.cells.proofs.Ends.{all-below-level, all-above-level}
 use Rattle.cells.specs.Bleed.{bled}
-use Rattle.cells.specs.Cells.{cellBy, cellAt, readingAt, cellCount, noCells, limitsOf, nextAt, flaggedAt, flagBy, sweepBy}
+use Rattle.cells.specs.Cells.{cellBy, cellAt, readingAt, cellCount, noCells, limitsOf, nextAt, flaggedAt, flagBy, sweepBy, lowestCell}
 use Rattle.latches.specs.declared.Latches.{Latches}
-use Rattle.latches.specs.Latches.{latches, latchNext, risen, latchesByte, latchesOf, anyLatch, register0}
+use Rattle.latches.specs.Latches.{latch, latches, latchNext, risen, latchesByte, latchesOf, anyLatch, register0}
 use Rattle.latches.specs.Control.{clearBit, dsgBit, chgBit, controlNext}
 use Rattle.latches.specs.Tallies.{tallies, tallyNext, talliesNext}
 use Rattle.latches.proofs.Packed.{latches-kept}
@@ -41,12 +41,17 @@ use Rattle.board.specs.Plan.{Plan, isHost, isGarden, planOf}
 use Rattle.board.specs.Shunt.{shuntAbove}
 use Rattle.board.specs.Host as host
 use Rattle.board.specs.Host.{statusBy, holdsOn, lastOf, clearedOf}
+use Rattle.journal.specs.Ring.{Entry, noEntries, enteredAll}
+use Rattle.journal.proofs.Laws.{all-more}
+use Rattle.board.specs.Latchings as sample
+use Rattle.board.specs.Latchings.{numberNext, cellOf}
 use Rattle.board.specs.Sample as board
-use Rattle.board.specs.Sample.{fresh, hot, currentsNext, latchesNext, sweptAt, latchesAfter, risenBy, controlWith, boardWith, runsNext}
+use Rattle.board.specs.Sample.{fresh, hot, currentsNext, latchesNext, sweptAt, latchesAfter, risenBy, controlWith, boardWith, entered, stoodCell, runsNext}
 use Rattle.frame.specs.Frame.{writes}
 use Rattle.registers.specs.Registers as registers
 use Rattle.registers.specs.Registers.{staging, boardAfter}
-use Rattle.demands.specs.Paper.{Entry, sampled, framed, History, staged, working, spends, spent, Sample, sampleOf, since, holds, runOf, stoodDelay, stands, letsGo, steers, clearSet, lastSample, overBy, counted, filter, latched, latchesAt, rises, tallied, dsgSet, chgSet, control, mayDsg, mayChg, flagged, flagsAt, lastGiven, kept, cellGiven, currentGiven, gardenGiven, given}
+use Rattle.demands.specs.Paper as paper
+use Rattle.demands.specs.Paper.{sampled, framed, History, staged, working, spends, spent, Sample, sampleOf, since, holds, runOf, stoodDelay, stands, letsGo, steers, clearSet, lastSample, overBy, counted, countAt, filter, latched, latchesAt, rises, latching, tallied, sampleNumber, lowestAt, faultCell, latchings, dsgSet, chgSet, control, mayDsg, mayChg, flagged, flagsAt, lastGiven, kept, cellGiven, currentGiven, gardenGiven, given}
 use Rattle.demands.proofs.Runs.{working-stays, runs}
 use Rattle.demands.proofs.Lists.{each-same, each-behind, each-before, each-one}
 
@@ -126,6 +131,22 @@ pub tallies-next : (p : Plan) (h : History) (x : Readings) (mv : List ℕ)
     → talliesNext (latches (λ f. rises p f (sampled x mv) h)) (tallies (λ f. tallied p f h)) ≡ tallies (λ f. tallied p f (sampled x mv ∷ h))
 unfolding talliesNext
 tallies-next p h x mv = λ i. tallies (λ f. tally-next p f h x mv i)
+
+-- so the number, and the journal by what latches at it and the cells that made it
+number-next : (h : History) (x : Readings) (mv : List ℕ) → numberNext (sampleNumber h) ≡ sampleNumber (sampled x mv ∷ h)
+unfolding numberNext
+number-next h x mv = omega arith
+
+pub samples-next : (p : Plan) (h : History) (x : Readings) (mv : List ℕ) → numberNext (given p h .samples) ≡ given p (sampled x mv ∷ h) .samples
+samples-next p h x mv = number-next h x mv
+
+pub journal-next : (p : Plan) (h : History) (x : Readings) (mv : List ℕ) (up : Latches) (cell : Fault → ℕ) → up ≡ latches (λ f. rises p f (sampled x mv) h)
+    → cell OV ≡ lowestAt p OV x mv h → cell UV ≡ lowestAt p UV x mv h
+    → enteredAll (given p h .journal) (sample.latchings (λ f. latch f up) (cellOf (cell OV) (cell UV)) (numberNext (given p h .samples))) ≡ given p (sampled x mv ∷ h) .journal
+unfolding sample.latchings
+journal-next p h x mv up cell up-is ov uv =
+    let new : List Entry = sample.latchings (λ f. latching p f (sampled x mv) h) (faultCell p x mv h) (sampleNumber (sampled x mv ∷ h)) in
+    (λ i. enteredAll (given p h .journal) (sample.latchings (λ f. latch f (up-is i)) (cellOf (ov i) (uv i)) (number-next h x mv i))) ∙ sym (all-more noEntries (latchings p h) new)
 
 -- a condition without delay has stood it exactly if it holds
 no-delay : (b : Bool) (x : Sample) (older : List Sample) → b ≡ past 0 (lasting (λ y. y .readings .elapsed) (cond b (x ∷ older) []))
@@ -236,6 +257,20 @@ module _ (p : Plan) (settled : isGarden (p .kind) ≡ false) (few : p .cells ≤
   pub latches-are : latchesAfter (given p h) x mv ≡ latchesAt p after
   latches-are = ap (latchesNext (working h) swept currents x (p .kind) mv) (latches-kept (latchesAt p h)) ∙ latches-next
 
+  -- the lowest cell that stood
+  cell-stood : (f : Fault) (stands : ℕ → Bool) → ((k : ℕ) → k < n → stands k ≡ stoodDelay f k after) → lowestCell (number (each 0 (cellCount mv) stands)) ≡ lowestAt p f x mv h
+  cell-stood f stands is =
+      ap (λ (m : ℕ). lowestCell (number (each 0 m stands))) count-is ∙ lowest-set stands n few ∙ ap (lowest 1) (each-same n stands (λ k. stoodDelay f k after) is)
+      ∙ sym (ap (λ (t : Bool). cond t (lowest 1 (each 0 n (λ k. leb (p .trigger) (countAt p f (filter p f h) (sampleOf x mv) k)))) (lowest 1 (each 0 n (λ k. stoodDelay f k after)))) settled)
+
+  ov-cell : lowestCell (swept .«ov_stood») ≡ lowestAt p OV x mv h
+  unfolding sweepBy
+  ov-cell = cell-stood OV (λ k. stood (delay OV (working h)) (nexts k .ov)) ov-is
+
+  uv-cell : lowestCell (swept .«uv_stood») ≡ lowestAt p UV x mv h
+  unfolding sweepBy
+  uv-cell = cell-stood UV (λ k. stood (delay UV (working h)) (nexts k .uv)) uv-is
+
   pub bled-are : sweptAt (given p h) x mv .bled ≡ number (bled (flagsAt p after))
   unfolding sweepBy
   bled-are = rw (count-is, flags-are)
@@ -277,7 +312,7 @@ module _ (p : Plan) (settled : isGarden (p .kind) ≡ false) (few : p .cells ≤
   no-garden = rw settled
 
   pub runs-sampled : runsNext (given p h) x mv ≡ given p after
-  unfolding boardWith currentsNext
+  unfolding boardWith entered currentsNext
   runs-sampled = λ i. record {
     count = n;
     latches = latchesByte (latches-are i);
@@ -292,6 +327,8 @@ module _ (p : Plan) (settled : isGarden (p .kind) ≡ false) (few : p .cells ≤
     control = control-is i;
     garden = no-garden i;
     tallies = tallies-are i;
+    samples = samples-next p h x mv i;
+    journal = journal-next p h x mv (risenBy (given p h) (latchesAfter (given p h) x mv)) (stoodCell swept) risen-are ov-cell uv-cell i;
   }
 
 -- ---- a frame
@@ -329,7 +366,7 @@ three-bits : (v : ℕ) → v < 8 → v ≡ number (clearBit v ∷ dsgBit v ∷ c
 three-bits v few = sym (eqb-true (number (clearBit v ∷ dsgBit v ∷ chgBit v ∷ [])) v (right-at three-right 8 all-three v few))
 
 module _ (p : Plan) (h : History) (address register v : ℕ) where
-  abbrev e : Entry
+  abbrev e : paper.Entry
   e = framed address register v
 
   abbrev then : History
@@ -352,6 +389,8 @@ module _ (p : Plan) (h : History) (address register v : ℕ) where
         control = q;
         garden = gardenGiven p h;
         tallies = tallies (λ f. tallied p f h);
+        samples = sampleNumber h;
+        journal = enteredAll noEntries (latchings p h);
       }
 
   abbrev currentsWith : (Fault → ℕ) → Currents

@@ -27,11 +27,11 @@ use Rattle.board.specs.declared.Board.{Board}
 use Rattle.board.specs.declared.Readings.{Readings}
 use Rattle.board.specs.Plan.{Plan, isGarden, badPlan}
 use Rattle.board.specs.Host.{statusBy, lastOf}
-use Rattle.board.specs.Sample.{attached, sweptAt, risenBy, runsNext, grownAt, grownLatches, gardenWith, gardenNext, boardNext, runsStatus, gardenStatus, sampleValues}
+use Rattle.board.specs.Sample.{attached, sweptAt, risenBy, entered, runsNext, grownAt, grownLatches, gardenWith, reachedCell, gardenNext, boardNext, runsStatus, gardenStatus, sampleValues}
 use Rattle.board.proofs.Counts.{good-plan, good-trigger}
-use Rattle.demands.specs.Paper.{sampled, framed, History, staged, working, spent, sampleOf, clearSet, counted, pastLevel, inside, device, trips, filter, latched, latchesAt, control, status, flagged, flagsAt, kept, cellGiven, currentGiven, backGiven, gardenGiven, given}
+use Rattle.demands.specs.Paper.{sampled, framed, History, staged, working, spent, sampleOf, clearSet, counted, pastLevel, inside, device, countAt, trips, filter, latched, latchesAt, rises, lowestAt, control, status, flagged, flagsAt, kept, cellGiven, currentGiven, backGiven, gardenGiven, given}
 use Rattle.demands.proofs.Lists.{each-same, each-behind, each-before}
-use Rattle.demands.proofs.Given.{no-bits, status-is, tallies-next, latches-are, bled-are, control-is, runs-sampled}
+use Rattle.demands.proofs.Given.{no-bits, status-is, tallies-next, samples-next, journal-next, latches-are, bled-are, control-is, runs-sampled}
 use Rattle.demands.proofs.Filtered.{not-host, garden-latched, count-fits, latched-is, back-is, count-is}
 
 module _ (p : Plan) (g : isGarden (p .kind) ≡ true) (small : p .cells ≤ 10) (one : 1 ≤ p .trigger) (few : p .trigger ≤ 255) (h : History) (x : Readings) (mv : List ℕ) (long : length mv ≡ p .cells) where
@@ -69,13 +69,20 @@ module _ (p : Plan) (g : isGarden (p .kind) ≡ true) (small : p .cells ≤ 10) 
     next-is : (k : ℕ) → k < n → next k ≡ countNext (pastLevel (device p f) f (readingAt mv k)) (filter p f h .count k)
     next-is k q = ap (countNext (pastLevel (device p f) f (readingAt mv k))) (ap own (cell-was k q) ∙ own-is k ∙ kept-is f k h)
 
+    -- each place reaches the trigger as it does there
+    reach-is : (k : ℕ) → k < n → reaches (p .trigger) (next k) ≡ leb (p .trigger) (countAt p f (filter p f h) (sampleOf x mv) k)
+    reach-is k q = ap (leb (p .trigger)) (next-is k q ∙ count-fits p f one few h x mv k q)
+
     abbrev reached : ℕ
     reached = lowest 1 (each 0 (cellCount mv) (λ k. reaches (p .trigger) (next k)))
 
     trips-is : not (eqb reached 0) ≡ trips p f (filter p f h) (sampleOf x mv)
     trips-is =
         some-lowest 0 (each 0 (cellCount mv) (λ k. reaches (p .trigger) (next k)))
-        ∙ rw many (ap some (each-same n _ _ (λ k q. ap (leb (p .trigger)) (next-is k q ∙ count-fits p f one few h x mv k q))))
+        ∙ rw many (ap some (each-same n _ _ reach-is))
+
+    cell-is : reached ≡ lowestAt p f x mv h
+    cell-is = rw (many, g) (ap (lowest 1) (each-same n _ _ reach-is))
 
     count-after : (was : Bool) → was ≡ filter p f h .latched → (k : ℕ) → k < n → cond (zeroed was reached) 0 (next k) ≡ kept p f k after
     count-after was e k q = rw (e, next-is k q) (count-is p f one few h x mv k q reached trips-is) ∙ sym (kept-is f k after)
@@ -121,7 +128,7 @@ module _ (p : Plan) (g : isGarden (p .kind) ≡ true) (small : p .cells ≤ 10) 
       ap (λ (m : ℕ). each 0 m next ++ drop m (b .cells)) many
       ∙ ap₂ (λ (front behind : List Cell). front ++ behind) (each-same n next (cellGiven p after) cell-after) (each-behind 0 n (cellGiven p h) (drop n noCells))
 
-  grown-is : grownAt b x mv ≡ record { cells = given p after .cells; garden = gardenGiven p after; ov = filter p OV after .latched; uv = filter p UV after .latched }
+  grown-is : grownAt b x mv ≡ record { cells = given p after .cells; garden = gardenGiven p after; ov = filter p OV after .latched; uv = filter p UV after .latched; «ov_cell» = lowestAt p OV x mv h; «uv_cell» = lowestAt p UV x mv h }
   unfolding growWith
   grown-is = λ i. record {
     cells = cells-are i;
@@ -134,6 +141,8 @@ module _ (p : Plan) (g : isGarden (p .kind) ≡ true) (small : p .cells ≤ 10) 
         };
     ov = latch-after OV (λ c. c .ov) (λ k. refl) ovWas (ovInside (device p OV) mv) (backGiven p OV h) (latch-was OV refl) ov-inside (back-was OV h) i;
     uv = latch-after UV (λ c. c .uv) (λ k. refl) uvWas (uvInside (device p UV) (attached x) mv) (backGiven p UV h) (latch-was UV refl) uv-inside (back-was UV h) i;
+    «ov_cell» = cell-is OV (λ c. c .ov) (λ k. refl) i;
+    «uv_cell» = cell-is UV (λ c. c .uv) (λ k. refl) i;
   }
 
   -- the latches that it leaves
@@ -162,11 +171,14 @@ module _ (p : Plan) (g : isGarden (p .kind) ≡ true) (small : p .cells ≤ 10) 
       let is = no-bits p (not-host (p .kind) g) after in
       ap₂ (λ (d c : Bool). number (clearSet p h ∷ d ∷ c ∷ [])) (was .0 ∙ sym (is .0)) (was .1 ∙ sym (is .1))
 
+  risen-are : risenBy b left ≡ latches (λ f. rises p f (sampled x mv) h)
+  risen-are = ap₂ risen (latches-kept (latchesAt p h)) left-are
+
   tallies-are : talliesNext (risenBy b left) (b .tallies) ≡ given p after .tallies
-  tallies-are = ap (λ (t : Latches). talliesNext t (b .tallies)) (ap₂ risen (latches-kept (latchesAt p h)) left-are) ∙ tallies-next p h x mv
+  tallies-are = ap (λ (t : Latches). talliesNext t (b .tallies)) risen-are ∙ tallies-next p h x mv
 
   garden-sampled : gardenNext b x mv ≡ given p after
-  unfolding gardenWith
+  unfolding gardenWith entered
   garden-sampled = λ i. record {
     count = n;
     latches = latchesByte (left-are i);
@@ -181,6 +193,8 @@ module _ (p : Plan) (g : isGarden (p .kind) ≡ true) (small : p .cells ≤ 10) 
     control = control-stays i;
     garden = grown-is i .garden;
     tallies = tallies-are i;
+    samples = samples-next p h x mv i;
+    journal = journal-next p h x mv (risenBy b left) (reachedCell (grownAt b x mv)) risen-are (λ j. grown-is j .«ov_cell») (λ j. grown-is j .«uv_cell») i;
   }
 
   garden-status : gardenStatus b x mv ≡ status p after

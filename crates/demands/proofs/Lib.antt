@@ -4,6 +4,7 @@ pub mod Filtered
 pub mod Given
 pub mod Grown
 pub mod Tallied
+pub mod Journaled
 pub mod Clear
 pub mod Table
 pub mod Tells

@@ -32,7 +32,7 @@ use Rattle.registers.proofs.Map.{read-setting}
 use Rattle.stack.specs.Row.{goodRow, placeOf}
 use Rattle.stack.specs.Frame.{framePlace, frameRow}
 use Rattle.demands.specs.Paper.{sampled, History, programming, staged, working, spent, sampleOf, runOf, stoodDelay, places, stands, letsGo, clears, counted, Filter, countAt, trips, counting, backAt, recovers, recovering, filter, latched, latchesAt, tallied}
-use Rattle.demands.specs.Acts.{Act, sample, frame, reading, Outcome, bars, outcome, next, final}
+use Rattle.demands.specs.Acts.{Act, sample, frame, listing, reading, Outcome, bars, outcome, next, final}
 use Rattle.demands.specs.Demands.{Log, noLog, begun, logAt, joined, rowGiven, frameEntry, joins, taken, shownGiven, frameSays}
 use Rattle.demands.specs.Mechanic.{Stood, bitOf, isLatched, Accepted, Answers, Mechanic}
 use Rattle.demands.proofs.Lists.{some-at, some-yes}
@@ -310,6 +310,7 @@ module _ (logs : List Log) (good : goodRow (rowGiven logs) ≡ true) (fine : (at
   refused-leaves (frame bytes buffer) n p e =
       let a = frame bytes buffer in
       stays (bars row a) (values row a) n p (sym (act-judged row a) ∙ e) logs (joins logs (framePlace bytes) (frameEntry bytes))
+  refused-leaves (listing k buffer) n p e = refl
   refused-leaves reading n p e = refl
 
   -- a tally's bytes

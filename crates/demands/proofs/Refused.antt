@@ -29,18 +29,20 @@ use Rattle.frame.specs.Check.{checkOf}
 use Rattle.registers.specs.Map.{Register, registerMap, inMap, noRegister, fits}
 use Rattle.registers.specs.Registers.{programs, lacksCycle, accessBars}
 use Rattle.registers.proofs.Map.{below, above, between, past-settings, between-tallies, away-below, control-there, low-there, high-there, takes-setting}
+use Rattle.journal.specs.Ring as journal
 use Rattle.stack.specs.Row.{badCount, goodRow, noBoard, pastEnd, placeOf, boardAt}
 use Rattle.stack.specs.Open.{goodPlans, openBars, openingSaid, openAnswer}
 use Rattle.stack.specs.Sample.{sampleRowBars}
 use Rattle.stack.specs.Frame.{framePlace, frameRowBars}
+use Rattle.stack.specs.List.{entriesOf, listBars}
 use Rattle.demands.specs.Paper.{Entry, History, staged, working, spent}
-use Rattle.demands.specs.Acts.{Act, sample, frame, reading, bars, outcome, next, openedRow, final}
+use Rattle.demands.specs.Acts.{Act, sample, frame, listing, reading, bars, outcome, next, openedRow, final}
 use Rattle.demands.specs.Table.{FirstIs, NoneHolds, ByTable}
-use Rattle.demands.specs.Demands.{Log, noLog, begun, logAt, joined, boardGiven, rowGiven, joins, taken, opens}
-use Rattle.demands.specs.Refused.{Rule, Some, NoGarden, NoPlan, NoStack, plansBy, plansOf, plansIn, logOf, NoBoard, WrongCells, WrongShunt, WrongReading, ReadOf, WriteOf, Reads, Writes, NoBoardNamed, Named, OfTallies, Known, OnlyRead, WrongRegister, MayCarry, WrongValue, Programs, Crossed, Worn, openingRules, sampleRules, frameRules, rules, SameRows, SameTable, FirstOf, NoneOf, ByRules, ActOf, entered, RefusedByPaper}
+use Rattle.demands.specs.Demands.{Log, noLog, begun, logAt, joined, boardGiven, rowGiven, joins, taken, listingSays, opens}
+use Rattle.demands.specs.Refused.{Rule, Some, NoGarden, NoPlan, NoStack, plansBy, plansOf, plansIn, logOf, NoBoard, WrongCells, WrongShunt, WrongReading, ReadOf, WriteOf, Reads, Writes, NoBoardNamed, Named, OfTallies, Known, OnlyRead, WrongRegister, MayCarry, WrongValue, Programs, Crossed, Worn, NoRoom, openingRules, sampleRules, frameRules, listRules, rules, SameRows, SameTable, FirstOf, NoneOf, ByRules, ActOf, entered, RefusedByPaper}
 use Rattle.demands.proofs.Asked.{Asks, asks-no, asks-so, asks-same, asks-lt, asks-le, asks-eq, asks-above, asks-or, asks-and, asks-not, asks-twice, asks-or3, asks-outside, asks-some, every-of}
 use Rattle.demands.proofs.Table.{is-first, is-none, kept-old, demand1, demand1-opening}
-use Rattle.demands.proofs.Tells.{board-at}
+use Rattle.demands.proofs.Tells.{board-at, listed-is}
 use Rattle.demands.proofs.Demanded.{begun-plans, demand2, final-plans}
 
 -- ---- 1: of an opening by its plans, of a row by those of its records
@@ -412,9 +414,18 @@ module _ (logs : List Log) (few : length logs ≤ 16) where
       (also 13 (program-ask Crossed (λ l. crossed (staged (l .acts))) crossed-ask logs address r)
       (also 11 (program-ask Worn (λ l. lacksCycle (boardGiven l)) worn-ask logs address r) tt)))))))))
 
+  list-rows : (n : ℕ) (buffer : List ℕ) → SameRows (listBars row n buffer) (listRules logs n buffer)
+  list-rows n buffer =
+      subst (λ (b : Board). SameRows (bar 1 (not (goodRow row)) ∷ bar 2 (noBoard row n) ∷ bar 14 (ltb (length buffer / 3) (length (journal.listing (b .journal)))) ∷ []) (listRules logs n buffer))
+      (sym (board-of logs few n))
+      (also 1 (logs-ask logs)
+      (also 2 (board-ask logs n)
+      (also 14 (subst (λ (es : List journal.Entry). Asks (ltb (length buffer / 3) (length es)) (NoRoom (logOf logs n) buffer)) (sym (listed-is (logOf logs n))) (asks-lt (length buffer / 3) (length (listingSays (logOf logs n))))) tt)))
+
   act-rows : (a : Act) → SameRows (bars row a) (rules logs a)
   act-rows (sample n x mv) = sample-rows n x mv
   act-rows (frame bytes buffer) = frame-rows bytes buffer
+  act-rows (listing n buffer) = list-rows n buffer
   act-rows reading = also 1 (logs-ask logs) tt
 
 pub same-table : SameTable
@@ -481,6 +492,7 @@ bad-first row (sample n x mv) = one-first (not (goodRow row)) (bar 2 (noBoard ro
 bad-first row (frame bytes buffer) =
     let late = accessBars (boardAt row (framePlace bytes)) (writes (byte bytes 0)) (byte bytes 1) (byte bytes 2) in
     one-first (not (goodRow row)) (frameBars bytes (length buffer) ++ (bar 2 (noBoard row (boardOf (byte bytes 0))) ∷ late)) refl
+bad-first row (listing n buffer) = one-first (not (goodRow row)) (bar 2 (noBoard row n) ∷ bar 14 (ltb (length buffer / 3) (length (entriesOf row n))) ∷ []) refl
 bad-first row reading = one-first (not (goodRow row)) [] refl
 
 -- ---- an act in its board's log
@@ -504,6 +516,7 @@ module _ (logs : List Log) (fine : ¬ NoStack (plansOf logs)) where
   act-enters (frame bytes buffer) n e (is, entry) none-holds =
       rw (none-first (frame bytes buffer) none-holds, named n (byte bytes 0) is, ← entry)
       (entered-is logs few n (λ none. none-holds .1 .1 .1 .1 .0 (n, is, none)) e)
+  act-enters (listing m buffer) n e is none-holds = absurd is
   act-enters reading n e is none-holds = absurd is
 
   act-leaves : (a : Act) (n : ℕ) → 0 < n → FirstOf n (rules logs a) → taken logs a ≡ logs
@@ -513,6 +526,7 @@ module _ (logs : List Log) (fine : ¬ NoStack (plansOf logs)) where
       left : (a : Act) → first (bars (rowGiven logs) a) ≡ n → taken logs a ≡ logs
       left (sample m x mv) e = kept-old (bars (rowGiven logs) (sample m x mv)) n p e logs _
       left (frame bytes buffer) e = kept-old (bars (rowGiven logs) (frame bytes buffer)) n p e logs _
+      left (listing m buffer) e = refl
       left reading e = refl
 
 -- ---- refused by the paper's table

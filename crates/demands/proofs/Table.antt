@@ -19,10 +19,11 @@ use Rattle.stack.specs.Row.{goodRow, placeOf, boardAt}
 use Rattle.stack.specs.Open.{openBars, openRow}
 use Rattle.stack.specs.Sample.{sampleRow}
 use Rattle.stack.specs.Frame.{frameReply, frameRow, frameBuffer}
+use Rattle.stack.specs.List.{entriesOf, listBuffer}
 use Rattle.stack.specs.Read.{viewSaid, readBars, readingOf}
-use Rattle.stack.proofs.Laws.{open-said, sample-said, frame-said}
+use Rattle.stack.proofs.Laws.{open-said, sample-said, frame-said, list-said}
 use Rattle.stack.proofs.Scanned.{whole-said}
-use Rattle.demands.specs.Acts.{Act, sample, frame, reading, outcome, bars, next}
+use Rattle.demands.specs.Acts.{Act, sample, frame, listing, reading, outcome, bars, next}
 use Rattle.demands.specs.Table.{FirstIs, NoneHolds, ByTable, lent, InOrder, Demand1, Demand1Opening}
 use Rattle.demands.proofs.Clear.{numbered}
 
@@ -83,29 +84,33 @@ reading-judged row = split (goodRow row) (λ e. rw e (ap (λ (w : Whole). accept
 abbrev pub values : List Board → Act → List ℕ
 values row (sample n x mv) = sampleValues (boardAt row (placeOf n)) x mv
 values row (frame bytes buffer) = frameReply row bytes
+values row (listing n buffer) = length (entriesOf row n) ∷ []
 values row reading = wholeSaid (readOf (map summaryOf row))
 
 pub act-judged : (row : List Board) (a : Act) → outcome row a .said ≡ judged (bars row a) (values row a)
 act-judged row (sample n x mv) = sample-said row n x mv
 act-judged row (frame bytes buffer) = frame-said row bytes buffer
+act-judged row (listing n buffer) = list-said row n buffer
 act-judged row reading = reading-judged row
 
 numbers : (row : List Board) (a : Act) → numbered (bars row a) ≡ true
 numbers row (sample n x mv) = refl
 numbers row (frame bytes buffer) = refl
+numbers row (listing n buffer) = refl
 numbers row reading = refl
 
 act-stays : (row : List Board) (a : Act) (n : ℕ) → 0 < n → judged (bars row a) (values row a) ≡ refuses n → (next row a ≡ row) × (outcome row a .buffer ≡ lent a)
-unfolding sampleRow frameRow frameBuffer
+unfolding sampleRow frameRow frameBuffer listBuffer
 act-stays row (sample n x mv) k p e = (stays (bars row (sample n x mv)) (values row (sample n x mv)) k p e _ _, refl)
 act-stays row (frame bytes buffer) k p e =
     let rows = bars row (frame bytes buffer) in
     let vs = values row (frame bytes buffer) in
     (stays rows vs k p e _ _, stays rows vs k p e _ _)
+act-stays row (listing n buffer) k p e = (refl, stays (bars row (listing n buffer)) (values row (listing n buffer)) k p e _ _)
 act-stays row reading k p e = (refl, refl)
 
 in-order : (row : List Board) → InOrder row
-in-order row = record { of-sample = λ n x mv. refl; of-frame = λ bytes buffer. refl; of-reading = refl }
+in-order row = record { of-sample = λ n x mv. refl; of-frame = λ bytes buffer. refl; of-listing = λ n buffer. refl; of-reading = refl }
 
 pub demand1 : (row : List Board) → Demand1 row
 demand1 row =

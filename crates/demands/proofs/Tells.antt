@@ -11,11 +11,13 @@ use lib.Seq.{getD-set-same}
 use borrow.Author.Tests.{ltb-true, ltb-false, eqb-true, not-false}
 use Rattle.lists.proofs.Split.{split, both}
 use Rattle.settings.specs.Levels.{crossed}
-use Rattle.refusal.specs.Said.{Bar, bar, accepts, first, judged}
+use Rattle.refusal.specs.Said.{Bar, bar, accepts, first, judged, unlessRefused}
 use Rattle.latches.specs.declared.Latches.{Latches}
 use Rattle.latches.specs.Latches.{anyLatch, chgOn, dsgOn, latchesOf, latchesByte}
 use Rattle.latches.specs.Tallies.{tallies}
 use Rattle.latches.proofs.Packed.{latches-kept}
+use Rattle.journal.specs.Ring as journal
+use Rattle.journal.proofs.Laws.{last-listed}
 use Rattle.board.specs.declared.Board.{Board}
 use Rattle.board.specs.declared.Readings.{Readings}
 use Rattle.lists.specs.Compare.{outside}
@@ -33,13 +35,14 @@ use Rattle.reading.specs.Reading.{summaryOf, readOf, wholeSaid}
 use Rattle.stack.specs.Row.{goodRow, noBoard, placeOf, boardAt}
 use Rattle.stack.specs.Sample.{sampleRowBars, sampleRow}
 use Rattle.stack.specs.Frame.{framePlace, frameBoard, boardFramed, frameReply, frameRowBars, frameRow, frameBuffer}
+use Rattle.stack.specs.List.{entriesOf, listBars, listBuffer}
 use Rattle.stack.specs.Read.{readBars}
 use Rattle.registers.proofs.Map.{no-writes}
 use Rattle.stack.proofs.Ways.{board-good, has-none}
-use Rattle.stack.proofs.Laws.{sample-said, frame-said}
-use Rattle.demands.specs.Paper.{sampled, staged, working, spent, steers, latchesAt, tallied, control, mayDsg, mayChg}
-use Rattle.demands.specs.Acts.{Act, sample, frame, reading, outcome, next}
-use Rattle.demands.specs.Demands.{Log, noLog, logAt, joined, boardGiven, rowGiven, frameEntry, joins, taken, sampleSays, readSays, frameSays, summaryGiven, told}
+use Rattle.stack.proofs.Laws.{sample-said, frame-said, list-said}
+use Rattle.demands.specs.Paper.{sampled, staged, working, spent, steers, latchesAt, tallied, latchings, control, mayDsg, mayChg}
+use Rattle.demands.specs.Acts.{Act, sample, frame, listing, reading, outcome, next}
+use Rattle.demands.specs.Demands.{Log, noLog, logAt, joined, boardGiven, rowGiven, frameEntry, joins, taken, sampleSays, readSays, frameSays, listingSays, summaryGiven, told}
 use Rattle.demands.proofs.Given.{given-start, may-dsg-is, may-chg-is, status-is, given-framed}
 use Rattle.demands.proofs.Grown.{given-sampled, values-are}
 use Rattle.demands.proofs.Table.{reading-judged}
@@ -224,6 +227,23 @@ module _ (logs : List Log) (bytes buffer : List ℕ) where
       kept-same rowGiven frame-row logs (set row at (boardFramed row bytes)) (joins logs at (frameEntry bytes))
       (λ a. ap (set row at) (frame-leaves a) ∙ row-set logs at (joined of-frame (frameEntry bytes)))
 
+-- ---- a listing
+
+-- what a board's journal lists is what the paper says: the last 128 of its latchings
+pub listed-is : (l : Log) → journal.listing (boardGiven l .journal) ≡ listingSays l
+listed-is l = last-listed (latchings (l .plan) (l .acts))
+
+module _ (logs : List Log) (n : ℕ) (buffer : List ℕ) where
+  entries-are : entriesOf (rowGiven logs) n ≡ listingSays (logAt logs (placeOf n))
+  entries-are = ap (λ (b : Board). journal.listing (b .journal)) (board-at logs (placeOf n)) ∙ listed-is (logAt logs (placeOf n))
+
+  list-told : outcome (rowGiven logs) (listing n buffer) ≡ told logs (listing n buffer)
+  unfolding listBuffer
+  list-told =
+      let rows = listBars (rowGiven logs) n buffer in
+      let said = list-said (rowGiven logs) n buffer ∙ ap (λ (es : List journal.Entry). judged rows (length es ∷ [])) entries-are in
+      λ i. record { said = said i; buffer = unlessRefused rows buffer (journal.wordsOver (entries-are i) buffer) }
+
 -- ---- a whole-stack reading
 
 summary-is : (l : Log) → summaryOf (boardGiven l) ≡ summaryGiven l
@@ -251,9 +271,11 @@ reading-told logs good =
 pub tells : (logs : List Log) → goodRow (rowGiven logs) ≡ true → (a : Act) → outcome (rowGiven logs) a ≡ told logs a
 tells logs good (sample n x mv) = sample-told logs n x mv
 tells logs good (frame bytes buffer) = frame-told logs bytes buffer
+tells logs good (listing n buffer) = list-told logs n buffer
 tells logs good reading = reading-told logs good
 
 pub gives : (logs : List Log) (a : Act) → next (rowGiven logs) a ≡ rowGiven (taken logs a)
 gives logs (sample n x mv) = sample-taken logs n x mv
 gives logs (frame bytes buffer) = frame-taken logs bytes buffer
+gives logs (listing n buffer) = refl
 gives logs reading = refl

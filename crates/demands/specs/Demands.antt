@@ -11,6 +11,7 @@ use Rattle.lists.specs.Marks.{number}
 use Rattle.cells.specs.Bleed.{bled}
 use Rattle.latches.specs.Latches.{anyLatch, chgOn, dsgOn}
 use Rattle.latches.specs.Tallies.{tallies}
+use Rattle.journal.specs.Ring as journal
 use Rattle.board.specs.declared.Board.{Board}
 use Rattle.board.specs.Plan.{Plan, planOf}
 use Rattle.frame.specs.Frame.{byte, writes}
@@ -21,8 +22,8 @@ use Rattle.reading.specs.Reading.{readOf, wholeSaid}
 use Rattle.stack.specs.Row.{placeOf}
 use Rattle.stack.specs.Open.{openBars}
 use Rattle.stack.specs.Frame.{framePlace}
-use Rattle.demands.specs.Paper.{Entry, sampled, framed, History, programming, working, spent, latchesAt, tallied, control, mayDsg, mayChg, status, flagsAt, given}
-use Rattle.demands.specs.Acts.{Act, sample, frame, reading, Outcome, bars, outcome, next, openedRow, final, answers}
+use Rattle.demands.specs.Paper.{Entry, sampled, framed, History, programming, working, spent, latchesAt, tallied, control, mayDsg, mayChg, status, flagsAt, listed, given}
+use Rattle.demands.specs.Acts.{Act, sample, frame, listing, reading, Outcome, bars, outcome, next, openedRow, final, answers}
 use Rattle.demands.specs.Shuffle.{picked, Shuffle}
 use Rattle.demands.specs.Tied.{tied}
 
@@ -67,6 +68,7 @@ joins logs at e = set logs at (joined (logAt logs at) e)
 abbrev pub taken : List Log → Act → List Log
 taken logs (sample n x mv) = unlessRefused (bars (rowGiven logs) (sample n x mv)) logs (joins logs (placeOf n) (sampled x mv))
 taken logs (frame bytes buffer) = unlessRefused (bars (rowGiven logs) (frame bytes buffer)) logs (joins logs (framePlace bytes) (frameEntry bytes))
+taken logs (listing n buffer) = logs
 taken logs reading = logs
 
 -- ---- what an accepted act says, by the log after it
@@ -114,6 +116,10 @@ summaryGiven l =
 abbrev pub readingSays : List Log → List ℕ
 readingSays logs = wholeSaid (readOf (map summaryGiven logs))
 
+-- a listing: the last 128 latchings of its board, or all if fewer
+abbrev pub listingSays : Log → List journal.Entry
+listingSays l = listed (l .plan) (l .acts)
+
 -- the outcome that the paper tells: the first refusal in the table's order, or these values; a reading of an opened stack is never refused
 abbrev pub told : List Log → Act → Outcome
 told logs (sample n x mv) =
@@ -125,6 +131,10 @@ told logs (frame bytes buffer) =
     let refusals = bars (rowGiven logs) (frame bytes buffer) in
     let reply = frameSays (joined (logAt logs (framePlace bytes)) (frameEntry bytes)) bytes in
     record { said = judged refusals reply; buffer = unlessRefused refusals buffer (reply ++ drop 4 buffer) }
+told logs (listing n buffer) =
+    let refusals = bars (rowGiven logs) (listing n buffer) in
+    let entries = listingSays (logAt logs (placeOf n)) in
+    record { said = judged refusals (length entries ∷ []); buffer = unlessRefused refusals buffer (journal.wordsOver entries buffer) }
 told logs reading = record { said = accepts (readingSays logs); buffer = [] }
 
 -- ---- demand 2

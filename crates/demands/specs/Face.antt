@@ -1,12 +1,13 @@
 -- The demands of the library for C, over what its acts return and leave (adomvik, Calls): each call is an act of the demands, with its number and its values in the lent place (01, Refusal numbers).
 -- Assumes nothing.
-use Prim.Native.Nat.{ℕ, suc, _<_}
+use Prim.Native.Nat.{ℕ, suc, _-_, _<_}
 use mathlib.Core.Path.{_≡_}
 use mathlib.Core.Logic.{_⊎_, _↔_}
-use mathlib.Core.Bool.{true}
+use mathlib.Core.Bool.{true, cond}
 use mathlib.Core.List.{List, [], _∷_, map}
+use lib.Dec.{eqb}
 use lib.ListN.{length, set}
-use Rattle.refusal.specs.Said.{Bar}
+use Rattle.refusal.specs.Said.{Bar, value}
 use Rattle.board.specs.declared.Board.{Board}
 use Rattle.board.specs.declared.Readings.{Readings}
 use Rattle.board.specs.Sample.{sampleBars, sampleOf}
@@ -14,11 +15,12 @@ use Rattle.stack.specs.Row.{goodRow, boardAt}
 use Rattle.stack.specs.Open.{openBars, openRow, countPlans, openCountsRow}
 use Rattle.stack.specs.Sample.{sampleAnswer, sampleRow}
 use Rattle.stack.specs.Frame.{frameRow, frameBuffer}
+use Rattle.stack.specs.List.{listBuffer}
 use Rattle.adomvik.specs.declared.Sampled.{Sampled}
 use Rattle.adomvik.specs.declared.Reading.{Reading}
 use Rattle.adomvik.specs.Placed.{placed, sampledOf, readingOf}
-use Rattle.adomvik.specs.Calls.{openNumber, countsNumber, sampleNumber, sampleOut, boardNumber, boardOut, frameNumber, readNumber, readOut}
-use Rattle.demands.specs.Acts.{Act, sample, frame, reading, Outcome, bars, outcome, next, openedRow, final, answers}
+use Rattle.adomvik.specs.Calls.{openNumber, countsNumber, sampleNumber, sampleOut, boardNumber, boardOut, frameNumber, listNumber, readNumber, readOut}
+use Rattle.demands.specs.Acts.{Act, sample, frame, listing, reading, Outcome, bars, outcome, next, openedRow, final, answers}
 use Rattle.demands.specs.Shuffle.{picked, Shuffle}
 use Rattle.demands.specs.Tied.{tied}
 use Rattle.demands.specs.Table.{FirstIs, NoneHolds}
@@ -26,23 +28,26 @@ use Rattle.demands.specs.Demands.{Log, begun, rowGiven, taken, told, ope
 
 -- ---- a call, and what comes of it
 
--- adomvik_sample by the board's number, adomvik_sample_board on the record at a place of the row, counted from 0, adomvik_frame, adomvik_read; each with what it is lent beside the row
+-- adomvik_sample by the board's number, adomvik_sample_board on the record at a place of the row, counted from 0, adomvik_frame, adomvik_list with the place of the count that the header adds, adomvik_read; each with what it is lent beside the row
 pub data Call : Type 0 where
   sampleCall : ℕ → Readings → List ℕ → Sampled → Call
   recordCall : ℕ → Readings → List ℕ → Sampled → Call
   frameCall : List ℕ → List ℕ → Call
+  listCall : ℕ → List ℕ → ℕ → Call
   readCall : Reading → Call
 
 -- what is lent beside the row
 pub data Place : Type 0 where
   inSample : Sampled → Place
   inReply : List ℕ → Place
+  inList : List ℕ → ℕ → Place
   inReading : Reading → Place
 
 abbrev pub lent : Call → Place
 lent (sampleCall n x mv out) = inSample out
 lent (recordCall at x mv out) = inSample out
 lent (frameCall bytes buffer) = inReply buffer
+lent (listCall n words count) = inList words count
 lent (readCall out) = inReading out
 
 -- the number that a call returns, and what is lent after it
@@ -53,10 +58,12 @@ pub record Returned : Type 0 where
 abbrev pub returned : ℕ → Place → Returned
 returned n p = record { number = n; place = p }
 
+-- what adomvik_list returns is 256 more than a refusal's number, or how many entries there are; the header takes it apart
 abbrev pub returns : List Board → Call → Returned
 returns row (sampleCall n x mv out) = returned (sampleNumber row n x mv) (inSample (sampleOut row n x mv out))
 returns row (recordCall at x mv out) = returned (boardNumber (boardAt row at) x mv) (inSample (boardOut (boardAt row at) x mv out))
 returns row (frameCall bytes buffer) = returned (frameNumber row bytes buffer) (inReply (frameBuffer row bytes buffer))
+returns row (listCall n words count) = let r = listNumber row n words in returned (r - 256) (inList (listBuffer row n words) (cond (eqb (r - 256) 0) r count))
 returns row (readCall out) = returned (readNumber row) (inReading (readOut row out))
 
 -- the row after it
@@ -64,6 +71,7 @@ abbrev pub leaves : List Board → Call → List Board
 leaves row (sampleCall n x mv out) = sampleRow row n x mv
 leaves row (recordCall at x mv out) = set row at (sampleOf (boardAt row at) x mv .board)
 leaves row (frameCall bytes buffer) = frameRow row bytes buffer
+leaves row (listCall n words count) = row
 leaves row (readCall out) = row
 
 -- ---- the act that a call is, and the outcome of that act as C gets it: its number, and its values in the place unless it is refused
@@ -72,12 +80,14 @@ abbrev pub actOf : Call → Act
 actOf (sampleCall n x mv out) = sample n x mv
 actOf (recordCall at x mv out) = sample (suc at) x mv
 actOf (frameCall bytes buffer) = frame bytes buffer
+actOf (listCall n words count) = listing n words
 actOf (readCall out) = reading
 
 abbrev pub inC : Call → Outcome → Returned
 inC (sampleCall n x mv out) o = returned (o .said .number) (inSample (placed (o .said) out (sampledOf (o .said))))
 inC (recordCall at x mv out) o = returned (o .said .number) (inSample (placed (o .said) out (sampledOf (o .said))))
 inC (frameCall bytes buffer) o = returned (o .said .number) (inReply (o .buffer))
+inC (listCall n words count) o = returned (o .said .number) (inList (o .buffer) (placed (o .said) count (value 0 (o .said))))
 inC (readCall out) o = returned (o .said .number) (inReading (placed (o .said) out (readingOf (o .said))))
 
 -- a record that is lent by itself is one of the row
@@ -85,6 +95,7 @@ abbrev pub OfRow : ℕ → Call → Type 0
 OfRow boards (sampleCall n x mv out) = Unit {0}
 OfRow boards (recordCall at x mv out) = at < boards
 OfRow boards (frameCall bytes buffer) = Unit {0}
+OfRow boards (listCall n words count) = Unit {0}
 OfRow boards (readCall out) = Unit {0}
 
 abbrev pub AllOfRow : ℕ → List Call → Type 0
@@ -111,6 +122,7 @@ abbrev pub barsOf : List Board → Call → List Bar
 barsOf row (sampleCall n x mv out) = bars row (sample n x mv)
 barsOf row (recordCall at x mv out) = sampleBars (boardAt row at) x mv
 barsOf row (frameCall bytes buffer) = bars row (frame bytes buffer)
+barsOf row (listCall n words count) = bars row (listing n words)
 barsOf row (readCall out) = bars row reading
 
 -- the numbers that a call may return beside 0
@@ -118,6 +130,7 @@ abbrev pub numbers : Call → List ℕ
 numbers (sampleCall n x mv out) = 1 ∷ 2 ∷ 3 ∷ 4 ∷ 5 ∷ []
 numbers (recordCall at x mv out) = 1 ∷ 3 ∷ 4 ∷ 5 ∷ []
 numbers (frameCall bytes buffer) = 1 ∷ 6 ∷ 7 ∷ 8 ∷ 2 ∷ 9 ∷ 10 ∷ 13 ∷ 11 ∷ []
+numbers (listCall n words count) = 1 ∷ 2 ∷ 14 ∷ []
 numbers (readCall out) = 1 ∷ []
 
 abbrev pub OneOf : ℕ → List ℕ → Type 0

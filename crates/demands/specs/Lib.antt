@@ -15,4 +15,5 @@ pub mod Face
 pub mod Host
 pub mod Garden
 pub mod Tallied
+pub mod Journaled
 pub mod Counts

@@ -1,4 +1,4 @@
--- A board from its plan and its accepted acts alone, newest first, with no state (01, Frames and registers; When a fault latches and lets go; Bleeding; 02, tickets 3, 5 and 7).
+-- A board from its plan and its accepted acts alone, newest first, with no state (01, Frames and registers; When a fault latches and lets go; Bleeding; 02, tickets 3, 5, 7 and 8).
 -- Assumes nothing.
 use Prim.Native.Nat.{ℕ, _+_, _-_, min}
 use mathlib.Core.Bool.{Bool, true, false, cond, not, _&&_, _||_}
@@ -11,7 +11,7 @@ use Rattle.settings.specs.declared.Settings.{Settings}
 use Rattle.settings.specs.Levels.{factory, ovLevel, ovRelease, uvLevel, uvRelease, ocdLevel, scdLevel}
 use Rattle.settings.specs.Bytes.{withByte, same}
 use Rattle.settings.specs.Faults.{Fault, SCD, OCD, OV, UV, OT, delay}
-use Rattle.lists.specs.Marks.{number}
+use Rattle.lists.specs.Marks.{number, lowest}
 use Rattle.lists.specs.Every.{every}
 use Rattle.runs.specs.Run.{run, past}
 use Rattle.runs.specs.Stored.{stored}
@@ -25,12 +25,15 @@ use Rattle.latches.specs.declared.Latches.{Latches}
 use Rattle.latches.specs.Latches.{latches, latchNext, latchesByte, chgOn, dsgOn, register0}
 use Rattle.latches.specs.Control.{clearBit, dsgBit, chgBit}
 use Rattle.latches.specs.Tallies.{tallies, tallyTop}
+use Rattle.journal.specs.Ring as journal
 use Rattle.board.specs.declared.Board.{Board}
 use Rattle.board.specs.declared.Readings.{Readings}
 use Rattle.board.specs.declared.Last.{Last}
 use Rattle.board.specs.Plan.{Plan, isHost, isGarden}
 use Rattle.board.specs.Host.{holdsOn, lastOf, noLast}
 use Rattle.board.specs.Shunt.{shuntAbove}
+use Rattle.board.specs.Latchings as sample
+use Rattle.board.specs.Latchings.{numberTop, cellOf}
 use Rattle.board.specs.Sample.{hot, attached}
 use Rattle.frame.specs.Frame.{writes}
 
@@ -276,7 +279,40 @@ latching p f (framed address register v) h = false
 abbrev pub tallied : Plan → Fault → History → ℕ
 tallied p f h = min tallyTop (howMany (latching p f) h)
 
--- b1 and b2 of register 1, DSG and CHG: a write sets them, and a fault that latches clears the bits of the switches that it forbids
+-- ---- the journal (02, ticket 8)
+
+abbrev pub isSample : Entry → Bool
+isSample (sampled x mv) = true
+isSample (framed address register v) = false
+
+-- the number of the newest sample: the accepted ones are counted from 1, and at its top the number stays
+abbrev pub sampleNumber : History → ℕ
+sampleNumber h = min numberTop (howMany (λ e older. isSample e) h)
+
+-- the lowest cell that stood its delay at a sample, or on a garden board whose count reached the trigger; 0 where none did
+abbrev pub lowestAt : Plan → Fault → Readings → List ℕ → History → ℕ
+lowestAt p f x mv h =
+    cond (isGarden (p .kind))
+    (lowest 1 (each 0 (p .cells) (λ k. countAt p f (filter p f h) (sampleOf x mv) k atOrAbove p .trigger)))
+    (lowest 1 (each 0 (p .cells) (λ k. stoodDelay f k (sampled x mv ∷ h))))
+
+-- SCD, OCD and overtemperature have no cell
+abbrev pub faultCell : Plan → Readings → List ℕ → History → Fault → ℕ
+faultCell p x mv h = cellOf (lowestAt p OV x mv h) (lowestAt p UV x mv h)
+
+-- all latchings, oldest first; those of one sample in the order SCD, OCD, OV, UV, overtemperature
+abbrev pub latchings : Plan → History → List journal.Entry
+latchings p [] = []
+latchings p (sampled x mv ∷ h) = latchings p h ++ sample.latchings (λ f. latching p f (sampled x mv) h) (faultCell p x mv h) (sampleNumber (sampled x mv ∷ h))
+latchings p (framed address register v ∷ h) = latchings p h
+
+-- the last 128 of them, or all if fewer
+abbrev pub listed : Plan → History → List journal.Entry
+listed p h = journal.latest 128 (latchings p h)
+
+-- ---- register 1
+
+-- b1 and b2 of it, DSG and CHG: a write sets them, and a fault that latches clears the bits of the switches that it forbids
 abbrev pub dsgSet : Plan → History → Bool
 dsgSet p [] = false
 dsgSet p (sampled x mv ∷ h) = dsgOn (dsgSet p h) (latches (λ f. rises p f (sampled x mv) h))
@@ -313,7 +349,7 @@ flagged p k (framed address register v ∷ h) = flagged p k h
 abbrev pub flagsAt : Plan → History → List Bool
 flagsAt p h = each 0 (p .cells) (λ k. flagged p k h)
 
--- ---- the declared record of a board of this plan with these accepted acts; past its cells it is as it started
+-- ---- the declared record of a board of this plan with these accepted acts; past its cells it is as it started, and its journal is all latchings entered one after the other
 
 -- of a fault and a place, a run, or a garden board's count
 abbrev pub kept : Plan → Fault → ℕ → History → ℕ
@@ -352,4 +388,6 @@ given p h =
       control = control p h;
       garden = gardenGiven p h;
       tallies = tallies (λ f. tallied p f h);
+      samples = sampleNumber h;
+      journal = journal.enteredAll journal.noEntries (latchings p h);
     }

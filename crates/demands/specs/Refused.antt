@@ -1,7 +1,7 @@
 -- The table of refusals a second time, from what is known of each board and the act alone: for each act its rows in order, each a number and a proposition (01, Refusal numbers; Frames and registers; 02, tickets 1, 3, 5 and 7).
 -- None of the library's conditions is used: beside the history (Paper) it rests on what a record says that its board is (board, planIn), the two current levels (settings, Levels) and the check byte, which is bit by bit (frame, Check).
 -- Assumes nothing.
-use Prim.Native.Nat.{ℕ, zero, suc, _+_, _-_, _*_, _<_, _≤_}
+use Prim.Native.Nat.{ℕ, zero, suc, _+_, _-_, _*_, _<_, _≤_, _/_}
 use mathlib.Core.Path.{_≡_}
 use mathlib.Core.Logic.{_⊎_, _≢_, _↔_}
 use mathlib.Core.Bool.{true}
@@ -17,8 +17,8 @@ use Rattle.settings.specs.Levels.{ocdLevel, scdLevel}
 use Rattle.frame.specs.Check.{checkOf}
 use Rattle.stack.specs.Open.{openBars, openingSaid, openAnswer}
 use Rattle.stack.specs.Read.{readBars}
-use Rattle.demands.specs.Paper.{Entry, sampled, framed, History, staged, working, spent}
-use Rattle.demands.specs.Acts.{Act, sample, frame, reading, bars, outcome, next, openedRow, final}
+use Rattle.demands.specs.Paper.{Entry, sampled, framed, History, staged, working, spent, listed}
+use Rattle.demands.specs.Acts.{Act, sample, frame, listing, reading, bars, outcome, next, openedRow, final}
 use Rattle.demands.specs.Demands.{Log, noLog, begun, logAt, joined, rowGiven, taken}
 
 -- a row of the table: a refusal's number, and what has to hold
@@ -159,6 +159,10 @@ Crossed h = scdLevel (staged h) ≤ ocdLevel (staged h)
 abbrev pub Worn : History → Type 0
 Worn h = (staged h ≢ working h) × (3 ≤ spent h)
 
+-- 14: the lent buffer has less room than there are latchings to list; an entry takes three words (02, ticket 8)
+abbrev pub NoRoom : Log → List ℕ → Type 0
+NoRoom l buffer = length buffer / 3 < length (listed (l .plan) (l .acts))
+
 -- ---- the table, for each act in the paper's order
 
 -- an opening has a plan for each record of the row that it is given, and none beside
@@ -195,9 +199,13 @@ frameRules logs bytes buffer =
     ∷ rule 11 (Programs Worn logs address register)
     ∷ []
 
+abbrev pub listRules : List Log → ℕ → List ℕ → List Rule
+listRules logs n buffer = rule 1 (NoStack (plansOf logs)) ∷ rule 2 (NoBoard logs n) ∷ rule 14 (NoRoom (logOf logs n) buffer) ∷ []
+
 abbrev pub rules : List Log → Act → List Rule
 rules logs (sample n x mv) = sampleRules logs n x mv
 rules logs (frame bytes buffer) = frameRules logs bytes buffer
+rules logs (listing n buffer) = listRules logs n buffer
 rules logs reading = stackRules (plansOf logs)
 
 -- ---- the library's table is this one, row by row in the same order: each condition holds exactly where the paper's does
@@ -231,12 +239,13 @@ pub record ByRules (rs : List Rule) (said : Said) : Type 0 where
   pub refused : (n : ℕ) → 0 < n → (said ≡ refuses n) ↔ FirstOf n rs
   pub accepted : (said .number ≡ 0) ↔ NoneOf rs
 
--- an act of board n, as it stands in that board's log
+-- an act of board n, as it stands in that board's log; a listing stands in none
 abbrev pub ActOf : ℕ → Entry → Act → Type 0
 ActOf n e (sample m x mv) = (m ≡ n) × (e ≡ sampled x mv)
 ActOf n e (frame bytes buffer) =
     let address = getD bytes 0 0 in
     (ReadOf n address ⊎ WriteOf n address) × (e ≡ framed address (getD bytes 1 0) (getD bytes 2 0))
+ActOf n e (listing m buffer) = ⊥
 ActOf n e reading = ⊥
 
 abbrev pub entered : List Log → ℕ → Entry → List Log

@@ -10,7 +10,7 @@ use Rattle.refusal.specs.Said.{Said, refuses, Bar}
 use Rattle.board.specs.declared.Board.{Board}
 use Rattle.board.specs.declared.Readings.{Readings}
 use Rattle.stack.specs.Open.{openBars, openingSaid, openAnswer, openRow}
-use Rattle.demands.specs.Acts.{Act, sample, frame, reading, outcome, bars, next}
+use Rattle.demands.specs.Acts.{Act, sample, frame, listing, reading, outcome, bars, next}
 
 -- n is the number of the first row of a table whose condition holds
 abbrev pub FirstIs : ℕ → List Bar → Type 0
@@ -26,10 +26,11 @@ pub record ByTable (rows : List Bar) (said : Said) : Type 0 where
   pub refused : (n : ℕ) → 0 < n → (said ≡ refuses n) ↔ FirstIs n rows
   pub accepted : (said .number ≡ 0) ↔ NoneHolds rows
 
--- the reply buffer that an act lends
+-- the buffer that an act lends
 abbrev pub lent : Act → List ℕ
 lent (sample n x mv) = []
 lent (frame bytes buffer) = buffer
+lent (listing n buffer) = buffer
 lent reading = []
 
 -- the rows that each act meets, in the paper's order
@@ -39,6 +40,7 @@ numbersOf rows = map (λ b. b .number) rows
 pub record InOrder (row : List Board) : Type 0 where
   pub of-sample : (n : ℕ) (x : Readings) (mv : List ℕ) → numbersOf (bars row (sample n x mv)) ≡ 1 ∷ 2 ∷ 3 ∷ 4 ∷ 5 ∷ []
   pub of-frame : (bytes buffer : List ℕ) → numbersOf (bars row (frame bytes buffer)) ≡ 1 ∷ 6 ∷ 7 ∷ 8 ∷ 2 ∷ 9 ∷ 10 ∷ 13 ∷ 11 ∷ []
+  pub of-listing : (n : ℕ) (buffer : List ℕ) → numbersOf (bars row (listing n buffer)) ≡ 1 ∷ 2 ∷ 14 ∷ []
   pub of-reading : numbersOf (bars row reading) ≡ 1 ∷ []
 
 -- on any row of records, also one that no opening gave

@@ -1,25 +1,19 @@
--- The tallies and the latchings of a board's history (02, ticket 7): the five together count every latching once.
+-- The tallies and the latchings of a board's history (02, tickets 7 and 8): the five together count every latching once, as the journal has them.
 -- Assumes nothing.
 use Prim.Native.Nat.{ℕ, _+_, _<_}
 use mathlib.Core.Path.{_≡_}
-use mathlib.Core.List.{[], _∷_}
-use Rattle.lists.specs.Marks.{bit}
+use lib.ListN.{length}
 use Rattle.settings.specs.Faults.{Fault, SCD, OCD, OV, UV, OT}
 use Rattle.latches.specs.Tallies.{tallyTop}
 use Rattle.board.specs.Plan.{Plan}
-use Rattle.demands.specs.Paper.{Entry, History, howMany, latching, tallied}
+use Rattle.demands.specs.Paper.{History, howMany, latching, tallied, latchings}
 
 -- a number of each fault, added up
 abbrev pub overFaults : (Fault → ℕ) → ℕ
 overFaults of = of SCD + of OCD + of OV + of UV + of OT
 
--- the latchings of a history: at each act one for each fault that latches there
-abbrev pub latchings : Plan → History → ℕ
-latchings p [] = 0
-latchings p (e ∷ h) = latchings p h + overFaults (λ f. bit (latching p f e h))
-
 pub record Tallied (p : Plan) (h : History) : Type 0 where
-  -- they are those of each fault, added up
-  pub by-fault : latchings p h ≡ overFaults (λ f. howMany (latching p f) h)
+  -- the latchings of a history are those of each fault, added up
+  pub by-fault : length (latchings p h) ≡ overFaults (λ f. howMany (latching p f) h)
   -- and as long as no tally has stopped the five together are the number of latchings
-  pub together : ((f : Fault) → tallied p f h < tallyTop) → overFaults (λ f. tallied p f h) ≡ latchings p h
+  pub together : ((f : Fault) → tallied p f h < tallyTop) → overFaults (λ f. tallied p f h) ≡ length (latchings p h)

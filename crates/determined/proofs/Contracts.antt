@@ -28,12 +28,13 @@ use Rattle.cells.proofs.sweep.Reads as cells-sweep
 use Rattle.cells.proofs.span_of.Reads as cells-span-of
 use Rattle.cells.proofs.calm.Reads as cells-calm
 use Rattle.cells.proofs.fresh_cells.Reads as cells-fresh-cells
+use Rattle.cells.proofs.lower_to.Reads as cells-lower-to
+use Rattle.cells.proofs.lowest_of.Reads as cells-lowest-of
 use Rattle.cells.proofs.cell_count.Reads as cells-cell-count
 use Rattle.garden.proofs.grow.Reads as garden-grow
 use Rattle.journal.proofs.blank.Reads as journal-blank
 use Rattle.journal.proofs.enter.Reads as journal-enter
 use Rattle.journal.proofs.listed.Reads as journal-listed
-use Rattle.journal.proofs.entry_at.Reads as journal-entry-at
 use Rattle.latches.proofs.latches_of.Reads as latches-latches-of
 use Rattle.latches.proofs.any_latch.Reads as latches-any-latch
 use Rattle.latches.proofs.chg_on.Reads as latches-chg-on
@@ -155,6 +156,12 @@ cells-span-of-one κs a r t s u = agree
 pub cells-calm-one : (κs : _) (a : _) (r t : _) (s u : _) → cells-calm.Learnt κs a r s → cells-calm.Learnt κs a t u → r ≡ t
 cells-calm-one κs a r t s u = agree
 
+pub cells-lower-to-one : (κs : _) (a : _) (r t : _) (s u : _) → cells-lower-to.Learnt κs a r s → cells-lower-to.Learnt κs a t u → r ≡ t
+cells-lower-to-one κs a r t s u = agree
+
+pub cells-lowest-of-one : (κs : _) (a : _) (r t : _) (s u : _) → cells-lowest-of.Learnt κs a r s → cells-lowest-of.Learnt κs a t u → r ≡ t
+cells-lowest-of-one κs a r t s u = agree
+
 pub cells-fresh-cells-one : (κs : _) (a : _) (r t : _) (s u : _) → cells-fresh-cells.Learnt κs a r s → cells-fresh-cells.Learnt κs a t u → r ≡ t
 cells-fresh-cells-one κs a r t s u = agree
 
@@ -172,9 +179,6 @@ journal-enter-one κs a r t s u = agree
 
 pub journal-listed-one : (κs : _) (a : _) (r t : _) (s u : _) → journal-listed.Learnt κs a r s → journal-listed.Learnt κs a t u → r ≡ t
 journal-listed-one κs a r t s u = agree
-
-pub journal-entry-at-one : (κs : _) (a : _) (r t : _) (s u : _) → journal-entry-at.Learnt κs a r s → journal-entry-at.Learnt κs a t u → r ≡ t
-journal-entry-at-one κs a r t s u = agree
 
 -- ---- latches
 pub latches-latches-of-one : (κs : _) (a : _) (r t : _) (s u : _) → latches-latches-of.Learnt κs a r s → latches-latches-of.Learnt κs a t u → r ≡ t

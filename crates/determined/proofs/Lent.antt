@@ -1,7 +1,7 @@
 -- What is determined of each public function that changes what it is lent, or walks a lent row: the result and every value at exit.
 -- Each is cited by its whole contract; that of a routine of stack or of an act for C is the form that its own crate shows it to be.
 -- Assumes nothing.
-use Prim.Native.Nat.{ℕ, _≤_}
+use Prim.Native.Nat.{ℕ, _*_, _≤_}
 use mathlib.Core.Path.{_≡_, refl, sym, _∙_}
 use mathlib.Core.List.{List, [], _∷_}
 use lib.ListN.{length}
@@ -19,8 +19,9 @@ use Rattle.reading.specs.Way.{readRow}
 use Rattle.stack.specs.Open.{openAnswer, openRow, openCountsAnswer, openCountsRow}
 use Rattle.stack.specs.Sample.{sampleAnswer, sampleRow}
 use Rattle.stack.specs.Frame.{frameAnswer, frameRow, frameBuffer}
+use Rattle.stack.specs.List.{listAnswer, listBuffer}
 use Rattle.stack.specs.Read.{readingOf}
-use Rattle.adomvik.specs.Calls.{openNumber, countsNumber, sampleNumber, sampleOut, boardNumber, boardOut, frameNumber, readNumber, readOut}
+use Rattle.adomvik.specs.Calls.{openNumber, countsNumber, sampleNumber, sampleOut, boardNumber, boardOut, frameNumber, listNumber, readNumber, readOut}
 use Rattle.held.specs.Held.{framedOf, framedBuffer}
 use Rattle.acts.specs.InPlace.{actTold, actRow}
 use Rattle.text.specs.Way.{placed, Put}
@@ -39,6 +40,9 @@ use Rattle.acts.proofs.Told as Told
 use Rattle.stack.proofs.Contracts as stack
 use Rattle.adomvik.proofs.Contracts as adomvik
 use Rattle.frame.proofs.put as frame-put
+use Rattle.journal.proofs.put_listing as put-listing
+use Rattle.journal.proofs.Journal as Journals
+use Rattle.journal.specs.Ring.{listing, wordsOver}
 use Rattle.board.proofs.sample_board as sample-board
 use Rattle.registers.proofs.obey_board as obey-board
 use Rattle.reading.proofs.read_row as read-row
@@ -46,12 +50,14 @@ use Rattle.stack.proofs.open_row as open-row
 use Rattle.stack.proofs.open_counts as open-counts
 use Rattle.stack.proofs.sample_stack as sample-stack
 use Rattle.stack.proofs.frame_stack as frame-stack
+use Rattle.stack.proofs.list_stack as list-stack
 use Rattle.stack.proofs.read_stack as read-stack
 use Rattle.adomvik.proofs.adomvik_open as adomvik-open
 use Rattle.adomvik.proofs.adomvik_open_plans as adomvik-open-plans
 use Rattle.adomvik.proofs.adomvik_sample as adomvik-sample
 use Rattle.adomvik.proofs.adomvik_sample_board as adomvik-sample-board
 use Rattle.adomvik.proofs.adomvik_frame as adomvik-frame
+use Rattle.adomvik.proofs.adomvik_list as adomvik-list
 use Rattle.adomvik.proofs.adomvik_read as adomvik-read
 use Rattle.held.proofs.frame_held as frame-held
 use Rattle.acts.proofs.act_row as act-row
@@ -74,7 +80,7 @@ by-equations : {n : ℕ} (ks : List (Kind n)) (O : RattleType) (result : Takes k
     → gives ks O result lent .says-of κs a r e → gives ks O result lent .says-of κs a t u → (r ≡ t) × (lentAt κs ks e ≡ lentAt κs ks u)
 by-equations ks O result lent κs a r t e u p q = let both = equal-lent κs ks _ e u p q in (agree (both .0) (both .1), both .2)
 
--- ---- the public library: open_row, open_counts, sample_stack, frame_stack, read_stack
+-- ---- the public library: open_row, open_counts, sample_stack, frame_stack, list_stack, read_stack
 
 pub open-row-one : Determined stack.openForm (λ M. open-row.spec {M = M})
 open-row-one = record { cited = λ M. stack.open-row-says {M = M}; one = by-equations (stack.openForm .params) (stack.openForm .result) openAnswer (λ row plans. (openRow row plans, tt)) }
@@ -87,6 +93,9 @@ sample-stack-one = record { cited = λ M. stack.sample-stack-says {M = M}; one =
 
 pub frame-stack-one : Determined stack.frameForm (λ M. frame-stack.spec {M = M})
 frame-stack-one = record { cited = λ M. stack.frame-stack-says {M = M}; one = by-equations (stack.frameForm .params) (stack.frameForm .result) frameAnswer (λ row bytes buffer. (frameRow row bytes buffer, (frameBuffer row bytes buffer, tt))) }
+
+pub list-stack-one : Determined stack.listForm (λ M. list-stack.spec {M = M})
+list-stack-one = record { cited = λ M. stack.list-stack-says {M = M}; one = by-equations (stack.listForm .params) (stack.listForm .result) listAnswer (λ row n words. (listBuffer row n words, tt)) }
 
 pub read-stack-one : Determined stack.readForm (λ M. read-stack.spec {M = M})
 read-stack-one = record { cited = λ M. stack.read-stack-says {M = M}; one = by-equations (stack.readForm .params) (stack.readForm .result) readingOf (λ row. tt) }
@@ -108,6 +117,9 @@ adomvik-sample-board-one = record { cited = λ M. adomvik.sample-board-says {M =
 pub adomvik-frame-one : Determined adomvik.frameForm (λ M. adomvik-frame.spec {M = M})
 adomvik-frame-one = record { cited = λ M. adomvik.frame-says {M = M}; one = by-equations (adomvik.frameForm .params) u8 frameNumber (λ row bytes buffer. (frameRow row bytes buffer, (frameBuffer row bytes buffer, tt))) }
 
+pub adomvik-list-one : Determined adomvik.listForm (λ M. adomvik-list.spec {M = M})
+adomvik-list-one = record { cited = λ M. adomvik.list-says {M = M}; one = by-equations (adomvik.listForm .params) u32 listNumber (λ row n words. (listBuffer row n words, tt)) }
+
 pub adomvik-read-one : Determined adomvik.readForm (λ M. adomvik-read.spec {M = M})
 adomvik-read-one = record { cited = λ M. adomvik.read-says {M = M}; one = by-equations (adomvik.readForm .params) u8 (λ row out. readNumber row) (λ row out. (readOut row out, tt)) }
 
@@ -119,6 +131,13 @@ putForm = gives {n = 1} (handed 0 tt u8 ∷ value Frame-taken.the-row ∷ value 
 
 pub frame-put-one : DeterminedIf putForm (λ κs a. 4 ≤ length (now (a .0))) (λ M. frame-put.spec {M = M})
 frame-put-one = record { cited = λ M 𝓤 H A mem run. refl; one = by-equations (putForm .params) Reply.the-row (λ buffer. replyOf) (λ buffer taken outcome. (bufferWith buffer (replyOf taken outcome), tt)) }
+
+-- how many entries, and the buffer, which has room for them
+abbrev putListingForm : Form
+putListingForm = gives {n = 1} (value Journals.the-row ∷ handed 0 tt u32 ∷ []) usize (λ j out. length (listing j)) (λ j out. (wordsOver (listing j) out, tt))
+
+pub put-listing-one : DeterminedIf putListingForm (λ κs a. 3 * length (listing (a .0)) ≤ length (now (a .1 .0))) (λ M. put-listing.spec {M = M})
+put-listing-one = record { cited = λ M 𝓤 H A mem run. refl; one = by-equations (putListingForm .params) usize (λ j out. length (listing j)) (λ j out. (wordsOver (listing j) out, tt)) }
 
 -- the answer, and the record
 abbrev sampleBoardForm : Form

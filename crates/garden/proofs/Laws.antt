@@ -1,4 +1,4 @@
--- The laws of the garden packs' counts: they fit a byte; the lowest cell that reaches the trigger, from the highest down; the cells, one by one; and what is inside.
+-- The laws of the garden packs' counts: they fit a byte; the cells, one by one; and what is inside.
 -- Assumes nothing.
 use Prim.Native.Nat.{ℕ, zero, suc, _+_, _-_, min, _<_, _≤_}
 use native.Mathlib.Nat.{not-suc-le-zero}
@@ -8,7 +8,6 @@ use mathlib.Core.Bool.{Bool, true, false, cond, not, _&&_}
 use mathlib.Core.List.{List, [], _∷_, _++_}
 use lib.Dec.{ltb}
 use lib.ListN.{length, getD, take, drop, set, take-append-drop}
-use Rattle.lists.specs.Marks.{lowest}
 use Rattle.lists.specs.Each.{each}
 use Rattle.lists.proofs.Each.{each-down, each-none, set-front}
 use Rattle.cells.specs.declared.Cell.{Cell}
@@ -48,17 +47,6 @@ device-past zero p = absurd (omega arith)
 device-past (suc zero) p = absurd (omega arith)
 device-past (suc (suc zero)) p = absurd (omega arith)
 device-past (suc (suc (suc n))) p = refl
-
--- ---- the lowest cell of some, found from the highest down
-pub lowest-none : (f : ℕ → Bool) (n : ℕ) → 0 ≡ lowest (n + 1) (each n (n - n) f)
-unfolding lowest
-lowest-none f n = rw (each-none f n)
-
-pub lowest-down : (f : ℕ → Bool) (i n low : ℕ) → 0 < i → i ≤ n → low ≡ lowest (i + 1) (each i (n - i) f) → cond (f (i - 1)) (i - 1 + 1) low ≡ lowest (i - 1 + 1) (each (i - 1) (n - (i - 1)) f)
-unfolding lowest
-lowest-down f i n low p q e =
-    let back : i - 1 + 1 + 1 ≡ i + 1 = omega arith in
-    rw (each-down f i n p q, e, back)
 
 -- ---- the cells, from the highest down
 module _ (d : Device) (cells : List Cell) (mv : List ℕ) (ovNone uvNone : Bool) (n : ℕ) where

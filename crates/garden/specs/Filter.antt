@@ -1,4 +1,4 @@
--- One sample of a garden board: counts, recovery counts and the two latches (02, ticket 5; 003 for the scheme). Each fault goes by itself, and by whether it was
+-- One sample of a garden board: counts, recovery counts and the two latches (02, tickets 5 and 8; 003 for the scheme). Each fault goes by itself, and by whether it was
 -- latched before the sample.
 -- Assumes nothing.
 use Prim.Native.Nat.{ℕ, _+_, _-_, min}
@@ -66,7 +66,7 @@ backAfter trigger was back inside = cond (was && not (reaches trigger (countNext
 abbrev pub zeroed : Bool → ℕ → Bool
 zeroed was reached = was || not (eqb reached 0)
 
--- both faults of a board, with what is inside
+-- both faults of a board, with what is inside; the lowest cells that reach the trigger are told
 unfoldable pub growWith : Device → Garden → List Cell → Bool → Bool → Bool → Bool → List ℕ → Grown
 growWith d g cells ov uv ovIn uvIn mv =
     let ovLow = ovReached d cells mv (g .trigger) in
@@ -82,6 +82,8 @@ growWith d g cells ov uv ovIn uvIn mv =
           };
       ov = latchAfter (g .trigger) ov (g .«ov_back») ovIn ovLow;
       uv = latchAfter (g .trigger) uv (g .«uv_back») uvIn uvLow;
+      «ov_cell» = ovLow;
+      «uv_cell» = uvLow;
     }
 
 abbrev pub growOf : Garden → List Cell → Bool → Bool → Bool → List ℕ → Grown

@@ -84,14 +84,6 @@ struct Reached {
     uv: u8,
 }
 
-// This place's cell is the lowest so far, where it is one.
-fn lower_to(hit: bool, at: usize, low: u8) -> u8
-    requires { ⌜ at < 10 ⌝ }
-    ensures { λ r. ⌜ r ≡ cond hit (at + 1) low ⌝ }
-{
-    if hit { at as u8 + 1 } else { low }
-}
-
 fn reached_of(d: Device, trigger: u8, cells: [Cell; 10], mv: &[u32]) -> Reached
     ensures { λ r. ⌜ r ≡ reachedBy d trigger cells (now (mv .entry)) ⌝ }
 {
@@ -101,8 +93,8 @@ fn reached_of(d: Device, trigger: u8, cells: [Cell; 10], mv: &[u32]) -> Reached
     while 0 < i {
         i -= 1;
         let v = mv[i];
-        ov = lower_to(trigger as u32 <= count_next(d.ov < v, cells[i].ov), i, ov);
-        uv = lower_to(trigger as u32 <= count_next(v < d.uv, cells[i].uv), i, uv);
+        ov = cells::lower_to(trigger as u32 <= count_next(d.ov < v, cells[i].ov), i, ov);
+        uv = cells::lower_to(trigger as u32 <= count_next(v < d.uv, cells[i].uv), i, uv);
     }
     Reached { ov: ov, uv: uv }
 }
@@ -160,12 +152,14 @@ fn filter(trigger: u8, was: bool, back: u8, inside: bool, reached: u8) -> Filter
     }
 }
 
-// A garden board after a sample: its cells' counts, its own part, and its latches.
+// A garden board after a sample: its cells' counts, its own part, its latches, and the lowest cells that reach the trigger, or 0.
 pub struct Grown {
     pub cells: [Cell; 10],
     pub garden: Garden,
     pub ov: bool,
     pub uv: bool,
+    pub ov_cell: u8,
+    pub uv_cell: u8,
 }
 
 // One sample of a garden board, with its latches before, whether the load is attached, and its lowest and highest cell.
@@ -198,5 +192,7 @@ pub fn grow(
         garden: garden,
         ov: ov_after.latched,
         uv: uv_after.latched,
+        ov_cell: low.ov,
+        uv_cell: low.uv,
     }
 }

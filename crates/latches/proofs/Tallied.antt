@@ -7,7 +7,7 @@ use Rattle.latches.specs.declared.Tallies.{Tallies}
 use Rattle.latches.specs.Latches.{anyLatch}
 use Rattle.latches.specs.Tallies.{tallyNext, talliesNext}
 
-none-of : (a b c d e : Bool) → (a || b || c || d || e) ≡ false → (a ≡ false) × (b ≡ false) × (c ≡ false) × (d ≡ false) × (e ≡ false)
+pub none-of : (a b c d e : Bool) → (a || b || c || d || e) ≡ false → (a ≡ false) × (b ≡ false) × (c ≡ false) × (d ≡ false) × (e ≡ false)
 none-of false false false false false h = (refl, refl, refl, refl, refl)
 none-of true b c d e h = absurd (true≢false h)
 none-of false true c d e h = absurd (true≢false h)

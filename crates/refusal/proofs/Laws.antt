@@ -9,7 +9,7 @@ use lib.Dec.{T, eqb, eqb→eq}
 use borrow.Author.Tests.{eqb-true}
 use Rattle.lists.proofs.Split.{split}
 use Rattle.refusal.specs.declared.Refusal.{Refusal}
-use Rattle.refusal.specs.declared.Refusal.the-variants.{BadRow, NoBoard, CellList, Elapsed, OutOfRange, FrameLength, ReplyRoom, CheckByte, NoRegister, BadValue, NoCycle, Malformed, LevelsCrossed}
+use Rattle.refusal.specs.declared.Refusal.the-variants.{BadRow, NoBoard, CellList, Elapsed, OutOfRange, FrameLength, ReplyRoom, CheckByte, NoRegister, BadValue, NoCycle, Malformed, LevelsCrossed, ListRoom}
 use Rattle.refusal.specs.Refusals.{numberOf, numbered, inTable}
 use Rattle.refusal.specs.Said.{Bar, first, judged}
 
@@ -27,6 +27,7 @@ numbered-number BadValue = refl
 numbered-number NoCycle = refl
 numbered-number Malformed = refl
 numbered-number LevelsCrossed = refl
+numbered-number ListRoom = refl
 
 -- number 0 would be that of BadRow, which is 1
 pub number-not-zero : (r : Refusal) → eqb (numberOf r) 0 ≡ false

@@ -1,4 +1,4 @@
-// The refusals of the paper's table, and their numbers (01, Refusal numbers).
+// The refusals of the paper's table, and their numbers (01, Refusal numbers; 02, tickets 1 and 8).
 ghost use mathlib.Core.Path.{_≡_};
 ghost use Rattle.refusal.specs.Refusals.{numberOf};
 
@@ -16,6 +16,7 @@ pub enum Refusal {
     NoCycle,
     Malformed,
     LevelsCrossed,
+    ListRoom,
 }
 
 // The number that the paper gives a refusal.
@@ -36,5 +37,6 @@ pub fn number(r: Refusal) -> u8
         Refusal::NoCycle => 11,
         Refusal::Malformed => 12,
         Refusal::LevelsCrossed => 13,
+        Refusal::ListRoom => 14,
     }
 }

@@ -59,6 +59,8 @@ steered b v =
       control = v;
       garden = b .garden;
       tallies = b .tallies;
+      samples = b .samples;
+      journal = b .journal;
     }
 
 -- a write to registers 6 to 10: the staged byte, and nothing else
@@ -78,6 +80,8 @@ staging b register v =
       control = b .control;
       garden = b .garden;
       tallies = b .tallies;
+      samples = b .samples;
+      journal = b .journal;
     }
 
 -- a cycle is spent, the count is then so many: staged becomes working and every run starts over; latches, flags, register 1 and the last sample stay
@@ -97,6 +101,8 @@ spentTo cycles b =
       control = b .control;
       garden = b .garden;
       tallies = b .tallies;
+      samples = b .samples;
+      journal = b .journal;
     }
 
 unfoldable pub spent : Board → Board

@@ -15,7 +15,7 @@ use denote.Builtin.{u8, u32}
 use denote.Ref.{now}
 use denote.Triple.Clauses.{closing}
 use Rattle.walks.proofs.Form.{Form, handed, shown, ended-of, clauses-of}
-use Rattle.walks.proofs.Callee.{on-cells, on-frame, of-slice}
+use Rattle.walks.proofs.Callee.{on-cells, on-frame, on-list, of-slice}
 use Rattle.board.specs.declared.Board.{Board}
 use Rattle.board.proofs.Board as Boards
 use Rattle.board.proofs.Readings as Readings
@@ -24,14 +24,17 @@ use Rattle.frame.proofs.Reply as Reply
 use Rattle.stack.specs.Open.{openAnswer, openRow, openCountsAnswer, openCountsRow}
 use Rattle.stack.specs.Sample.{sampleAnswer, sampleRow}
 use Rattle.stack.specs.Frame.{frameAnswer, frameRow, frameBuffer}
+use Rattle.stack.specs.List.{listAnswer, listBuffer}
 use Rattle.stack.specs.Read.{readingOf}
 use Rattle.stack.specs.declared.Opening.{Opening}
 use Rattle.stack.proofs.Opening as Openings
+use Rattle.stack.proofs.Listing as Listing
 use Rattle.stack.proofs.View as View
 use Rattle.stack.proofs.open_row as open-row
 use Rattle.stack.proofs.open_counts as open-counts
 use Rattle.stack.proofs.sample_stack as sample-stack
 use Rattle.stack.proofs.frame_stack as frame-stack
+use Rattle.stack.proofs.list_stack as list-stack
 use Rattle.stack.proofs.read_stack as read-stack
 
 -- the answer and the row
@@ -56,6 +59,10 @@ sampleForm = on-cells Answer.the-row Boards.the-row u32 Readings.the-row u32 sam
 abbrev pub frameForm : Form
 frameForm = on-frame Reply.the-row Boards.the-row u8 u8 frameAnswer frameRow frameBuffer
 
+-- the answer and the buffer; the row is only read
+abbrev pub listForm : Form
+listForm = on-list Listing.the-row Boards.the-row u32 u32 listAnswer listBuffer
+
 -- the answer; the row is only read
 abbrev pub readForm : Form
 readForm = of-slice View.the-row Boards.the-row readingOf
@@ -72,6 +79,9 @@ module _ {M : Type 1} (𝓤 : URA M) (H : Heap 𝓤) (A : Atoms 𝓤) (mem : Mem
 
   pub frame-stack-says : frame-stack.spec 𝓤 H A mem run ≡ closing 𝓤 H A (ended-of frameForm) (clauses-of frameForm 𝓤)
   frame-stack-says = refl
+
+  pub list-stack-says : list-stack.spec 𝓤 H A mem run ≡ closing 𝓤 H A (ended-of listForm) (clauses-of listForm 𝓤)
+  list-stack-says = refl
 
   pub read-stack-says : read-stack.spec 𝓤 H A mem run ≡ closing 𝓤 H A (ended-of readForm) (clauses-of readForm 𝓤)
   read-stack-says = refl

@@ -29,6 +29,8 @@ use Rattle.stack.proofs.Progress as Progress
 use Rattle.stack.proofs.Progress.Laws as Progress′
 use Rattle.stack.proofs.Placed as Placed
 use Rattle.stack.proofs.Placed.Laws as Placed′
+use Rattle.stack.proofs.Listing as Listing
+use Rattle.stack.proofs.Listing.Laws as Listing′
 use Rattle.stack.proofs.View as View
 use Rattle.stack.proofs.View.Laws as View′
 
@@ -59,6 +61,9 @@ module _ {M : Type 1} (𝓤 : URA M) (H : Heap 𝓤) (A : Atoms 𝓤) (W : Given
 
   abbrev pub view : PlainType 𝓤 H A View.the-row
   view = enumeration 𝓤 H A W View.the-type View′.the-laws View′.the-plain View′.the-copy tt
+
+  abbrev pub listing : PlainType 𝓤 H A Listing.the-row
+  listing = enumeration 𝓤 H A W Listing.the-type Listing′.the-laws Listing′.the-plain Listing′.the-copy tt
 
   abbrev pub opening : PlainType 𝓤 H A Opening.the-row
   opening = enumeration 𝓤 H A W Opening.the-type Opening′.the-laws Opening′.the-plain Opening′.the-copy tt

@@ -4,7 +4,7 @@ use Prim.Native.Nat.{ℕ}
 use mathlib.Core.Path.{_≡_, refl}
 use mathlib.Core.Logic.{_≢_}
 use mathlib.Core.Bool.{Bool, true, false, cond}
-use mathlib.Core.List.{List, []}
+use mathlib.Core.List.{List, [], _∷_}
 use lib.Dec.{eqb}
 use lib.ListN.{length, set, length-set}
 use lib.Seq.{getD-set-other}
@@ -18,6 +18,7 @@ use Rattle.frame.specs.Reply.{replySaid}
 use Rattle.stack.specs.Row.{goodRow, placeOf, boardAt}
 use Rattle.stack.specs.Open.{openBars, openingSaid, openAnswer}
 use Rattle.stack.specs.Sample.{sampleRowBars, sampleAnswer, sampleRow}
+use Rattle.stack.specs.List.{entriesOf, listBars, listingSaid, listAnswer}
 use Rattle.stack.specs.Frame.{framePlace, frameRowBars, boardFramed, frameReply, frameAnswer, frameRow}
 
 -- ---- other records stay, and the row keeps its length
@@ -74,6 +75,12 @@ pub sample-said : (row : List Board) (n : ℕ) (x : Readings) (mv : List ℕ)
 unfolding sampleAnswer
 sample-said row n x mv =
     let bars = sampleRowBars row n x mv in
+    split (eqb (first bars) 0) (λ e. rw e) (λ e. rw (e, e, number-back bars tt e))
+
+pub list-said : (row : List Board) (n : ℕ) (buffer : List ℕ) → listingSaid (listAnswer row n buffer) ≡ judged (listBars row n buffer) (length (entriesOf row n) ∷ [])
+unfolding listAnswer
+list-said row n buffer =
+    let bars = listBars row n buffer in
     split (eqb (first bars) 0) (λ e. rw e) (λ e. rw (e, e, number-back bars tt e))
 
 pub frame-said : (row : List Board) (bytes buffer : List ℕ) → replySaid (frameAnswer row bytes buffer) ≡ judged (frameRowBars row bytes buffer) (frameReply row bytes)

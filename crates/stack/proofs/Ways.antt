@@ -1,8 +1,8 @@
 -- The routines go by the record at a place in a row that was found good, and the paper by its table: the two are the same.
 -- Assumes nothing.
-use Prim.Native.Nat.{ℕ, zero, suc, _<_, _≤_}
+use Prim.Native.Nat.{ℕ, zero, suc, _*_, _/_, _<_, _≤_}
 use native.Mathlib.Omega.{arith}
-use mathlib.Core.Path.{_≡_, refl, ap, _∙_}
+use mathlib.Core.Path.{_≡_, refl, sym, ap, _∙_}
 use mathlib.Core.Bool.{Bool, true, false, cond, not}
 use mathlib.Core.List.{List, [], _∷_, _++_}
 use lib.Dec.{ltb, eqb}
@@ -27,7 +27,8 @@ use Rattle.frame.specs.Way.{decoded, refusedAs, takenApart, checkAfter, outcome
 use Rattle.registers.specs.Registers.{accessBars, replyValue, obeyedOf}
 use Rattle.stack.specs.Row.{badCount, goodRow, noBoard, placeOf, boardAt}
 use Rattle.stack.specs.Sample.{sampleAnswer, sampleRow}
-use Rattle.stack.specs.Way.{noRowSample, sampleAnswerAt, sampleRowAt, obeyOutcomeAt, obeyRowAt, noRowReply, takenAnswer, takenRow, frameAnswerIn, frameRowIn, frameBufferIn}
+use Rattle.stack.specs.Way.{noRowSample, sampleAnswerAt, sampleRowAt, noRowListing, entriesIn, tooLong, listingIn, bufferIn, listAnswerAt, listBufferAt, obeyOutcomeAt, obeyRowAt, noRowReply, takenAnswer, takenRow, frameAnswerIn, frameRowIn, frameBufferIn}
+use Rattle.stack.specs.List.{listAnswer, listBuffer}
 use Rattle.stack.specs.Frame.{framePlace, frameBoard, boardFramed, frameAnswer, frameRow, frameBuffer}
 use Rattle.board.proofs.Counts.{within, good-plan}
 
@@ -35,6 +36,13 @@ use Rattle.board.proofs.Counts.{within, good-plan}
 set-kept : (accepted : Bool) (row : List Board) (at : ℕ) (new : Board) → set row at (cond accepted new (boardAt row at)) ≡ cond accepted (set row at new) row
 set-kept true row at new = refl
 set-kept false row at new = set-getD row at (fresh 0)
+
+-- a buffer has room for so many entries exactly if it has three words for each
+room-by : (words many : ℕ) → ltb (words / 3) many ≡ ltb words (3 * many)
+room-by words many =
+    split (ltb words (3 * many))
+    (λ e. lt-ltb (words / 3) many (omega (arith, ltb-true words (3 * many) e)) ∙ sym e)
+    (λ e. le-ltb (words / 3) many (omega (arith, ltb-false words (3 * many) e)) ∙ sym e)
 
 module _ (row : List Board) (good : goodRow row ≡ true) where
   -- 1 to 16 boards
@@ -79,6 +87,25 @@ module _ (row : List Board) (good : goodRow row ≡ true) where
             (set-kept (eqb (first (readingBars (boardAt row (placeOf n)) x mv)) 0) row (placeOf n) (boardNext (boardAt row (placeOf n)) x mv)),
       ))
       (λ e. let none = has-none n (ltb-false (placeOf n) (length row) e) in (rw (e, good, none), rw (e, good, none)))
+
+  -- a listing of a good row
+  pub list-good : (n : ℕ) (buffer : List ℕ) → (listAnswerAt row n buffer ≡ listAnswer row n buffer) × (listBufferAt row n buffer ≡ listBuffer row n buffer)
+  unfolding listAnswerAt listAnswer listBufferAt listBuffer listingIn bufferIn
+  list-good n buffer =
+      let b = boardAt row (placeOf n) in
+      let few = room-by (length buffer) (length (entriesIn b)) in
+      split (ltb (placeOf n) (length row))
+      (λ e.
+      let there = has-board n (ltb-true (placeOf n) (length row) e) in
+      split (tooLong b buffer)
+      (λ t. (rw (e, good, there, few, t), rw (e, good, there, few, t)))
+      (λ t. (rw (e, good, there, few, t), rw (e, good, there, few, t))))
+      (λ e. let none = has-none n (ltb-false (placeOf n) (length row) e) in (rw (e, good, none), rw (e, good, none)))
+
+-- a listing of a bad row
+pub list-bad : (row : List Board) (n : ℕ) (buffer : List ℕ) → goodRow row ≡ false → (noRowListing ≡ listAnswer row n buffer) × (buffer ≡ listBuffer row n buffer)
+unfolding listAnswer listBuffer
+list-bad row n buffer bad = (rw bad, rw bad)
 
 -- a sample of a bad row
 pub sample-bad : (row : List Board) (n : ℕ) (x : Readings) (mv : List ℕ) → goodRow row ≡ false → (noRowSample ≡ sampleAnswer row n x mv) × (row ≡ sampleRow row n x mv)

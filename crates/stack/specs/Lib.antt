@@ -2,5 +2,6 @@ pub mod Row
 pub mod Open
 pub mod Sample
 pub mod Frame
+pub mod List
 pub mod Read
 pub mod Way

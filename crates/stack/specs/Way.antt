@@ -1,7 +1,7 @@
 -- On the way to an act on a row: record by record, by the record at its place, by the frame taken apart. That these come to the
 -- acts is shown in proofs/Fills.antt and proofs/Ways.antt; nobody need believe them.
 -- Assumes nothing.
-use Prim.Native.Nat.{ℕ, zero, suc, _+_, _-_}
+use Prim.Native.Nat.{ℕ, zero, suc, _+_, _-_, _*_}
 use mathlib.Core.Bool.{Bool, true, false, cond}
 use mathlib.Core.List.{List}
 use lib.Dec.{ltb, eqb}
@@ -9,6 +9,8 @@ use lib.ListN.{length, getD, set}
 use Rattle.refusal.specs.Refusals.{numbered}
 use Rattle.refusal.specs.Said.{first}
 use Rattle.lists.specs.Every.{every}
+use Rattle.journal.specs.Ring as journal
+use Rattle.journal.specs.Ring.{Entry, wordsOver}
 use Rattle.board.specs.declared.Board.{Board}
 use Rattle.board.specs.declared.Readings.{Readings}
 use Rattle.board.specs.declared.Answer.{Answer}
@@ -24,6 +26,8 @@ use Rattle.frame.specs.Frame.{boardOf}
 use Rattle.frame.specs.Way.{takenApart, replyOf, bufferWith}
 use Rattle.registers.specs.Registers.{obeyedOf}
 use Rattle.registers.specs.Way.{denies}
+use Rattle.stack.specs.declared.Listing.{Listing}
+use Rattle.stack.specs.declared.Listing.the-variants as listing
 use Rattle.stack.specs.declared.View.{View}
 use Rattle.stack.specs.declared.View.the-variants as view
 use Rattle.stack.specs.declared.Opening.{Opening}
@@ -134,6 +138,31 @@ frameRowIn row bytes buffer = takenRow row (takenApart bytes (length buffer))
 
 unfoldable pub frameBufferIn : List Board → List ℕ → List ℕ → List ℕ
 frameBufferIn row bytes buffer = bufferWith buffer (takenAnswer row (takenApart bytes (length buffer)))
+
+-- ---- a listing, by the record at its place; there is room for so many entries exactly if there are three words for each (the law room-by)
+abbrev pub noListing : Listing
+noListing = listing.Refused (numbered 2)
+
+abbrev pub noRowListing : Listing
+noRowListing = listing.Refused (numbered 1)
+
+abbrev pub entriesIn : Board → List Entry
+entriesIn b = journal.listing (b .journal)
+
+abbrev pub tooLong : Board → List ℕ → Bool
+tooLong b buffer = ltb (length buffer) (3 * length (entriesIn b))
+
+unfoldable pub listingIn : Board → List ℕ → Listing
+listingIn b buffer = cond (tooLong b buffer) (listing.Refused (numbered 14)) (listing.Listed (length (entriesIn b)))
+
+unfoldable pub bufferIn : Board → List ℕ → List ℕ
+bufferIn b buffer = cond (tooLong b buffer) buffer (wordsOver (entriesIn b) buffer)
+
+unfoldable pub listAnswerAt : List Board → ℕ → List ℕ → Listing
+listAnswerAt row n buffer = cond (ltb (placeOf n) (length row)) (listingIn (boardAt row (placeOf n)) buffer) noListing
+
+unfoldable pub listBufferAt : List Board → ℕ → List ℕ → List ℕ
+listBufferAt row n buffer = cond (ltb (placeOf n) (length row)) (bufferIn (boardAt row (placeOf n)) buffer) buffer
 
 -- ---- a reading of a row that is not good
 abbrev pub noRowView : View

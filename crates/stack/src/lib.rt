@@ -1,12 +1,13 @@
-// The public library: a stack as one row of board records, lent to each routine (01, The stack and its readings; 02, ticket 3).
+// The public library: a stack as one row of board records, lent to each routine (01, The stack and its readings; 02, tickets 3 and 8).
 // Every routine over lent records is put together of pieces of crate walks or is one of its shapes, and calls proved work on plain values.
 ghost use mathlib.Core.Path.{_≡_};
 ghost use Rattle.registers.specs.Registers.{obeyedOf};
 ghost use Rattle.stack.specs.Row.{badCount, goodRow, placeOf};
 ghost use Rattle.stack.specs.Open.{goodPlans, openAnswer, openRow, openCountsAnswer, openCountsRow};
 ghost use Rattle.stack.specs.Sample.{sampleAnswer, sampleRow};
-ghost use Rattle.stack.specs.Way.{refusedFill, startOf, more, placedOf, fillAt, fillRowAt, fillEnd, fillRow, openingBy, plainCounts, noOpening, sampleAnswerAt, sampleRowAt, noSample, noRowSample, askedPlace, obeyOutcomeAt, obeyRowAt, frameAnswerIn, frameRowIn, frameBufferIn, noOutcome, noRowReply, noRowView};
+ghost use Rattle.stack.specs.Way.{refusedFill, startOf, more, placedOf, fillAt, fillRowAt, fillEnd, fillRow, openingBy, plainCounts, noOpening, sampleAnswerAt, sampleRowAt, noSample, noRowSample, askedPlace, obeyOutcomeAt, obeyRowAt, frameAnswerIn, frameRowIn, frameBufferIn, noOutcome, noRowReply, noListing, noRowListing, listingIn, bufferIn, listAnswerAt, listBufferAt, noRowView};
 ghost use Rattle.stack.specs.Frame.{frameAnswer, frameRow, frameBuffer};
+ghost use Rattle.stack.specs.List.{listAnswer, listBuffer};
 ghost use Rattle.stack.specs.Read.{readingOf};
 use board::Answer;
 use board::Board;
@@ -20,6 +21,12 @@ use refusal::Refusal;
 
 pub enum Opening {
     Opened,
+    Refused(Refusal),
+}
+
+// How many entries a listing has.
+pub enum Listing {
+    Listed(u32),
     Refused(Refusal),
 }
 
@@ -321,6 +328,52 @@ pub fn frame_stack(row: &mut [Board], bytes: &[u8], reply: &mut [u8]) -> Reply
         return frame_in(row, bytes, reply);
     }
     no_row_reply()
+}
+
+// ---- the listing of a board's journal
+
+fn no_listing() -> Listing
+    ensures { λ r. ⌜ r ≡ noListing ⌝ }
+{
+    Listing::Refused(Refusal::NoBoard)
+}
+
+fn no_row_listing() -> Listing
+    ensures { λ r. ⌜ r ≡ noRowListing ⌝ }
+{
+    Listing::Refused(Refusal::BadRow)
+}
+
+// The journal of one board, in a buffer with room for it.
+fn list_board(b: Board, out: &mut [u32]) -> Listing
+    ensures { λ r. ⌜ (r ≡ listingIn b (now (out .entry))) × (now (out .exit) ≡ bufferIn b (now (out .entry))) ⌝ }
+{
+    let held = b.journal;
+    if out.len() < 3 * journal::listed(held) {
+        return Listing::Refused(Refusal::ListRoom);
+    }
+    let many = journal::put_listing(held, out);
+    Listing::Listed(many as u32)
+}
+
+fn list_at(row: &[Board], board: u32, out: &mut [u32]) -> Listing
+    ensures { λ r. ⌜ (r ≡ listAnswerAt (now (row .entry)) board (now (out .entry))) × (now (out .exit) ≡ listBufferAt (now (row .entry)) board (now (out .entry))) ⌝ }
+{
+    let at = place_of(board);
+    if at < row.len() {
+        return list_board(row[at], out);
+    }
+    no_listing()
+}
+
+// The journal of one board of the row, oldest entry first, in a lent buffer of words: three for each entry, cause, cell and sample number.
+pub fn list_stack(row: &[Board], board: u32, out: &mut [u32]) -> Listing
+    ensures { λ r. ⌜ (r ≡ listAnswer (now (row .entry)) board (now (out .entry))) × (now (out .exit) ≡ listBuffer (now (row .entry)) board (now (out .entry))) ⌝ }
+{
+    if good_row(row) {
+        return list_at(row, board, out);
+    }
+    no_row_listing()
 }
 
 // ---- the whole-stack reading

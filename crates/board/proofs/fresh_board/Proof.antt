@@ -13,18 +13,21 @@ first-latches-requires c κs = search needs
 fresh-cells-requires : tie.Need-fresh-cells-requires
 fresh-cells-requires c κs = search needs
 
-cast-t13 : tie.Need-cast-t13
-cast-t13 c = search needs
+cast-t14 : tie.Need-cast-t14
+cast-t14 c = search needs
 
-cast-t15 : tie.Need-cast-t15
-cast-t15 c = omega arith
+cast-t16 : tie.Need-cast-t16
+cast-t16 c = omega arith
 
-cast-t15-2 : tie.Need-cast-t15-2
-cast-t15-2 c = search needs
+cast-t16-2 : tie.Need-cast-t16-2
+cast-t16-2 c = search needs
+
+blank-requires : tie.Need-blank-requires
+blank-requires c κs = search needs
 
 returns : tie.Need-returns
 unfolding fresh
-returns c = rw (c .fresh-cells .ensures, c .before .first-latches .ensures)
+returns c = rw (c .blank .ensures, c .before .fresh-cells .ensures, c .before .before .first-latches .ensures)
 
 pub fresh-board-spec : {M : Type 1} → statement M
 fresh-board-spec =
@@ -33,7 +36,8 @@ fresh-board-spec =
     cast-kind
     first-latches-requires
     fresh-cells-requires
-    cast-t13
-    cast-t15
-    cast-t15-2
+    cast-t14
+    cast-t16
+    blank-requires
+    cast-t16-2
     returns)

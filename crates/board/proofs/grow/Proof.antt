@@ -23,6 +23,9 @@ tallies-next-requires c κs = search needs
 last-by-requires : tie.Need-last-by-requires
 last-by-requires c κs = search needs
 
+number-next-requires : tie.Need-number-next-requires
+number-next-requires c κs = search needs
+
 status-by-requires : tie.Need-status-by-requires
 status-by-requires c κs = search needs
 
@@ -30,13 +33,14 @@ returns : tie.Need-returns
 unfolding grownOf gardenWith
 returns c =
     let c1 = c .before in
-    let c4 = c1 .before .before .before in
-    let c5 = c4 .before in
+    let c2 = c1 .before in
+    let c5 = c2 .before .before .before in
     let c6 = c5 .before in
     let c7 = c6 .before in
-    let c10 = c7 .before .before .before in
-    let a = c10 .before .before .args in
-    rw (c .status-by .ensures, c1 .last-by .ensures, c4 .tallies-next .ensures, c5 .risen .ensures, c6 .byte-of .ensures, c7 .grow .ensures, c10 .latches-of .ensures, latches-kept (grownLatches (grownBy (a .b) (a .x) (a .span) (a .mv .now))))
+    let c8 = c7 .before in
+    let c11 = c8 .before .before .before in
+    let a = c11 .before .before .args in
+    rw (c .status-by .ensures, c1 .number-next .ensures, c2 .last-by .ensures, c5 .tallies-next .ensures, c6 .risen .ensures, c7 .byte-of .ensures, c8 .grow .ensures, c11 .latches-of .ensures, latches-kept (grownLatches (grownBy (a .b) (a .x) (a .span) (a .mv .now))))
 
 pub grow-spec : {M : Type 1} → statement M
 grow-spec =
@@ -48,5 +52,6 @@ grow-spec =
     risen-requires
     tallies-next-requires
     last-by-requires
+    number-next-requires
     status-by-requires
     returns)

@@ -11,7 +11,7 @@ use Rattle.board.specs.declared.Board.{Board}
 use Rattle.board.specs.declared.Readings.{Readings}
 use Rattle.board.specs.declared.Stepped.{Stepped}
 use Rattle.board.specs.Sample.{sampleOf}
-use Rattle.board.specs.Way.{lookOf, isRefused, isQuiet, isGrowing, answerOf, spanFound, restedOf, acceptedBy, grownOf}
+use Rattle.board.specs.Way.{lookOf, isRefused, isQuiet, isGrowing, answerOf, spanFound, restedOf, acceptedBy, grownOf, entering}
 use Rattle.board.proofs.Looking.{look-refused, look-quiet, look-grows, look-changes}
 use Rattle.board.proofs.Board as Boards
 use Rattle.board.proofs.Readings as Read
@@ -51,6 +51,10 @@ use Rattle.board.proofs.sample_board.Code as code
 abbrev stepping : (Board → Readings → Span → List ℕ → Stepped) → Form
 stepping f = on-found Answer.the-row Boards.the-row Read.the-row Spans.the-row u32 (λ b x span mv. f b x span mv .answer) (λ b x span mv. f b x span mv .board)
 
+-- with what is entered behind it
+abbrev behind : Board → Readings → Span → List ℕ → Stepped
+behind b x span mv = entering (acceptedBy b x span mv)
+
 pub sample-board-spec : {M : Type 1} → stated.statement M
 unfolding code.routine tablesOf
 sample-board-spec 𝓤 H 𝓜 𝓖 𝓡 =
@@ -65,7 +69,7 @@ sample-board-spec 𝓤 H 𝓜 𝓖 𝓡 =
     (λ h. answers (asks-of newest answerOf #answer-of (cited 𝓤 H _ 𝓜 𝓡 code.env #answer-of _ code.calls-board·answer-of (answer-of′.met 𝓤 H 𝓜 𝓖 𝓡))) (look-refused b x mv h))
     (λ h. lets (known.span 𝓤 H (𝓖 .A) W) (spanFound (lookOf b x mv)) (asks-of newest spanFound #span-found (cited 𝓤 H _ 𝓜 𝓡 code.env #span-found _ code.calls-board·span-found (span-found′.met 𝓤 H 𝓜 𝓖 𝓡)))
     (branch (asks-of (older newest) isQuiet #is-quiet (cited 𝓤 H _ 𝓜 𝓡 code.env #is-quiet _ code.calls-board·is-quiet (is-quiet′.met 𝓤 H 𝓜 𝓖 𝓡)))
-    (λ q. calls-on (stepping acceptedBy .params) all-keys (lends (same (found newest (shows stop)))) (stepping (λ b x span mv. restedOf b x span) .says-of) #rest-board (cited 𝓤 H _ 𝓜 𝓡 code.env #rest-board _ code.calls-board·rest-board (rest-board′.met 𝓤 H 𝓜 𝓖 𝓡)) (refl, (refl, tt)) (λ r ws e. follows e (look-quiet b x mv q)))
+    (λ q. calls-on (stepping behind .params) all-keys (lends (same (found newest (shows stop)))) (stepping (λ b x span mv. restedOf b x span) .says-of) #rest-board (cited 𝓤 H _ 𝓜 𝓡 code.env #rest-board _ code.calls-board·rest-board (rest-board′.met 𝓤 H 𝓜 𝓖 𝓡)) (refl, (refl, tt)) (λ r ws e. follows e (look-quiet b x mv q)))
     (λ q. branch (asks-of (older newest) isGrowing #is-growing (cited 𝓤 H _ 𝓜 𝓡 code.env #is-growing _ code.calls-board·is-growing (is-growing′.met 𝓤 H 𝓜 𝓖 𝓡)))
-    (λ g. calls-on (stepping acceptedBy .params) all-keys (lends (same (found newest (shows stop)))) (stepping grownOf .says-of) #grow-board (cited 𝓤 H _ 𝓜 𝓡 code.env #grow-board _ code.calls-board·grow-board (grow-board′.met 𝓤 H 𝓜 𝓖 𝓡)) (refl, (refl, tt)) (λ r ws e. follows e (look-grows b x mv g)))
-    (λ g. calls-on (stepping acceptedBy .params) all-keys (lends (same (found newest (shows stop)))) (stepping acceptedBy .says-of) #accept-board (cited 𝓤 H _ 𝓜 𝓡 code.env #accept-board _ code.calls-board·accept-board (accept-board′.met 𝓤 H 𝓜 𝓖 𝓡)) (refl, (refl, tt)) (λ r ws e. follows e (look-changes b x mv h q g)))))))))
+    (λ g. calls-on (stepping behind .params) all-keys (lends (same (found newest (shows stop)))) (stepping (λ b x span mv. entering (grownOf b x span mv)) .says-of) #grow-board (cited 𝓤 H _ 𝓜 𝓡 code.env #grow-board _ code.calls-board·grow-board (grow-board′.met 𝓤 H 𝓜 𝓖 𝓡)) (refl, (refl, tt)) (λ r ws e. follows e (look-grows b x mv g)))
+    (λ g. calls-on (stepping behind .params) all-keys (lends (same (found newest (shows stop)))) (stepping behind .says-of) #accept-board (cited 𝓤 H _ 𝓜 𝓡 code.env #accept-board _ code.calls-board·accept-board (accept-board′.met 𝓤 H 𝓜 𝓖 𝓡)) (refl, (refl, tt)) (λ r ws e. follows e (look-changes b x mv h q g)))))))))

@@ -1,8 +1,8 @@
--- `garden::lower_to` meets its contract.
+-- `cells::lower_to` meets its contract.
 -- Assumes nothing.
 use borrow.Author.Needs.{needs}
-use Rattle.garden.proofs.lower_to.Statement.{statement}
-use Rattle.garden.proofs.lower_to.Tie as tie
+use Rattle.cells.proofs.lower_to.Statement.{statement}
+use Rattle.cells.proofs.lower_to.Tie as tie
 
 cast-result : tie.Need-cast-result
 cast-result c = search needs

@@ -10,7 +10,7 @@ use Rattle.lists.specs.Marks.{lowest}
 use Rattle.lists.specs.Each.{each}
 use Rattle.cells.specs.Cells.{cellCount}
 use Rattle.garden.specs.Filter.{reaches, ovCountAt, uvCountAt}
-use Rattle.garden.proofs.Laws.{lowest-none, lowest-down}
+use Rattle.cells.proofs.Sets.{lowest-none, lowest-down}
 use Rattle.garden.proofs.reached_of.Statement.{statement}
 use Rattle.garden.proofs.reached_of.Tie as tie
 
