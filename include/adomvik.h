@@ -4,11 +4,12 @@
  * and changes it where it lies. The library keeps nothing of its own, calls nothing and allocates nothing.
  *
  * Results. Every function returns 0 where the act was accepted, and else the number of the refusal (enum below). A refused
- * act has changed nothing: not the row, not the reply buffer, not the place for the answer.
+ * act has changed nothing: not the row, not the reply buffer or the entry buffer, not the place for the answer. adomvik_list alone
+ * returns something else; call adomvik_listing, which stands in front of it.
  *
  * What the proofs assume of a call, and no function can look at:
  *   - each pointer is not NULL and points to as many elements as its length says (a length may be 0), and they are aligned
- *     and can be read; the row, a record, a reply buffer and the place for an answer can be written too;
+ *     and can be read; the row, a record, a reply buffer, an entry buffer and the place for an answer can be written too;
  *   - what can be written overlaps nothing else that is passed;
  *   - nobody else touches any of it during the call (an interrupt, another thread).
  * Of what the bytes hold nothing is assumed. Every field of a record is a number, so every pattern of bytes is a record, and
@@ -37,7 +38,8 @@ enum {
     ADOMVIK_GARDEN_CELLS_MAX = 5,
     ADOMVIK_TRIGGER_MIN = 1,
     ADOMVIK_TRIGGER_MAX = 255,
-    ADOMVIK_FRAME_BYTES = 4
+    ADOMVIK_FRAME_BYTES = 4,
+    ADOMVIK_JOURNAL_MAX = 128 /* entries of a board's journal */
 };
 
 /* What an act returns; the table's 12 is a program's own and never comes from here. */
@@ -54,7 +56,8 @@ enum {
     ADOMVIK_NO_REGISTER = 9,  /* a board of that kind has no such register, or a write to one that is only read */
     ADOMVIK_BAD_VALUE = 10,   /* a read with a value, or a write of one that the register does not take */
     ADOMVIK_NO_CYCLE = 11,    /* programming staged settings unlike the working ones, three cycles already spent */
-    ADOMVIK_CROSSED = 13      /* programming staged settings whose SCD level is not above their OCD level */
+    ADOMVIK_CROSSED = 13,     /* programming staged settings whose SCD level is not above their OCD level */
+    ADOMVIK_LIST_ROOM = 14    /* the lent entry buffer is too short for the listing */
 };
 
 /* Register 0, the status byte of a sample: the latched faults and the switches. */
@@ -66,6 +69,15 @@ enum {
     ADOMVIK_HOT = 16,
     ADOMVIK_DSG_ON = 64,
     ADOMVIK_CHG_ON = 128
+};
+
+/* Causes of a latching, in the order in which the journal has those of one sample. */
+enum {
+    ADOMVIK_CAUSE_SCD = 0,
+    ADOMVIK_CAUSE_OCD = 1,
+    ADOMVIK_CAUSE_OV = 2,
+    ADOMVIK_CAUSE_UV = 3,
+    ADOMVIK_CAUSE_HOT = 4
 };
 
 /* Kinds of board. The four faults SCD, OCD, OV and UV of a stand-alone board let go by themselves; those of a host board stay
@@ -162,15 +174,26 @@ typedef struct adomvik_tallies {
     uint16_t scd, ocd, ov, uv, hot;
 } adomvik_tallies;
 
+/* The last 128 latchings of a board, in a ring; adomvik_listing gives them in order. What the tallies count is entered, and nothing
+ * else is. Any bytes are a journal: the place of the next entry counts modulo 128, and more than 128 entries are 128. */
+typedef struct adomvik_journal {
+    uint32_t numbers[ADOMVIK_JOURNAL_MAX]; /* of the board's accepted samples */
+    uint8_t whats[ADOMVIK_JOURNAL_MAX];    /* the cause in the upper half, the cell in the lower */
+    uint8_t next;                          /* where the next entry goes */
+    uint8_t len;                           /* how many entries there are */
+} adomvik_journal;
+
 /* One board. Records are made by an opening; copy and keep them as plain bytes. A byte of padding lies between `garden` and
- * `tallies`, and two records that are equal otherwise may differ in it: compare records by their fields.
+ * `tallies`, two bytes lie behind `journal`, and two records that are equal otherwise may differ in them: compare records by their
+ * fields.
  *
- * The record had 104 bytes before there were host boards, 120 before there were garden boards, 124 before there were tallies, and
- * has 132 now. Host boards brought `kind`, in a byte that was padding, and behind all others `last` and `control`; garden boards
- * brought `garden`, and then came `tallies`, each beginning in what was padding. No other field has moved. What was kept is good
- * still: give it zeros as its tallies, from byte 122 on. 124 bytes are a board's of any kind. 120 are a stand-alone or a host
- * board's, and `garden` may be anything, since only a garden board asks for it. 104 are a stand-alone board's: give it kind 0, and
- * anything as `last`, `control` and `garden`. */
+ * The record had 104 bytes before there were host boards, 120 before there were garden boards, 124 before there were tallies, 132
+ * before there was a journal, and has 780 now. Host boards brought `kind`, in a byte that was padding, and behind all others `last`
+ * and `control`; garden boards brought `garden`, and then came `tallies`, each beginning in what was padding; `samples` and `journal`
+ * came behind all of these. No other field has moved. What was kept is good still. 132 bytes are a board's of any kind: give it
+ * zeros behind them, and its journal begins there, with the next sample as number 1. So are 124, but zeros begin at byte 122, as
+ * its tallies. 120 are a stand-alone or a host board's, with the same zeros, and `garden` may be anything, since only a garden board
+ * asks for it. 104 are a stand-alone board's: give it kind 0, the same zeros, and anything as `last`, `control` and `garden`. */
 typedef struct adomvik_board {
     uint8_t count;              /* cells */
     uint8_t latches;            /* the low five bits of register 0 */
@@ -185,6 +208,8 @@ typedef struct adomvik_board {
     uint8_t control;            /* register 1 */
     adomvik_filter garden;      /* of a garden board */
     adomvik_tallies tallies;
+    uint32_t samples;           /* accepted ones since the opening; stops at 4,294,967,295 */
+    adomvik_journal journal;
 } adomvik_board;
 
 /* What a sample reads beside the cells. It is passed by value. */
@@ -210,13 +235,20 @@ typedef struct adomvik_reading {
     uint8_t cell;  /* the lowest flagged cell on it, or 0 */
 } adomvik_reading;
 
+/* An entry of a listing. Causes and cells of a record that came from no opening may be any numbers up to 15. */
+typedef struct adomvik_latching {
+    uint32_t cause;  /* ADOMVIK_CAUSE_.. */
+    uint32_t cell;   /* of OV and UV the lowest at fault: that stood its delay, or reached its trigger; of the others 0 */
+    uint32_t number; /* of the board's accepted sample that latched it, from 1; held at 4,294,967,295 */
+} adomvik_latching;
+
 ADOMVIK_ASSERT(sizeof(adomvik_plan) == 4 && ADOMVIK_ALIGN(adomvik_plan) == 4, "a plan is a number of 4 bytes");
-ADOMVIK_ASSERT(sizeof(adomvik_board) == 132 && ADOMVIK_ALIGN(adomvik_board) == 4, "a board's record is 132 bytes, aligned to 4");
+ADOMVIK_ASSERT(sizeof(adomvik_board) == 780 && ADOMVIK_ALIGN(adomvik_board) == 4, "a board's record is 780 bytes, aligned to 4");
 ADOMVIK_ASSERT(offsetof(adomvik_board, count) == 0 && offsetof(adomvik_board, latches) == 1 && offsetof(adomvik_board, cycles) == 2
         && offsetof(adomvik_board, kind) == 3 && offsetof(adomvik_board, flags) == 4 && offsetof(adomvik_board, working) == 6
         && offsetof(adomvik_board, staged) == 11 && offsetof(adomvik_board, currents) == 16 && offsetof(adomvik_board, cells) == 24
         && offsetof(adomvik_board, last) == 104 && offsetof(adomvik_board, control) == 116 && offsetof(adomvik_board, garden) == 117
-        && offsetof(adomvik_board, tallies) == 122,
+        && offsetof(adomvik_board, tallies) == 122 && offsetof(adomvik_board, samples) == 132 && offsetof(adomvik_board, journal) == 136,
     "a board's fields lie where the library has them");
 ADOMVIK_ASSERT(sizeof(adomvik_settings) == 5 && offsetof(adomvik_settings, r6) == 0 && offsetof(adomvik_settings, r7) == 1
         && offsetof(adomvik_settings, r8) == 2 && offsetof(adomvik_settings, r9) == 3 && offsetof(adomvik_settings, r10) == 4, "settings are 5 bytes");
@@ -229,9 +261,14 @@ ADOMVIK_ASSERT(sizeof(adomvik_filter) == 4 && offsetof(adomvik_filter, row) == 0
 ADOMVIK_ASSERT(sizeof(adomvik_tallies) == 10 && offsetof(adomvik_tallies, scd) == 0 && offsetof(adomvik_tallies, ocd) == 2
         && offsetof(adomvik_tallies, ov) == 4 && offsetof(adomvik_tallies, uv) == 6 && offsetof(adomvik_tallies, hot) == 8,
     "tallies are five numbers of 2 bytes");
+ADOMVIK_ASSERT(sizeof(adomvik_journal) == 644 && ADOMVIK_ALIGN(adomvik_journal) == 4 && offsetof(adomvik_journal, numbers) == 0
+        && offsetof(adomvik_journal, whats) == 512 && offsetof(adomvik_journal, next) == 640 && offsetof(adomvik_journal, len) == 641,
+    "a journal is 644 bytes, aligned to 4");
 ADOMVIK_ASSERT(sizeof(adomvik_readings) == 16 && ADOMVIK_ALIGN(adomvik_readings) == 4, "readings are four numbers of 4 bytes");
 ADOMVIK_ASSERT(sizeof(adomvik_sampled) == 4 && offsetof(adomvik_sampled, bled) == 2, "an answer to a sample is 4 bytes");
 ADOMVIK_ASSERT(sizeof(adomvik_reading) == 5, "a reading is 5 bytes");
+ADOMVIK_ASSERT(sizeof(adomvik_latching) == 12 && ADOMVIK_ALIGN(adomvik_latching) == 4 && offsetof(adomvik_latching, cause) == 0
+        && offsetof(adomvik_latching, cell) == 4 && offsetof(adomvik_latching, number) == 8, "an entry is three numbers of 4 bytes");
 
 /* Opens a stack of stand-alone boards: counts[i] is the cell count of board i + 1, one for each record of the row. Every record
  * of the row is made anew, whatever it held. Refusal 1 also where the two lengths differ. */
@@ -252,6 +289,24 @@ uint8_t adomvik_frame(adomvik_board *row, size_t boards, const uint8_t *frame, s
 
 /* The whole-stack reading. Refusal 1, which no opened row gets. */
 uint8_t adomvik_read(const adomvik_board *row, size_t boards, adomvik_reading *out);
+
+/* What adomvik_listing calls: three numbers for each entry, and of all `many` only those are written. Returns how many entries there
+ * are, or 256 and the number of the refusal. */
+uint32_t adomvik_list(const adomvik_board *row, size_t boards, uint32_t board, uint32_t *words, size_t many);
+
+/* The journal of one board of the row, oldest entry first. So many of the lent entries are put as *count says; later ones stay.
+ * ADOMVIK_JOURNAL_MAX are always enough, and more room changes nothing. Refusals 1, 2, 14; each leaves *count too. */
+static inline uint8_t adomvik_listing(const adomvik_board *row, size_t boards, uint32_t board, adomvik_latching *entries, size_t room, size_t *count)
+{
+    size_t lent = ADOMVIK_JOURNAL_MAX;
+    if (room < lent)
+        lent = room;
+    const uint32_t told = adomvik_list(row, boards, board, (uint32_t *)entries, 3 * lent);
+    if (told >= 256)
+        return (uint8_t)(told - 256);
+    *count = told;
+    return ADOMVIK_OK;
+}
 
 #ifdef __cplusplus
 }

@@ -1,9 +1,11 @@
 // The types of adomvik.mjs.
 
 /** The bytes of a record. */
-export const RECORD_BYTES: 132;
+export const RECORD_BYTES: 780;
 /** The most boards that a stack has. */
 export const BOARDS_MAX: 16;
+/** The most entries of a board's journal: room for so many is always enough for its listing. */
+export const JOURNAL_MAX: 128;
 /** Register 1 of a host board: a write that takes this bit from 1 to 0 clears the faults that are over on the last sample. */
 export const CONTROL_CLEAR: 1;
 /** Register 1 of a host board: DSG may be on. A fault that latches and forbids the switch clears the bit. */
@@ -16,12 +18,22 @@ export const BQ7791500: 0;
 export const BQ7791501: 1;
 /** OV 4275 less 100 mV, UV 2000 and 200 mV. */
 export const BQ7791504: 2;
+/** A cause of a latching: a short circuit in discharge. */
+export const CAUSE_SCD: 0;
+/** Overcurrent in discharge. */
+export const CAUSE_OCD: 1;
+/** Overvoltage of a cell. */
+export const CAUSE_OV: 2;
+/** Undervoltage of a cell. */
+export const CAUSE_UV: 3;
+/** Overtemperature. */
+export const CAUSE_HOT: 4;
 
 /** Why an act was refused, with the paper's number. */
 export class Refusal extends Error {
   constructor(number: number);
   readonly name: "Refusal";
-  /** 1 to 11, or 13; 12 is a program's own. */
+  /** 1 to 11, 13 or 14; 12 is a program's own. */
   readonly number: number;
 }
 
@@ -57,6 +69,16 @@ export interface Reading {
   board: number;
   /** The lowest flagged cell on it, or 0. */
   cell: number;
+}
+
+/** An entry of a listing. Causes and cells of a record that came from no opening may be any numbers up to 15. */
+export interface Latching {
+  /** One of the five causes, CAUSE_SCD to CAUSE_HOT. */
+  cause: number;
+  /** Of OV and UV the lowest cell at fault, that stood its delay or reached its trigger; of the others 0. */
+  cell: number;
+  /** The number of the board's accepted sample that latched it, from 1; held at 4,294,967,295. */
+  number: number;
 }
 
 /** What a board is to be: its kind and its cells. Any numbers make a plan; one that no board can have is refused as it is opened. */
@@ -95,6 +117,13 @@ export class Row {
   frameInto(frame: ArrayLike<number> & Iterable<number>, reply: Uint8Array): void;
   /** The whole-stack reading. */
   read(): Reading;
+  /** The journal of one board, counted from 1: its entries, oldest first. */
+  listing(board: number): Latching[];
+  /**
+   * The journal of one board, counted from 1, oldest entry first: how many entries it has. Cause, cell and sample number of each take
+   * the first of `words`, and later ones stay; room for three times JOURNAL_MAX is always enough.
+   */
+  listingInto(board: number, words: Uint32Array): number;
   /** The bytes of the record at a place, from 0, to be kept. */
   record(place: number): Uint8Array;
   /** Kept bytes back into the record at a place: any bytes are a record. */

@@ -4,9 +4,11 @@
 // table; a refused act has changed nothing. adomvik.d.ts has the types.
 
 /** The bytes of a record. */
-export const RECORD_BYTES = 132;
+export const RECORD_BYTES = 780;
 /** The most boards that a stack has. */
 export const BOARDS_MAX = 16;
+/** The most entries of a board's journal: room for so many is always enough for its listing. */
+export const JOURNAL_MAX = 128;
 
 /** Register 1 of a host board: a write that takes this bit from 1 to 0 clears the faults that are over on the last sample. */
 export const CONTROL_CLEAR = 1;
@@ -22,12 +24,26 @@ export const BQ7791501 = 1;
 /** OV 4275 less 100 mV, UV 2000 and 200 mV. */
 export const BQ7791504 = 2;
 
+/** A cause of a latching: a short circuit in discharge. */
+export const CAUSE_SCD = 0;
+/** Overcurrent in discharge. */
+export const CAUSE_OCD = 1;
+/** Overvoltage of a cell. */
+export const CAUSE_OV = 2;
+/** Undervoltage of a cell. */
+export const CAUSE_UV = 3;
+/** Overtemperature. */
+export const CAUSE_HOT = 4;
+
 const STAND_ALONE = 0;
 const HOST = 1;
 const GARDEN = 2;
 
 const FRAME_BYTES = 4;
-const RECORDS_MAX = 256; // that fit the memory as it starts; the library itself takes 16 at most
+const ENTRY_WORDS = 3; // cause, cell, number
+const LISTING_REFUSED = 256; // and the refusal's number; less is how many entries were listed
+const RECORDS_MAX = 256; // of a row in memory; the library itself takes 16 at most
+const PAGE = 65536;
 const LARGEST = 0xffffffff;
 
 // By the paper's number; 12 is a program's own and never comes from the library.
@@ -44,6 +60,7 @@ const WHY = {
   10: "a read with a value, or a write of one that the register does not take",
   11: "programming staged settings unlike the working ones, three cycles already spent",
   13: "programming staged settings whose SCD level is not above their OCD level",
+  14: "the lent entry buffer is too short for the listing",
 };
 
 /** Why an act was refused, with the paper's number. */
@@ -73,6 +90,12 @@ function checkBytes(bytes) {
   for (const byte of bytes) {
     if (!Number.isInteger(byte) || byte < 0 || byte > 255) throw new RangeError(`${byte} is no byte`);
   }
+}
+
+// Has a memory reach so far: it grows by what is lacking.
+function reach(memory, end) {
+  const lacking = end - memory.buffer.byteLength;
+  if (lacking > 0) memory.grow(Math.ceil(lacking / PAGE));
 }
 
 // A plan as the library takes it; a TypeError where it is none.
@@ -138,11 +161,10 @@ export class Row {
     return new Row(this.#acts, this.#at, boards, this.#behind);
   }
 
-  // A block for a call, so many bytes behind the records. The memory grows by what is lacking.
+  // A block for a call, so many bytes behind the records.
   #place(from, bytes) {
     const at = this.#behind + from;
-    const lacking = at + bytes - this.#memory.buffer.byteLength;
-    if (lacking > 0) this.#memory.grow(Math.ceil(lacking / 65536));
+    reach(this.#memory, at + bytes);
     return at;
   }
 
@@ -217,6 +239,30 @@ export class Row {
     return { line: line === 1, chg: chg === 1, dsg: dsg === 1, board, cell };
   }
 
+  /**
+   * The journal of one board, counted from 1, oldest entry first: how many entries it has. Cause, cell and sample number of each take
+   * the first of `words`, and later ones stay.
+   */
+  listingInto(board, words) {
+    if (!(words instanceof Uint32Array)) throw new TypeError("entries go into a Uint32Array");
+    const many = Math.min(words.length, ENTRY_WORDS * JOURNAL_MAX);
+    const at = this.#words(0, words.subarray(0, many));
+    const told = this.#acts.adomvik_list(this.#at, this.#boards, natural(board), at, many);
+    words.set(new Uint32Array(this.#memory.buffer, at, many));
+    if (told >= LISTING_REFUSED) throw new Refusal(told - LISTING_REFUSED);
+    return told;
+  }
+
+  /** The journal of one board, counted from 1: its entries, oldest first. */
+  listing(board) {
+    const words = new Uint32Array(ENTRY_WORDS * JOURNAL_MAX);
+    const count = this.listingInto(board, words);
+    return Array.from({ length: count }, (_, i) => {
+      const [cause, cell, number] = words.subarray(ENTRY_WORDS * i);
+      return { cause, cell, number };
+    });
+  }
+
   #record(place) {
     if (!Number.isInteger(place) || place < 0 || place >= this.#boards) throw new RangeError(`no record at ${place}`);
     return this.#at + RECORD_BYTES * place;
@@ -262,7 +308,9 @@ export class Adomvik {
     if (!Number.isInteger(boards) || boards < 0 || boards > RECORDS_MAX) throw new RangeError(`no row of ${boards} records`);
     const acts = new WebAssembly.Instance(this.#module, {}).exports;
     const at = (acts.__heap_base.value + 7) & ~7;
-    return new Row(acts, at, boards, at + RECORD_BYTES * boards);
+    const behind = at + RECORD_BYTES * boards;
+    reach(acts.memory, behind);
+    return new Row(acts, at, boards, behind);
   }
 }
 

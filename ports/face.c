@@ -1,7 +1,7 @@
 /* The acts of include/adomvik.h on a processor that rt does not compile for. The proved module has them as rt wrote it for
- * x86-64: lengths of 64 bits, the readings as two words of 64 bits, and a result of 8 bits. This file gives them the header's
- * own signatures by the target's calling convention; clang links the module in and inlines it. Nothing here is proved:
- * tests/ports holds it on every target.
+ * x86-64: lengths of 64 bits, the readings as two words of 64 bits, and a result of 8 bits, a listing's of 32. This file gives
+ * them the header's own signatures by the target's calling convention; clang links the module in and inlines it. Nothing here is
+ * proved: tests/ports holds it on every target.
  */
 #include "adomvik.h"
 
@@ -11,6 +11,7 @@ uint8_t proved_sample(adomvik_board *row, uint64_t boards, uint32_t board, uint6
 uint8_t proved_sample_board(adomvik_board *board, uint64_t first, uint64_t second, const uint32_t *cells, uint64_t count, adomvik_sampled *out);
 uint8_t proved_frame(adomvik_board *row, uint64_t boards, const uint8_t *frame, uint64_t length, uint8_t *reply, uint64_t room);
 uint8_t proved_read(const adomvik_board *row, uint64_t boards, adomvik_reading *out);
+uint32_t proved_list(const adomvik_board *row, uint64_t boards, uint32_t board, uint32_t *words, uint64_t many);
 
 /* Two fields of the readings that lie side by side, the lower one first. */
 static inline uint64_t word(uint32_t low, uint32_t high)
@@ -46,6 +47,11 @@ uint8_t adomvik_frame(adomvik_board *row, size_t boards, const uint8_t *frame, s
 uint8_t adomvik_read(const adomvik_board *row, size_t boards, adomvik_reading *out)
 {
     return proved_read(row, boards, out);
+}
+
+uint32_t adomvik_list(const adomvik_board *row, size_t boards, uint32_t board, uint32_t *words, size_t many)
+{
+    return proved_list(row, boards, board, words, many);
 }
 
 /* ---- what the compiler may call for a copy or a fill, each target's under its own names, so that the archive calls nothing */
@@ -91,6 +97,12 @@ COPIES void __aeabi_memcpy4(void *to, const void *from, size_t bytes)
 }
 
 COPIES void __aeabi_memclr(void *to, size_t bytes)
+{
+    fill(to, 0, bytes);
+}
+
+/* likewise: the journal of a board that is opened */
+COPIES void __aeabi_memclr4(void *to, size_t bytes)
 {
     fill(to, 0, bytes);
 }

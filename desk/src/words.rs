@@ -79,6 +79,7 @@ fn short(refused: Refusal) -> &'static str {
         Refusal::BadValue => "the value is not allowed",
         Refusal::NoCycle => "no programming cycle is left",
         Refusal::LevelsCrossed => "the staged levels are crossed",
+        Refusal::ListRoom => "no room for the listing",
     }
 }
 

@@ -52,6 +52,21 @@
 //! assert_eq!(u16::from_le_bytes([low, high]), 1);
 //! # Ok::<(), adomvik::Refusal>(())
 //! ```
+//!
+//! And every board keeps its last 128 latchings, each with its cause, the lowest cell at fault and the number of the sample:
+//!
+//! ```
+//! use adomvik::{Latching, Readings, Row, CAUSE_SCD, JOURNAL_MAX};
+//!
+//! let mut row = Row::open([5])?;
+//! let quiet = Readings { elapsed: 1_000, shunt: 0, thermistor: 2_000, load: 0 };
+//! row.sample(1, quiet, &[3_600; 5])?;
+//! row.sample(1, Readings { shunt: 60_001, ..quiet }, &[3_600; 5])?;
+//! let mut entries = [Latching::default(); JOURNAL_MAX];
+//! let count = row.listing(1, &mut entries)?;
+//! assert_eq!(entries[..count], [Latching { cause: CAUSE_SCD, cell: 0, number: 2 }]);
+//! # Ok::<(), adomvik::Refusal>(())
+//! ```
 #![no_std]
 #![warn(missing_docs)]
 
@@ -61,9 +76,11 @@ use core::mem::{align_of, size_of};
 /// The most boards that a stack has.
 pub const BOARDS_MAX: usize = 16;
 /// The bytes of a record.
-pub const RECORD_BYTES: usize = 132;
+pub const RECORD_BYTES: usize = 780;
 /// The bytes of a frame and of a reply.
 pub const FRAME_BYTES: usize = 4;
+/// The most entries of a board's journal: room for so many is always enough for its listing.
+pub const JOURNAL_MAX: usize = 128;
 
 /// Register 1 of a host board: a write that takes this bit from 1 to 0 clears the faults that are over on the last sample.
 pub const CONTROL_CLEAR: u8 = 1;
@@ -78,6 +95,17 @@ pub const BQ7791500: u32 = 0;
 pub const BQ7791501: u32 = 1;
 /// OV 4275 less 100 mV, UV 2000 and 200 mV.
 pub const BQ7791504: u32 = 2;
+
+/// A cause of a latching: a short circuit in discharge.
+pub const CAUSE_SCD: u32 = 0;
+/// Overcurrent in discharge.
+pub const CAUSE_OCD: u32 = 1;
+/// Overvoltage of a cell.
+pub const CAUSE_OV: u32 = 2;
+/// Undervoltage of a cell.
+pub const CAUSE_UV: u32 = 3;
+/// Overtemperature.
+pub const CAUSE_HOT: u32 = 4;
 
 /// Why an act was refused, with the paper's number.
 #[derive(Clone, Copy, Debug, PartialEq, Eq)]
@@ -107,6 +135,8 @@ pub enum Refusal {
     NoCycle = 11,
     /// Programming staged settings whose SCD level is not above their OCD level.
     LevelsCrossed = 13,
+    /// The lent entry buffer is too short for the listing.
+    ListRoom = 14,
 }
 
 impl Refusal {
@@ -115,11 +145,19 @@ impl Refusal {
         self as u8
     }
 
-    /// What the library returned: 0 is no refusal. By their contracts its functions return no number but these, 12 never, so the
-    /// last arm is that of 13 alone; a table looked up by the number would put a bounds panic into every image.
+    /// What the library returned: 0 is no refusal.
     fn check(number: u8) -> Result<(), Refusal> {
-        Err(match number {
-            0 => return Ok(()),
+        if number == 0 {
+            Ok(())
+        } else {
+            Err(Refusal::of(number))
+        }
+    }
+
+    /// By their contracts the library's functions return no number but these, 12 never, so the last arm is that of 14 alone; a table
+    /// looked up by the number would put a bounds panic into every image.
+    fn of(number: u8) -> Refusal {
+        match number {
             1 => Refusal::BadRow,
             2 => Refusal::NoBoard,
             3 => Refusal::CellList,
@@ -131,8 +169,9 @@ impl Refusal {
             9 => Refusal::NoRegister,
             10 => Refusal::BadValue,
             11 => Refusal::NoCycle,
-            _ => Refusal::LevelsCrossed,
-        })
+            13 => Refusal::LevelsCrossed,
+            _ => Refusal::ListRoom,
+        }
     }
 }
 
@@ -216,12 +255,25 @@ struct Tallies {
     faults: [u16; 5],
 }
 
+/// The last latchings in a ring: of each the sample's number, and in one byte the cause and the cell.
+#[derive(Clone, Copy)]
+#[repr(C)]
+struct Journal {
+    numbers: [u32; JOURNAL_MAX],
+    whats: [u8; JOURNAL_MAX],
+    next: u8,
+    len: u8,
+}
+
+const _: () = assert!(size_of::<Journal>() == 644 && align_of::<Journal>() == 4);
+
 /// One board's record. It is made by an opening, or from bytes that were kept: every pattern of bytes is a record.
 ///
-/// It had 104 bytes before there were host boards, 120 before there were garden boards, and 124 before there were tallies. What was
-/// kept gets zeros from byte 122 on, as its tallies. 124 bytes are a board's of any kind. 120 are a stand-alone or a host board's,
-/// and those up to the tallies may be anything. 104 are a stand-alone board's likewise, but byte 3, which was padding, has to be 0
-/// now.
+/// It had 104 bytes before there were host boards, 120 before there were garden boards, 124 before there were tallies, and 132
+/// before there was a journal. 132 bytes that were kept are a board's of any kind, and get zeros behind them: its journal begins
+/// there, with the next sample as number 1. So are 124, but zeros begin at byte 122, as its tallies. 120 are a stand-alone or a host
+/// board's, and those up to byte 122 may be anything. 104 are a stand-alone board's likewise, but byte 3, which was padding, has to
+/// be 0 now.
 #[derive(Clone, Copy)]
 #[repr(C)]
 pub struct Board {
@@ -238,6 +290,8 @@ pub struct Board {
     control: u8,
     garden: Filter,
     tallies: Tallies,
+    samples: u32,
+    journal: Journal,
 }
 
 const _: () = assert!(size_of::<Board>() == RECORD_BYTES && align_of::<Board>() == 4);
@@ -306,6 +360,20 @@ pub struct Reading {
     pub flagged: Option<(u8, u8)>,
 }
 
+/// An entry of a listing. Causes and cells of a record that came from no opening may be any numbers up to 15.
+#[derive(Clone, Copy, Debug, Default, PartialEq, Eq)]
+#[repr(C)]
+pub struct Latching {
+    /// One of the five causes, [`CAUSE_SCD`] to [`CAUSE_HOT`].
+    pub cause: u32,
+    /// Of OV and UV the lowest cell at fault, that stood its delay or reached its trigger; of the others 0.
+    pub cell: u32,
+    /// The number of the board's accepted sample that latched it, from 1; held at 4,294,967,295.
+    pub number: u32,
+}
+
+const _: () = assert!(size_of::<Latching>() == 12 && align_of::<Latching>() == 4);
+
 // The header include/adomvik.h in Rust. A slice is passed as a pointer and a length, a record by reference.
 extern "C" {
     fn adomvik_open(row: *mut Board, boards: usize, counts: *const u32, count: usize) -> u8;
@@ -314,7 +382,11 @@ extern "C" {
     fn adomvik_sample_board(board: &mut Board, readings: Readings, cells: *const u32, count: usize, out: &mut Sampled) -> u8;
     fn adomvik_frame(row: *mut Board, boards: usize, frame: *const u8, length: usize, reply: *mut u8, room: usize) -> u8;
     fn adomvik_read(row: *const Board, boards: usize, out: &mut RawReading) -> u8;
+    fn adomvik_list(row: *const Board, boards: usize, board: u32, words: *mut u32, many: usize) -> u32;
 }
+
+/// What `adomvik_list` returns of a refusal is its number and this; less is how many entries were listed.
+const LISTING_REFUSED: u32 = 256;
 
 impl Board {
     const EMPTY: Board = Board {
@@ -331,6 +403,8 @@ impl Board {
         control: 0,
         garden: Filter { row: 0, trigger: 0, ov_back: 0, uv_back: 0 },
         tallies: Tallies { faults: [0; 5] },
+        samples: 0,
+        journal: Journal { numbers: [0; JOURNAL_MAX], whats: [0; JOURNAL_MAX], next: 0, len: 0 },
     };
 
     /// A sample of this record, with no row looked at.
@@ -364,9 +438,16 @@ impl Board {
         bytes[118] = self.garden.trigger;
         bytes[119] = self.garden.ov_back;
         bytes[120] = self.garden.uv_back;
-        for (place, tally) in bytes[122..].chunks_exact_mut(2).zip(self.tallies.faults) {
+        for (place, tally) in bytes[122..132].chunks_exact_mut(2).zip(self.tallies.faults) {
             place.copy_from_slice(&tally.to_le_bytes());
         }
+        bytes[132..136].copy_from_slice(&self.samples.to_le_bytes());
+        for (place, number) in bytes[136..648].chunks_exact_mut(4).zip(self.journal.numbers) {
+            place.copy_from_slice(&number.to_le_bytes());
+        }
+        bytes[648..776].copy_from_slice(&self.journal.whats);
+        bytes[776] = self.journal.next;
+        bytes[777] = self.journal.len;
         bytes
     }
 
@@ -376,6 +457,12 @@ impl Board {
         let word = |at: usize| u32::from_le_bytes([bytes[at], bytes[at + 1], bytes[at + 2], bytes[at + 3]]);
         let run = |at: usize| Run { one: word(at), other: word(at + 4) };
         let five = |at: usize| [bytes[at], bytes[at + 1], bytes[at + 2], bytes[at + 3], bytes[at + 4]];
+        let journal = Journal {
+            numbers: core::array::from_fn(|i| word(136 + 4 * i)),
+            whats: core::array::from_fn(|i| bytes[648 + i]),
+            next: bytes[776],
+            len: bytes[777],
+        };
         Board {
             count: bytes[0],
             latches: bytes[1],
@@ -390,6 +477,8 @@ impl Board {
             control: bytes[116],
             garden: Filter { row: bytes[117], trigger: bytes[118], ov_back: bytes[119], uv_back: bytes[120] },
             tallies: Tallies { faults: core::array::from_fn(|i| half(122 + 2 * i)) },
+            samples: word(132),
+            journal,
         }
     }
 }
@@ -429,6 +518,19 @@ pub fn read(row: &[Board]) -> Result<Reading, Refusal> {
     Ok(Reading { line: out.line == 1, chg: out.chg == 1, dsg: out.dsg == 1, flagged })
 }
 
+/// The journal of board `board` of a lent row, counted from 1, oldest entry first: how many entries it has. They take the first of
+/// the lent ones; later ones stay, and at a refusal all of them. [`JOURNAL_MAX`] are always enough.
+pub fn listing(row: &[Board], board: u32, entries: &mut [Latching]) -> Result<usize, Refusal> {
+    let room = entries.len().min(JOURNAL_MAX);
+    // SAFETY: a shared slice with its length, and an exclusive one as three numbers for each of its first entries.
+    let told = unsafe { adomvik_list(row.as_ptr(), row.len(), board, entries.as_mut_ptr().cast(), 3 * room) };
+    if told < LISTING_REFUSED {
+        Ok(told as usize)
+    } else {
+        Err(Refusal::of((told - LISTING_REFUSED) as u8))
+    }
+}
+
 /// A stack of `N` boards that owns its records.
 #[derive(Clone)]
 pub struct Row<const N: usize> {
@@ -465,6 +567,12 @@ impl<const N: usize> Row<N> {
     /// The whole-stack reading.
     pub fn read(&self) -> Result<Reading, Refusal> {
         read(&self.boards)
+    }
+
+    /// The journal of board `board`, counted from 1, oldest entry first: how many entries it has. They take the first of the lent
+    /// ones, and later ones stay; [`JOURNAL_MAX`] are always enough.
+    pub fn listing(&self, board: u32, entries: &mut [Latching]) -> Result<usize, Refusal> {
+        listing(&self.boards, board, entries)
     }
 
     /// The records, southernmost first.
