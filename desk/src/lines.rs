@@ -40,6 +40,8 @@ pub enum Line<'a> {
     Frame { bytes: &'a [u8], room: usize },
     /// `R`: the whole-stack reading.
     Reading,
+    /// `L`: the journal of one board, and how many entries are lent for it.
+    Listing { board: u32, room: usize },
 }
 
 /// Why a line is malformed, and how many of its bytes were read before that showed.
@@ -99,6 +101,10 @@ fn asked<'a>(fields: &mut Fields, lent: &'a mut Lent) -> Result<Line<'a>, What> 
         b'S' => fields.sample(&mut lent.numbers),
         b'F' => Ok(Line::Frame { room: fields.room()?, bytes: fields.list(&mut lent.bytes, Fields::byte)? }),
         b'R' => fields.nothing_more(Line::Reading),
+        b'L' => {
+            let (board, room) = (fields.number()?, fields.number()? as usize);
+            fields.nothing_more(Line::Listing { board, room })
+        }
         _ => Err(What::NoLetter),
     }
 }

@@ -22,6 +22,15 @@ pub fn answer(text: &mut Text, answer: &Answer) {
             }
         }
         Answer::Read(told) => reading(text, told),
+        Answer::Listed(entries) => {
+            words(text, "ls");
+            field(text, entries.len() as u32);
+            for entry in *entries {
+                field(text, entry.cause);
+                field(text, entry.cell);
+                field(text, entry.number);
+            }
+        }
     }
 }
 

@@ -12,7 +12,7 @@ const MALFORMED: u8 = 12;
 pub enum Reader {
     /// Another program: the page's answers to the letter.
     Program,
-    /// A person at the desk: each refusal in words behind its number, and a word on `help`.
+    /// A person at the desk: each refusal in words behind its number, each listing in words, and a word on `help`.
     Person,
 }
 
@@ -59,7 +59,12 @@ impl Answers {
                 }
             }
             Ok(asked) => match self.desk.act(&asked) {
-                Ok(answer) => print::answer(text, &answer),
+                Ok(answer) => {
+                    print::answer(text, &answer);
+                    if told {
+                        words::answer(text, &answer);
+                    }
+                }
                 Err(refused) => {
                     print::refusal(text, refused.number());
                     if told {

@@ -1,8 +1,10 @@
-//! Words for a person at the desk: what stands behind a refusal's number. Nothing here decides anything.
-use crate::acts::Desk;
+//! Words for a person at the desk: what stands behind a refusal's number, and behind the numbers of a listing. Nothing here decides
+//! anything.
+use crate::acts::{Answer, Desk};
 use crate::lines::{Flaw, Kind, Line, Wanted, What, LARGEST, LONGEST_LINE};
 use crate::print::{self, Text};
-use adomvik::{Readings, Refusal, BOARDS_MAX, FRAME_BYTES};
+use adomvik::{Latching, Readings, Refusal, BOARDS_MAX, FRAME_BYTES};
+use adomvik::{CAUSE_HOT, CAUSE_OCD, CAUSE_OV, CAUSE_SCD, CAUSE_UV};
 
 pub const PROMPT: &str = "workshop> ";
 pub const GREETING: &str = "The workshop. O 5 opens a board of five cells; help shows the lines; Ctrl-D ends.\n";
@@ -49,6 +51,32 @@ fn byte_at(line: &[u8], at: usize) -> String {
     }
 }
 
+/// What an answer's numbers say: those of a listing, entry by entry.
+pub fn answer(text: &mut Text, answer: &Answer) {
+    match answer {
+        Answer::Listed([]) => said(text, "nothing has latched since the opening"),
+        Answer::Listed(entries) => said(text, &entries.iter().map(latching).collect::<Vec<_>>().join("; ")),
+        _ => {}
+    }
+}
+
+fn latching(entry: &Latching) -> String {
+    let Latching { cause, cell, number } = entry;
+    let name = match *cause {
+        CAUSE_SCD => "SCD",
+        CAUSE_OCD => "OCD",
+        CAUSE_OV => "OV",
+        CAUSE_UV => "UV",
+        CAUSE_HOT => "overtemperature",
+        _ => "no cause",
+    };
+    if *cell == 0 {
+        format!("{name} at sample {number}")
+    } else {
+        format!("{name}, cell {cell}, at sample {number}")
+    }
+}
+
 /// Why the library refused what a line asked.
 pub fn refusal(text: &mut Text, refused: Refusal, line: &Line, desk: &Desk) {
     said(text, short(refused));
@@ -57,6 +85,7 @@ pub fn refusal(text: &mut Text, refused: Refusal, line: &Line, desk: &Desk) {
         (Refusal::BadRow, _) => Some("none is open, and O 5 opens one".to_string()),
         (_, Line::Sample { board, readings, cells }) => sample(refused, *board, readings, cells, desk),
         (_, Line::Frame { bytes, room }) => frame(refused, bytes, *room, desk),
+        (_, Line::Listing { board, room }) => listing(refused, *board, *room, desk),
         _ => None,
     };
     if let Some(particulars) = particulars {
@@ -170,6 +199,14 @@ fn of_register(refused: Refusal, frame: [u8; FRAME_BYTES], desk: &Desk) -> Optio
             let (over, short) = desk.staged_levels(board)?;
             Some(format!("SCD at {short} mV is not above OCD at {over} mV on board {board}"))
         }
+        _ => None,
+    }
+}
+
+fn listing(refused: Refusal, board: u32, room: usize, desk: &Desk) -> Option<String> {
+    match refused {
+        Refusal::NoBoard => Some(no_board(board, desk)),
+        Refusal::ListRoom => Some(format!("it takes room for {}, room for {room} is lent", desk.latchings(board)?)),
         _ => None,
     }
 }
