@@ -1,6 +1,7 @@
 /* A firmware main loop over a stack of two boards, on a simulated board: it reads samples, drives two switch pins and answers
- * the host's frames. What stands under "the simulated board" is what a real one has as hardware; what it says goes to a console
- * (desk/console.c, or cortex-m4/console.c on bare metal). firmware.rs is the same in Rust.
+ * the host's frames, and at the end shows what latched on each board. What stands under "the simulated board" is what a real one
+ * has as hardware; what it says goes to a console (desk/console.c, or cortex-m4/console.c on bare metal). firmware.rs is the same
+ * in Rust.
  */
 #include <stdbool.h>
 
@@ -105,6 +106,40 @@ static void answer_host(void)
     say("\n");
 }
 
+static const char *name(uint32_t cause)
+{
+    switch (cause) {
+    case ADOMVIK_CAUSE_SCD: return "SCD";
+    case ADOMVIK_CAUSE_OCD: return "OCD";
+    case ADOMVIK_CAUSE_OV: return "OV";
+    case ADOMVIK_CAUSE_UV: return "UV";
+    default: return "overtemperature";
+    }
+}
+
+/* The journal of a board, oldest latching first. */
+static void show_journal(uint32_t board)
+{
+    static adomvik_latching entries[ADOMVIK_JOURNAL_MAX];
+    size_t count = 0;
+    if (adomvik_listing(stack, BOARDS, board, entries, ADOMVIK_JOURNAL_MAX, &count) != ADOMVIK_OK)
+        return;
+    for (size_t i = 0; i < count; i++) {
+        say("board ");
+        say_number(board);
+        say(": ");
+        say(name(entries[i].cause));
+        if (entries[i].cell > 0) {
+            say(", cell ");
+            say_number(entries[i].cell);
+            say(",");
+        }
+        say(" at sample ");
+        say_number(entries[i].number);
+        say("\n");
+    }
+}
+
 int main(void)
 {
     if (adomvik_open(stack, BOARDS, cell_counts, BOARDS) != ADOMVIK_OK)
@@ -118,5 +153,7 @@ int main(void)
             drive_pins(pack.chg, pack.dsg);
         answer_host();
     }
+    for (uint32_t board = 1; board <= BOARDS; board++)
+        show_journal(board);
     return 0;
 }

@@ -1,6 +1,7 @@
 //! A firmware main loop over a stack of two boards, on a simulated board: it reads samples, drives two switch pins and answers
-//! the host's frames. What stands in `sim` is what a real board has as hardware. firmware.c is the same in C.
-use adomvik::{Reading, Readings, Refusal, Row};
+//! the host's frames, and at the end shows what latched on each board. What stands in `sim` is what a real board has as hardware.
+//! firmware.c is the same in C.
+use adomvik::{Latching, Reading, Readings, Refusal, Row, CAUSE_OCD, CAUSE_OV, CAUSE_SCD, CAUSE_UV, JOURNAL_MAX};
 
 const CELLS: [u32; 2] = [5, 6];
 const TICKS: u32 = 16;
@@ -63,6 +64,27 @@ fn sample_all(stack: &mut Row<2>, tick: u32) -> Result<Reading, Refusal> {
     stack.read()
 }
 
+fn name(cause: u32) -> &'static str {
+    match cause {
+        CAUSE_SCD => "SCD",
+        CAUSE_OCD => "OCD",
+        CAUSE_OV => "OV",
+        CAUSE_UV => "UV",
+        _ => "overtemperature",
+    }
+}
+
+/// The journal of a board, oldest latching first.
+fn show_journal(stack: &Row<2>, board: u32) -> Result<(), Refusal> {
+    let mut entries = [Latching::default(); JOURNAL_MAX];
+    let count = stack.listing(board, &mut entries)?;
+    for Latching { cause, cell, number } in &entries[..count] {
+        let at = if *cell > 0 { format!(", cell {cell},") } else { String::new() };
+        println!("board {board}: {}{at} at sample {number}", name(*cause));
+    }
+    Ok(())
+}
+
 fn main() -> Result<(), Refusal> {
     let mut stack = Row::open(CELLS)?;
     let mut pins = sim::Pins::new();
@@ -76,6 +98,9 @@ fn main() -> Result<(), Refusal> {
             Some(Err(why)) => println!("tick {tick}: frame refused, {}", why.number()),
             None => (),
         }
+    }
+    for (board, _) in (1..).zip(&CELLS) {
+        show_journal(&stack, board)?;
     }
     Ok(())
 }
