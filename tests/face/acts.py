@@ -2,20 +2,21 @@
 
 Acts on opened rows are the workshop's sessions of tests/differential, answered
 by the reference from each board's history; the record model must agree. Acts
-on garbage are answered by the record model alone.
+on garbage, and on records that are set, are answered by the record model alone.
 """
 
 import random
 import struct
 
 from desk_sessions import DeskMaker
-from record import LAYOUT, RECORDS, Rows
+from record import BLANK, JOURNAL, LAYOUT, MOST_SAMPLES, RECORDS, Record, Rows
 from reference import (DEVICES, GARDEN, HOST, Plan, Refusal, STAND_ALONE, Sample, Settings, Stack, TALLIES, crc8, split_lines,
                        stand_alone)
 from sessions import make_session
 from workshop import Workshop
 
 LONGEST_LIST = 100      # that the drivers are told
+LARGEST_ROOM = JOURNAL + 2      # of a listing's buffer, in entries
 ELAPSED = 1, 1000, 100_000      # of samples on garbage, mostly
 BESIDE_TALLIES = 15, 21, 23, 29     # registers that no board has
 
@@ -58,12 +59,22 @@ class Script:
         """A reading of the row."""
         self.put("R", [boards], self.rows.reading(boards))
 
+    def listing(self, boards, number, room):
+        """A listing of the row, with a buffer of so many entries."""
+        self.put("L", [boards, number, room], self.rows.listing(boards, number, room))
+
+    def room_about(self, number):
+        """Room for the listing of a board, one short of it, one over, or any."""
+        held = len(self.rows.records[max(0, min(number, RECORDS) - 1)].listing())
+        return self.rng.choice((held, held, max(0, held - 1), max(0, held - 1), held + 1, 0, LARGEST_ROOM,
+                                self.rng.randint(0, LARGEST_ROOM)))
+
     def check_bytes(self, tries):
         """The check byte over every pair of register and byte: no difference, and no record moved."""
         self.put("K", [tries], self.rows.line(0, []))
 
     def latchings(self, count):
-        """A tally after each of so many latchings: no difference, and no record moved."""
+        """A tally and the journal after each of so many latchings: no difference, and no record moved."""
         self.put("T", [count], self.rows.line(0, []))
 
     def overwrite(self, place, data):
@@ -113,6 +124,24 @@ def frame_told(told, data, room):
     return " ".join([number] + ([reply.hex()] if room else []))
 
 
+def listing_told(told, number, room):
+    """The number, the count and the buffer's words, by the reference."""
+    result, count, words = 0, BLANK, [BLANK] * (3 * room)
+    try:
+        entries = told.stack.listing(number, room)
+        count = len(entries)
+        words[:3 * count] = [n for entry in entries for n in entry]
+    except Refusal as refusal:
+        result = refusal.number
+    return " ".join(str(n) for n in [result, count] + words)
+
+
+def listed(script, told, boards, number, room):
+    """A listing of an opened row."""
+    script.listing(boards, number, room)
+    agree(listing_told(told, number, room), script)
+
+
 def opened(script, told, plans, by_counts):
     """An opening by plans, or by the counts of plans that are all of stand-alone boards; was it good?"""
     if by_counts:
@@ -135,7 +164,12 @@ def session(script, seed):
         if act is Workshop.opening:
             if len(fields[0]) <= RECORDS and opened(script, told, fields[0], line.startswith(b"O")):
                 boards = len(fields[0])
-        elif told.stack is None or (fields and len(fields[0]) > LONGEST_LIST):
+        elif told.stack is None:
+            continue
+        elif line.startswith(b"L"):
+            number, room = (int(word) for word in line.split()[1:])
+            listed(script, told, boards, number, min(room, LARGEST_ROOM))
+        elif fields and len(fields[0]) > LONGEST_LIST:
             continue
         elif act is Workshop.sample:
             number, elapsed, load, thermistor, shunt = fields[0][:5]
@@ -146,6 +180,8 @@ def session(script, seed):
             else:
                 script.sample(boards, number, (elapsed, shunt, thermistor, load, cells))
             agree(told.act(lambda: told.stack.sample(number, sample), ["165", "42405"]), script)
+            if script.rng.random() < 0.1:
+                listed(script, told, boards, number, script.room_about(number))
         elif act is Workshop.frame:
             # the driver's own rooms: the session's are at times larger than its memory
             room = script.rng.choice((4, 4, 4, 5, 8, 3, 0))
@@ -195,6 +231,15 @@ def tallies_garbage(rng):
     return struct.pack("<5H", *rng.choices((0, 255, 65_279, 65_533, 65_534, 65_535, rng.randrange(65_536)), k=5))
 
 
+def journal_garbage(rng):
+    """The bytes of a sample number at its top or short of it, and of a journal with any entries, place and length."""
+    samples = rng.choice((0, 1, MOST_SAMPLES - 2, MOST_SAMPLES - 1, MOST_SAMPLES, rng.randrange(2**32)))
+    following = rng.choice((0, 1, JOURNAL - 2, JOURNAL - 1, JOURNAL, 2 * JOURNAL - 1, rng.randrange(256)))
+    length = rng.choice((0, 1, 2, JOURNAL - 2, JOURNAL - 1, JOURNAL, JOURNAL + 1, 2 * JOURNAL - 1, rng.randrange(256)))
+    numbers_and_whats = rng.randbytes(5 * JOURNAL)
+    return struct.pack("<I640sBB", samples, numbers_and_whats, following, length)
+
+
 def garbage(rng):
     """The bytes of a record that came from no opening; most of them of a good kind and cell count."""
     data = bytearray(rng.randbytes(LAYOUT.size))
@@ -219,6 +264,7 @@ def garbage(rng):
     if data[3] == GARDEN:
         garden_garbage(rng, data)
     data[122:132] = tallies_garbage(rng)
+    data[132:778] = journal_garbage(rng)
     return bytes(data)
 
 
@@ -277,7 +323,8 @@ def plan_of(rng, count):
 
 
 def wreck(script, acts):
-    """Garbage in every record, then acts on rows of any length, with more garbage now and then; last the tallies of one board."""
+    """Garbage in every record, then acts on rows of any length, with more garbage now and then; last the tallies of one board and
+    its journal."""
     rng, rows = script.rng, script.rows
     for place in range(RECORDS):
         script.overwrite(place, garbage(rng))
@@ -293,8 +340,11 @@ def wreck(script, acts):
         elif kind < 0.6:
             number = rng.choice((1, 1, boards, rng.randint(0, 18), 2**32 - 1))
             script.sample(boards, number, fields(rng, rows.records[max(0, min(number, boards, 16) - 1)]))
-        elif kind < 0.9:
+        elif kind < 0.85:
             script.frame(boards, frame_bytes(rng, boards), rng.choice((4, 4, 4, 4, 4, 9, 3, 0)))
+        elif kind < 0.91:
+            number = rng.choice((1, 1, boards, rng.randint(0, 18), 2**32 - 1))
+            script.listing(boards, number, script.room_about(number))
         elif kind < 0.97:
             script.reading(boards)
         else:
@@ -307,3 +357,54 @@ def wreck(script, acts):
                 script.opening_plans(lent, [plan_of(rng, count) for count in counts])
     for register in TALLIES:
         script.frame(1, [2, register, 0, crc8((2, register, 0))], 4)
+    script.listing(1, 1, JOURNAL)
+
+
+# ------------------------------------------------------------- journals
+
+def about(rng, record, elapsed):
+    """Runs or counts that one sample more brings short of the delay or the trigger, to it, or one past it."""
+    if record.kind == GARDEN:
+        return [rng.choice((0, record.trigger - 2, record.trigger - 1)) for _ in record.runs]
+    s = Settings(record.working)
+    delays = [s.ocd_delay, s.scd_delay] + [s.ov_delay, s.uv_delay] * 10
+    return [max(0, delay + rng.choice((0, 1, 1, 2)) - elapsed) for delay in delays]
+
+
+def together(script, samples):
+    """Records that several faults may latch on at the next sample. Most cells read past a level, and some of these fall short of
+    their delay or trigger by a step. Each sample is followed by a listing."""
+    rng = script.rng
+    plans = [Plan(STAND_ALONE, 10), Plan(HOST, 7), Plan(GARDEN, 5, 1, 3)]
+    script.opening_plans(len(plans), plans)
+    for _ in range(samples):
+        place, elapsed = rng.randrange(len(plans)), rng.choice(ELAPSED)
+        record = Record(script.rows.records[place].whole())
+        record.working, record.latches = list(rng.randbytes(5)), 0
+        record.runs = about(rng, record, elapsed)
+        script.overwrite(place, record.whole())
+        past = rng.choice(((5000,), (0,), (5000, 0), (5000, 0, 3600)))
+        cells = [rng.choice(past) for _ in range(record.count)]
+        script.sample(len(plans), place + 1, (elapsed, rng.choice((0, 500_000)), rng.choice((2000, 974)), 0, cells))
+        script.listing(len(plans), place + 1, script.room_about(place + 1))
+
+
+def brim(script):
+    """A board of each kind whose record is set short of the number's top, with no latch; then a cell that latches UV there and past
+    it, each time listed."""
+    plans = [Plan(STAND_ALONE, 5), Plan(HOST, 10), Plan(GARDEN, 3, 0, 1)]
+    script.opening_plans(len(plans), plans)
+    for place, plan in enumerate(plans):
+        for short in (2, 1, 0):
+            record = Record(script.rows.records[place].whole())
+            record.samples, record.latches = MOST_SAMPLES - short, 0
+            script.overwrite(place, record.whole())
+            for low in (1000, 3600, 1000):
+                script.sample(len(plans), place + 1, (1000, 0, 2000, 0, [3600, low] + [3600] * (plan.cells - 2)))
+                script.listing(len(plans), place + 1, JOURNAL)
+
+
+def journals(script, samples):
+    """Acts on records that are set: to latch at the next sample, and to the top of the sample number."""
+    together(script, samples)
+    brim(script)

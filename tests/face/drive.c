@@ -7,19 +7,23 @@
  *     B place elapsed shunt thermistor load cells..      a sample of the record at a place, from 0
  *     F boards room bytes..                              a frame, with a reply buffer of so many bytes
  *     R boards                                           a reading
- *     W place bytes..                                    132 bytes over the record at a place, and no act
+ *     L boards board room                                a listing, with a buffer of so many entries
+ *     W place bytes..                                    780 bytes over the record at a place, and no act
  *     K tries                                            the check byte of every frame of 2^17, that many bytes tried (here alone)
- *     T latchings                                        a tally after each of so many latchings (here alone)
+ *     T latchings                                        a tally and the journal after each of so many latchings (here alone)
  *
- * An answer: the act's number, what stands in the place for the answer or in the reply buffer, and a checksum of all records.
+ * An answer: the act's number, what stands in the place for the answer or in the buffer, and a checksum of all records.
  * Before an act these places hold PATTERN, so that what a refusal wrote would show. Every list is lent in a block of just its
  * size. Nothing of a C library is used, nor a division, so that the same driver runs on the smallest board (platform.h).
  */
 #include "adomvik.h"
 #include "platform.h"
 
-enum { RECORDS = 18, NUMBERS = 160, LINE = 640, BUFFER = 1024, PATTERN = 0xa5 };
-enum { PADDING = offsetof(adomvik_board, garden) + sizeof(adomvik_filter) }; /* the one byte of it in a record */
+enum { RECORDS = 18, NUMBERS = 784, LINE = 3200, BUFFER = 1024, PATTERN = 0xa5 };
+
+/* A record's padding: one byte in front of the tallies, and what lies behind the journal. */
+enum { PADDING = offsetof(adomvik_board, garden) + sizeof(adomvik_filter) };
+enum { RECORD_END = offsetof(adomvik_board, journal) + offsetof(adomvik_journal, len) + 1 };
 
 static adomvik_board *row;
 static uint32_t number[NUMBERS]; /* one below 0 as its two's complement */
@@ -41,7 +45,7 @@ static void put_char(char c)
 
 static void put_number(uint32_t n)
 {
-    static const uint32_t places[] = {10000, 1000, 100, 10, 1};
+    static const uint32_t places[] = {1000000000, 100000000, 10000000, 1000000, 100000, 10000, 1000, 100, 10, 1};
     int begun = 0;
     for (size_t i = 0; i < sizeof places / sizeof *places; i++) {
         char digit = '0';
@@ -145,18 +149,22 @@ static adomvik_readings readings(size_t from)
 
 /* ---- answers */
 
-/* CRC-32 of the records, as zlib has it, but for the padding in each. */
+/* CRC-32 of the records, as zlib has it, but for the padding in each; by half bytes. */
 static uint32_t checksum(void)
 {
+    static const uint32_t halves[16] = {
+        0x00000000, 0x1db71064, 0x3b6e20c8, 0x26d930ac, 0x76dc4190, 0x6b6b51f4, 0x4db26158, 0x5005713c,
+        0xedb88320, 0xf00f9344, 0xd6d6a3e8, 0xcb61b38c, 0x9b64c2b0, 0x86d3d2d4, 0xa00ae278, 0xbdbdf21c,
+    };
     const unsigned char *p = (const unsigned char *)row;
     uint32_t crc = 0xffffffff;
     for (size_t n = 0; n < RECORDS; n++, p += sizeof *row)
-        for (size_t i = 0; i < sizeof *row; i++) {
+        for (size_t i = 0; i < RECORD_END; i++) {
             if (i == PADDING)
                 continue;
             crc ^= p[i];
-            for (int k = 0; k < 8; k++)
-                crc = crc >> 1 ^ (crc & 1 ? 0xedb88320 : 0);
+            crc = crc >> 4 ^ halves[crc & 15];
+            crc = crc >> 4 ^ halves[crc & 15];
         }
     return ~crc;
 }
@@ -246,6 +254,42 @@ static void reading(void)
     release(out);
 }
 
+/* Whether a listing by words does as the one by entries did, with so many words more than the entries have; those stay too. */
+static int same_by_words(uint8_t result, size_t count, const adomvik_latching *entries, size_t room, size_t more)
+{
+    uint32_t *list = blank((3 * room + more) * sizeof *list), *word = list;
+    const uint32_t untouched = PATTERN * 0x01010101u;
+    int same = adomvik_list(row, number[0], number[1], list, 3 * room + more) == (result ? 256u + result : count);
+    for (size_t i = 0; i < room; i++, word += 3)
+        same &= word[0] == entries[i].cause && word[1] == entries[i].cell && word[2] == entries[i].number;
+    for (; more > 0; more--)
+        same &= *word++ == untouched;
+    release(list);
+    return same;
+}
+
+/* The number is 255 where the entry by words differs. */
+static void listing(void)
+{
+    const size_t room = number[2];
+    adomvik_latching *entries = blank(room * sizeof *entries);
+    size_t *count = blank(sizeof *count);
+    const uint8_t result = adomvik_listing(row, number[0], number[1], entries, room, count);
+    int same = 1;
+    for (size_t more = 0; more < 3; more++)
+        same &= same_by_words(result, *count, entries, room, more);
+    put_number(same ? result : 255);
+    put_next((uint32_t)*count);
+    for (size_t i = 0; i < room; i++) {
+        put_next(entries[i].cause);
+        put_next(entries[i].cell);
+        put_next(entries[i].number);
+    }
+    answer_end();
+    release(count);
+    release(entries);
+}
+
 static void overwrite(void)
 {
     for (size_t i = 0; i < sizeof *row; i++)
@@ -295,9 +339,11 @@ static void check_bytes(void)
     answer_end();
 }
 
-/* ---- where a tally stops */
+/* ---- where a tally stops, and what a journal keeps */
 
 enum { TALLIES = 5, TALLY_LOW = 16, TALLY_HIGH = 24, TALLY_MOST = 65535 };
+
+static const uint32_t SAMPLES_MOST = 0xffffffff;
 
 /* Whether a register of the board reads so. */
 static int reads(adomvik_board *board, uint32_t reg, uint32_t value)
@@ -321,18 +367,41 @@ static int leaves(adomvik_board *board, int32_t shunt, uint8_t latches)
     return adomvik_sample_board(board, x, cells, 5, &out) == 0 && board->latches == latches;
 }
 
+/* Whether the journal has the last 128 of so many latchings of SCD, at every other sample from the first on, but the last few at
+ * another number.
+ */
+static int journal_is(const adomvik_board *board, uint32_t latchings, uint32_t few, uint32_t at)
+{
+    const uint32_t held = latchings < ADOMVIK_JOURNAL_MAX ? latchings : ADOMVIK_JOURNAL_MAX;
+    adomvik_latching *entries = blank(ADOMVIK_JOURNAL_MAX * sizeof *entries);
+    size_t count = 0;
+    int good = adomvik_listing(board, 1, 1, entries, held, &count) == 0 && count == held;
+    for (uint32_t i = 0; i < held; i++) {
+        const uint32_t wanted = i + few < held ? 2 * (latchings - held + i) + 1 : at;
+        good &= entries[i].cause == 0 && entries[i].cell == 0 && entries[i].number == wanted;
+    }
+    release(entries);
+    return good;
+}
+
 /* A short circuit that comes and goes: after n latchings the tally of SCD, which is the first, is n, or 65,535 from there on, and
- * no other has moved. Answers 0 where that holds throughout. The board is one of its own.
+ * no other has moved; the journal has the last 128 of them, with the number of each sample. Then the record is set one sample short
+ * of the number's top, which later latchings are entered at. Answers 0 where that holds throughout. The board is one of its own.
  */
 static void latch_often(void)
 {
     adomvik_board board;
     const uint32_t cells = 5;
-    int wrong = adomvik_open(&board, 1, &cells, 1);
+    int wrong = adomvik_open(&board, 1, &cells, 1) || !journal_is(&board, 0, 0, 0);
     for (uint32_t n = 1; n <= number[0]; n++)
-        wrong |= !leaves(&board, 60001, ADOMVIK_SCD) || !tally_is(&board, 0, n < TALLY_MOST ? n : TALLY_MOST) || !leaves(&board, 0, 0);
+        wrong |= !leaves(&board, 60001, ADOMVIK_SCD) || !tally_is(&board, 0, n < TALLY_MOST ? n : TALLY_MOST)
+              || !journal_is(&board, n, 0, 0) || !leaves(&board, 0, 0);
     for (uint32_t fault = 1; fault < TALLIES; fault++)
         wrong |= !tally_is(&board, fault, 0);
+    board.samples = SAMPLES_MOST - 1;
+    for (uint32_t few = 1; few <= 3; few++)
+        wrong |= !leaves(&board, 60001, ADOMVIK_SCD) || !journal_is(&board, number[0] + few, few, SAMPLES_MOST)
+              || !leaves(&board, 0, 0);
     put_number((uint32_t)wrong);
     answer_end();
 }
@@ -351,6 +420,7 @@ int main(void)
         case 'B': sample_one(); break;
         case 'F': frame(); break;
         case 'R': reading(); break;
+        case 'L': listing(); break;
         case 'W': overwrite(); break;
         case 'K': check_bytes(); break;
         case 'T': latch_often(); break;

@@ -7,7 +7,10 @@ const folder = process.argv[2];
 const { load, Plan, Refusal } = await import(pathToFileURL(`${folder}/adomvik.mjs`));
 const RECORDS = 18;
 const PATTERN = 0xa5;
-const PADDING = 121; // the one byte of it in a record
+const BLANK = 0xa5a5a5a5; // a number in a place that nothing was put into, as drive.c has it
+// A record's padding: one byte in front of the tallies, and two at its end.
+const PADDING = 121;
+const RECORD_END = 778;
 
 const row = (await load(readFileSync(`${folder}/adomvik.wasm`))).row(RECORDS);
 
@@ -31,7 +34,10 @@ const TABLE = Uint32Array.from({ length: 256 }, (_, crc) => {
 function checksum() {
   let crc = 0xffffffff;
   for (let place = 0; place < RECORDS; place++) {
-    row.record(place).forEach((byte, at) => { if (at !== PADDING) crc = crc >>> 8 ^ TABLE[(crc ^ byte) & 255]; });
+    const bytes = row.record(place);
+    for (let at = 0; at < RECORD_END; at++) {
+      if (at !== PADDING) crc = crc >>> 8 ^ TABLE[(crc ^ bytes[at]) & 255];
+    }
   }
   return (~crc >>> 0).toString(16).padStart(8, "0");
 }
@@ -48,6 +54,13 @@ const readings = ([elapsed, shunt, thermistor, load]) => ({ elapsed, shunt, ther
 const sampled = ({ status, bled }) => [status, bled];
 const NOT_SAMPLED = [PATTERN, PATTERN << 8 | PATTERN];
 
+// The buffer is the face's own here, so what lies behind the listing is what drive.c has there.
+function listed(boards, board, room) {
+  const entries = row.first(boards).listing(board, room);
+  const words = entries.flatMap(({ cause, cell, number }) => [cause, cell, number]);
+  return [entries.length, ...words, ...Array(3 * room - words.length).fill(BLANK)];
+}
+
 const acts = {
   O: ([boards, ...counts]) => told(() => { row.first(boards).open(counts); return []; }, []),
   P: ([boards, ...fours]) => told(() => { row.first(boards).openPlans(plans(fours)); return []; }, []),
@@ -62,6 +75,7 @@ const acts = {
     const { line, chg, dsg, board, cell } = row.first(boards).read();
     return [+line, +chg, +dsg, board, cell];
   }, Array(5).fill(PATTERN)),
+  L: ([boards, board, room]) => told(() => listed(boards, board, room), Array(1 + 3 * room).fill(BLANK)),
 };
 
 const answers = [];

@@ -1,22 +1,39 @@
 //! The Rust face under test: reads and writes what drive.c does.
-use adomvik::{Board, Plan, Readings, Refusal, RECORD_BYTES};
+use adomvik::{Board, Latching, Plan, Readings, Refusal, RECORD_BYTES};
 use std::io::{self, BufRead, BufWriter, Write};
 
 const RECORDS: usize = 18;
 const PATTERN: u8 = 0xa5;
-/// The one byte of padding in a record.
+/// A number in a place that nothing was put into, as drive.c has it.
+const BLANK: u32 = u32::from_le_bytes([PATTERN; 4]);
+/// A record's padding: one byte in front of the tallies, and two at its end.
 const PADDING: usize = 121;
+const RECORD_END: usize = RECORD_BYTES - 2;
+
+/// What each byte comes to in CRC-32.
+const TABLE: [u32; 256] = {
+    let mut table = [0; 256];
+    let mut byte = 0;
+    while byte < 256 {
+        let mut crc = byte as u32;
+        let mut bit = 0;
+        while bit < 8 {
+            crc = if crc & 1 == 1 { crc >> 1 ^ 0xedb8_8320 } else { crc >> 1 };
+            bit += 1;
+        }
+        table[byte] = crc;
+        byte += 1;
+    }
+    table
+};
 
 /// CRC-32 of the records, as zlib has it, but for the padding in each.
 fn checksum(row: &[Board]) -> u32 {
     let mut crc = u32::MAX;
     for board in row {
         let bytes = board.to_bytes();
-        for byte in bytes[..PADDING].iter().chain(&bytes[PADDING + 1..]) {
-            crc ^= u32::from(*byte);
-            for _ in 0..8 {
-                crc = if crc & 1 == 1 { crc >> 1 ^ 0xedb8_8320 } else { crc >> 1 };
-            }
+        for byte in bytes[..PADDING].iter().chain(&bytes[PADDING + 1..RECORD_END]) {
+            crc = crc >> 8 ^ TABLE[usize::from(crc as u8 ^ byte)];
         }
     }
     !crc
@@ -69,6 +86,15 @@ fn told_reading(result: Result<adomvik::Reading, Refusal>) -> String {
     }
 }
 
+/// A listing of a row with a buffer of so many entries: the number, how many were put there, and all its words.
+fn told_listing(row: &[Board], board: u32, room: usize) -> String {
+    let mut entries = vec![Latching { cause: BLANK, cell: BLANK, number: BLANK }; room];
+    let result = adomvik::listing(row, board, &mut entries);
+    let count = result.map_or(BLANK, |count| count as u32);
+    let words: String = entries.iter().map(|e| format!(" {} {} {}", e.cause, e.cell, e.number)).collect();
+    format!("{} {count}{words}", number(&result))
+}
+
 fn act(row: &mut [Board], letter: u8, x: &[i64]) -> Option<String> {
     Some(match letter {
         b'O' => number(&adomvik::open(&mut row[..x[0] as usize], &words(&x[1..]))).to_string(),
@@ -83,6 +109,7 @@ fn act(row: &mut [Board], letter: u8, x: &[i64]) -> Option<String> {
             format!("{}{space}{text}", number(&result))
         }
         b'R' => told_reading(adomvik::read(&row[..x[0] as usize])),
+        b'L' => told_listing(&row[..x[0] as usize], x[1] as u32, x[2] as usize),
         b'W' => {
             let record: [u8; RECORD_BYTES] = bytes(&x[1..]).try_into().expect("a record's bytes");
             row[x[0] as usize] = Board::from_bytes(&record);

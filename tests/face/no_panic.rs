@@ -2,7 +2,7 @@
 //! if no panic can be reached.
 #![no_std]
 #![no_main]
-use adomvik::{Board, Plan, Readings, Row, RECORD_BYTES};
+use adomvik::{Board, Latching, Plan, Readings, Row, RECORD_BYTES};
 use core::hint::black_box;
 
 extern "C" {
@@ -25,6 +25,8 @@ pub extern "C" fn _start() -> ! {
         let _ = black_box(row.sample(black_box(1), readings, black_box(&[3_900; 5])));
         let _ = black_box(row.frame(black_box(&[2, 0, 0, 214])));
         let _ = black_box(row.read().map_err(|why| why.number()));
+        let mut entries = [Latching { cause: 0, cell: 0, number: 0 }; 3];
+        let _ = black_box(row.listing(black_box(1), black_box(&mut entries)));
         let _ = black_box(row.boards()[0].to_bytes());
     }
     let plans = [Plan::stand_alone(black_box(5)), Plan::host(black_box(6)), Plan::garden(black_box(3), black_box(0), black_box(1))];

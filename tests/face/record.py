@@ -2,8 +2,8 @@
 
 The reference computes everything from a board's history, and a record that
 came from no opening has none. This model takes any record: its levels, check
-byte and status are the reference's, its runs, counts and tallies are the kept
-numbers.
+byte and status are the reference's, its runs, counts, tallies and journal are
+the kept numbers.
 """
 
 import struct
@@ -13,13 +13,16 @@ from reference import (CHG_MAY, CLEARED_BY_HAND, CONTROL, CYCLES, DEVICES, DSG_M
                        LATCH_CLEAR, MOST_CYCLES, MOST_TALLIED, Plan, Refusal, STATUS_BIT, STOPS_CHG, STOPS_DSG, Sample, Settings,
                        TALLIES, bled, check_register, chg_on, crc8, dsg_on, inside, openable, past, status, value_allowed)
 
-LAYOUT = struct.Struct("<BBBBH5s5s22IIIiB4Bx5H")
-BARE = struct.Struct(LAYOUT.format.replace("x", ""))    # without the byte of padding
+LAYOUT = struct.Struct("<BBBBH5s5s22IIIiB4Bx5HI128I128sBBxx")
+BARE = struct.Struct(LAYOUT.format.replace("x", ""))    # without the three bytes of padding
 NO_SAMPLE = (0, 2**32 - 1, 2**31 - 1)       # lowest cell, highest cell and shunt before any sample: no fault is over on it
 RECORDS = 18                                # that the drivers have
 RUN_CAP = 10_000_000
 COUNT_CAP = 255
+MOST_SAMPLES = 2**32 - 1                    # where a board's sample number is held
+JOURNAL = 128                               # entries that a board keeps
 PATTERN = 0xA5                              # what a place holds before an act
+BLANK = int.from_bytes([PATTERN] * 4, "little")     # a number there
 
 
 def run_next(run, holds, elapsed):
@@ -47,7 +50,10 @@ class Record:
         self.working, self.staged, self.runs, self.last = list(working), list(staged), rest[:22], tuple(rest[22:25])
         self.control, self.row, self.trigger = rest[25:28]
         self.back = dict(zip(("OV", "UV"), rest[28:30]))
-        self.tallies = dict(zip(STATUS_BIT, rest[30:]))
+        self.tallies = dict(zip(STATUS_BIT, rest[30:35]))
+        self.samples, self.numbers = rest[35], rest[36:36 + JOURNAL]
+        whats, self.next, self.len = rest[36 + JOURNAL:]
+        self.whats = bytearray(whats)
 
     @classmethod
     def fresh(cls, plan):
@@ -58,10 +64,19 @@ class Record:
         record.latch({"OV"} if plan.kind == GARDEN else ())
         return record
 
+    def fields(self):
+        """The fields in the record's order."""
+        return (self.count, self.latches, self.cycles, self.kind, self.flags, bytes(self.working), bytes(self.staged),
+                *self.runs, *self.last, self.control, self.row, self.trigger, *self.back.values(), *self.tallies.values(),
+                self.samples, *self.numbers, bytes(self.whats), self.next, self.len)
+
     def bare(self):
         """The bytes without the padding."""
-        return BARE.pack(self.count, self.latches, self.cycles, self.kind, self.flags, bytes(self.working), bytes(self.staged),
-                         *self.runs, *self.last, self.control, self.row, self.trigger, *self.back.values(), *self.tallies.values())
+        return BARE.pack(*self.fields())
+
+    def whole(self):
+        """The bytes, with zeros as the padding."""
+        return LAYOUT.pack(*self.fields())
 
     def bad(self):
         """A record that no board can have."""
@@ -100,32 +115,50 @@ class Record:
         if max(cells) > 5000 or thermistor > 5000 or not -500000 <= shunt <= 500000 or load > 1:
             raise Refusal(5)
         self.last = (min(cells), max(cells), shunt)
+        self.samples = min(MOST_SAMPLES, self.samples + 1)
         before = self.latched()
         if self.kind == GARDEN:
-            told = self.filtered(Sample(elapsed, load, thermistor, shunt, cells))
+            at_fault = self.filtered(Sample(elapsed, load, thermistor, shunt, cells))
         else:
-            told = self.stepped(elapsed, shunt, thermistor, load, cells)
-        for fault in self.latched() - before:
-            self.tallies[fault] = min(MOST_TALLIED, self.tallies[fault] + 1)
-        return told
+            at_fault = self.stepped(elapsed, shunt, thermistor, load, cells)
+        for fault in STATUS_BIT:
+            if fault in self.latched() - before:
+                self.tallies[fault] = min(MOST_TALLIED, self.tallies[fault] + 1)
+                self.enter(fault, min(at_fault[fault]) + 1 if fault in at_fault else 0)
+        return self.status(), 0 if self.kind == GARDEN else bled(self.flagged(), self.count)
+
+    def enter(self, fault, cell):
+        """One more latching in the journal."""
+        place = self.next % JOURNAL
+        self.numbers[place], self.whats[place] = self.samples, 16 * STATUS_BIT[fault] + cell
+        self.next, self.len = (place + 1) % JOURNAL, min(JOURNAL, self.len + 1)
+
+    def listing(self):
+        """The entries, oldest first: cause, cell, sample number."""
+        held = min(JOURNAL, self.len)
+        places = [(self.next - held + i) % JOURNAL for i in range(held)]
+        return [(self.whats[at] // 16, self.whats[at] % 16, self.numbers[at]) for at in places]
 
     def filtered(self, sample):
-        """A sample of a garden board: OV and UV, each by whether it was latched before."""
-        before, after = self.latched(), set()
+        """A sample of a garden board, OV and UV each by whether it was latched before; the cells whose count came to the trigger."""
+        before, after, reached = self.latched(), set(), {}
         for fault in self.back:
-            latched = self.recover if fault in before else self.count_cells
-            if latched(fault, sample):
+            if fault in before:
+                latched = self.recover(fault, sample)
+            else:
+                latched = reached[fault] = self.count_cells(fault, sample)
+            if latched:
                 after.add(fault)
         self.latch(after)
-        return self.status(), 0
+        return reached
 
     def count_cells(self, fault, sample):
-        """The counts of a fault that is not latched; does it latch?"""
+        """The counts of a fault that is not latched; the cells that latch it."""
         self.back[fault] = 0
         counts = [count_next(self.runs[at], past(fault, mv, DEVICES[self.row])) for at, mv in zip(self.places(fault), sample.cells)]
-        latches = any(count >= self.trigger for count in counts)
-        self.put_counts(fault, [0] * len(counts) if latches else counts)
-        return latches
+        reached = {i for i, count in enumerate(counts) if count >= self.trigger}
+        self.put_counts(fault, [0] * len(counts) if reached else counts)
+        return reached
 
     def recover(self, fault, sample):
         """The recovery count of a fault that is latched; does it stay so?"""
@@ -146,19 +179,20 @@ class Record:
             self.runs[at] = count
 
     def stepped(self, elapsed, shunt, thermistor, load, cells):
-        """A sample of a board with settings: runs, latches and flags."""
+        """A sample of a board with settings: runs, latches and flags; the cells whose runs have stood their delays."""
         s = Settings(self.working)
-        over, under = set(), False
+        over, under = set(), set()
         for i, mv in enumerate(cells):
             self.runs[2 + 2 * i] = run_next(self.runs[2 + 2 * i], mv > s.ov_level, elapsed)
             self.runs[3 + 2 * i] = run_next(self.runs[3 + 2 * i], mv < s.uv_level, elapsed)
             if stood(self.runs[2 + 2 * i], s.ov_delay):
                 over.add(i)
-            under = under or stood(self.runs[3 + 2 * i], s.uv_delay)
+            if stood(self.runs[3 + 2 * i], s.uv_delay):
+                under.add(i)
         self.runs[0] = run_next(self.runs[0], shunt > s.ocd_level, elapsed)
         self.runs[1] = run_next(self.runs[1], shunt > s.scd_level, elapsed)
         hot = thermistor < HOT_BELOW_MV
-        stands = {"OV": bool(over), "UV": under, "OCD": stood(self.runs[0], s.ocd_delay), "SCD": stood(self.runs[1], s.scd_delay),
+        stands = {"OV": bool(over), "UV": bool(under), "OCD": stood(self.runs[0], s.ocd_delay), "SCD": stood(self.runs[1], s.scd_delay),
                   "OT": hot}
         goes = {"OV": max(cells) < s.ov_release, "UV": min(cells) > s.uv_release, "OCD": load == 0 and shunt <= s.ocd_level,
                 "SCD": load == 0 and shunt <= s.scd_level, "OT": not hot}
@@ -171,7 +205,7 @@ class Record:
         self.flags = sum(1 << i for i in flagged)
         if self.kind == HOST and after - before:
             self.forbid(after - before)
-        return self.status(), bled(flagged, self.count)
+        return {"OV": over, "UV": under}
 
     def latch(self, faults):
         """The latches byte anew."""
@@ -298,6 +332,19 @@ class Rows:
         except Refusal as refusal:
             number = refusal.number
         return self.line(number, [reply.hex()] if room else [])
+
+    def listing(self, boards, number, room):
+        """A listing of the row, with a buffer of so many entries: how many were put there, and all its words."""
+        words, count, result = [BLANK] * (3 * room), BLANK, 0
+        try:
+            entries = self.records[self.board(self.checked(boards), number)].listing()
+            if len(entries) > room:
+                raise Refusal(14)
+            count = len(entries)
+            words[:3 * count] = [number for entry in entries for number in entry]
+        except Refusal as refusal:
+            result = refusal.number
+        return self.line(result, [str(n) for n in [count] + words])
 
     def reading(self, boards):
         """The whole-stack reading of the row."""
