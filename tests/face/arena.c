@@ -4,7 +4,7 @@
 
 #include "platform.h"
 
-enum { ARENA = 4096, ALIGN = 8 };
+enum { ARENA = 20480, ALIGN = 8 }; /* 18 records, and a listing's buffer by entries and by words */
 
 static _Alignas(ALIGN) unsigned char arena[ARENA];
 static size_t used;

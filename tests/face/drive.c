@@ -14,7 +14,7 @@
  *
  * An answer: the act's number, what stands in the place for the answer or in the buffer, and a checksum of all records.
  * Before an act these places hold PATTERN, so that what a refusal wrote would show. Every list is lent in a block of just its
- * size. Nothing of a C library is used, nor a division, so that the same driver runs on the smallest board (platform.h).
+ * size. Nothing of a C library is used, nor a division, so that the same driver runs on the smallest processor (platform.h).
  */
 #include "adomvik.h"
 #include "platform.h"

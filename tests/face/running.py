@@ -8,6 +8,9 @@ from collections import Counter
 
 ROOT = os.path.dirname(os.path.dirname(os.path.dirname(os.path.abspath(__file__))))
 NAME = os.path.basename(sys.argv[0])
+# a Cortex-M with more RAM than the 16 KB of examples/cortex-m4, for the linker, and the emulated Cortex-M0 that has it
+LARGER_RAM = ["-Wl,--defsym=ram_bytes=0x10000"]
+MICROBIT = ["-M", "microbit", "-global", "nrf51-soc.sram-size=0x10000"]
 
 
 def fail(why):
