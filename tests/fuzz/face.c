@@ -1,10 +1,11 @@
-/* The C face under a fuzzer: garbage records, counts, plans, lengths, frames and buffers for the six entries of include/adomvik.h.
+/* The C face under a fuzzer: garbage records, counts, plans, lengths, frames and buffers for the entries of include/adomvik.h.
  *
  * An input is a row of records, made by an opening or of its own bytes, and then one act after another on it. Each act is made
  * twice, on memory that lies elsewhere, and must come to the same. What is lent lies in a block of just its size, so that the
  * sanitizer sees a byte too far. No rule of the paper stands here but what the header says of every act: which numbers an
  * entry may return, which rows are refused, that a refused act has changed nothing, that a sample and a frame change one
- * record, which of its fields, and the ranges of what they answer.
+ * record, which of its fields, and the ranges of what they answer; of a journal, what is entered where, and what a listing of any
+ * record gives.
  */
 #include <stdlib.h>
 #include <string.h>
@@ -15,6 +16,9 @@ enum { RECORDS = 18, LONGEST = 40, PATTERN = 0xa5, RUN_MOST = 10000000, COUNT_MO
 
 /* The registers of the tallies: low bytes, then high bytes. */
 enum { TALLIES = 5, TALLY_LOW = 16, TALLY_HIGH = 24 };
+
+/* A byte of the journal has the cause in its upper half, a fault by the place of its bit, and the cell in its lower. */
+enum { JOURNAL = ADOMVIK_JOURNAL_MAX, HALF = 16, CAUSE_OV = 2, CAUSE_UV = 3 };
 
 /* What register 1 and a clear are about: the faults that a host board keeps, and those that forbid a switch. */
 enum { KEPT = ADOMVIK_SCD | ADOMVIK_OCD | ADOMVIK_OV | ADOMVIK_UV, FAULTS = KEPT | ADOMVIK_HOT, CONTROL_MOST = 7 };
@@ -95,15 +99,22 @@ static int same(const adomvik_board *a, const adomvik_board *b)
     return memcmp(a, b, sizeof *a) == 0;
 }
 
-static int same_tallies(const adomvik_board *a, const adomvik_board *b)
+static int same_journal(const adomvik_journal *a, const adomvik_journal *b)
 {
-    return memcmp(&a->tallies, &b->tallies, sizeof a->tallies) == 0;
+    return memcmp(a->numbers, b->numbers, sizeof a->numbers) == 0 && memcmp(a->whats, b->whats, sizeof a->whats) == 0
+        && a->next == b->next && a->len == b->len;
 }
 
-/* All but the padding in front of the tallies. */
+/* What a board keeps of its past: tallies, the number of samples and the journal, without the padding behind it. */
+static int same_past(const adomvik_board *a, const adomvik_board *b)
+{
+    return memcmp(&a->tallies, &b->tallies, sizeof a->tallies) == 0 && a->samples == b->samples && same_journal(&a->journal, &b->journal);
+}
+
+/* All but the padding, which lies in front of the tallies and at the end. */
 static int alike(const adomvik_board *a, const adomvik_board *b)
 {
-    return memcmp(a, b, offsetof(adomvik_board, garden) + sizeof a->garden) == 0 && same_tallies(a, b);
+    return memcmp(a, b, offsetof(adomvik_board, garden) + sizeof a->garden) == 0 && same_past(a, b);
 }
 
 /* A record that a board can have: of a kind, with its cells, and on a garden board with a row and a trigger. */
@@ -207,7 +218,7 @@ static void sampled_fault(int latched, uint8_t back, uint8_t trigger, uint32_t c
     HOLDS(latched ? back < trigger && count == 0 : back == 0 && count < trigger);
 }
 
-/* A garden board: two latches and their tallies, its counts, the last sample, and nothing else. */
+/* A garden board: two latches and what is kept of them, its counts, the last sample, and nothing else. */
 static void sampled_garden(const adomvik_board *now, const adomvik_board *was, const adomvik_sampled *told)
 {
     const int ov = (now->latches & ADOMVIK_OV) != 0, uv = (now->latches & ADOMVIK_UV) != 0;
@@ -217,6 +228,8 @@ static void sampled_garden(const adomvik_board *now, const adomvik_board *was, c
     kept.garden.ov_back = now->garden.ov_back;
     kept.garden.uv_back = now->garden.uv_back;
     kept.tallies = now->tallies;
+    kept.samples = now->samples;
+    kept.journal = now->journal;
     memcpy(kept.cells, now->cells, now->count * sizeof *now->cells);
     HOLDS(alike(&kept, now));
     HOLDS(told->bled == 0 && told->status == (ov ? ADOMVIK_OV : ADOMVIK_CHG_ON) + (uv ? ADOMVIK_UV : ADOMVIK_DSG_ON));
@@ -243,6 +256,47 @@ static void sampled_tallies(const adomvik_board *now, const adomvik_board *was)
     HOLDS(now->tallies.hot == tallied(was->tallies.hot, latching & ADOMVIK_HOT));
 }
 
+/* A run, or a garden board's count, of the cell at a place. */
+static uint32_t run_of(const adomvik_board *board, unsigned cell, unsigned cause)
+{
+    return cause == CAUSE_OV ? board->cells[cell].ov : board->cells[cell].uv;
+}
+
+/* The cell of an entry: none but for OV and UV. All cells have one delay, so no lower one has a run as long; counts went back to
+ * zero, but one that was over the trigger before would have reached it, up or down. */
+static void entered_cell(const adomvik_board *now, const adomvik_board *was, unsigned cause, unsigned cell)
+{
+    if (cause != CAUSE_OV && cause != CAUSE_UV) {
+        HOLDS(cell == 0);
+        return;
+    }
+    HOLDS(cell >= 1 && cell <= now->count);
+    const uint32_t run = run_of(now, cell - 1, cause), count = run_of(was, cell - 1, cause), trigger = now->garden.trigger;
+    HOLDS(now->kind == ADOMVIK_GARDEN ? count >= trigger - 1 : run > 0);
+    HOLDS(now->kind == ADOMVIK_GARDEN || cause == CAUSE_UV || now->flags >> (cell - 1) & 1);
+    for (unsigned i = 0; i + 1 < cell; i++)
+        HOLDS(now->kind == ADOMVIK_GARDEN ? run_of(was, i, cause) <= trigger : run_of(now, i, cause) < run);
+}
+
+/* An entry for each fault that latches, in the order of their bits, at the number of this sample; no other place has moved. */
+static void sampled_journal(const adomvik_board *now, const adomvik_board *was)
+{
+    const unsigned latching = now->latches & ~was->latches;
+    adomvik_journal kept = was->journal;
+    HOLDS(now->samples == was->samples + (was->samples < UINT32_MAX));
+    for (unsigned cause = 0; cause < TALLIES; cause++) {
+        if (!(latching >> cause & 1))
+            continue;
+        const unsigned place = kept.next % JOURNAL, cell = now->journal.whats[place] % HALF;
+        entered_cell(now, was, cause, cell);
+        kept.numbers[place] = now->samples;
+        kept.whats[place] = (uint8_t)(HALF * cause + cell);
+        kept.next = (uint8_t)((place + 1) % JOURNAL);
+        kept.len = (uint8_t)(kept.len < JOURNAL ? kept.len + 1 : JOURNAL);
+    }
+    HOLDS(same_journal(&now->journal, &kept));
+}
+
 /* What an accepted sample leaves of a record. */
 static void sampled(const adomvik_board *now, const adomvik_board *was, const adomvik_sampled *told, int32_t shunt, const uint32_t *cells)
 {
@@ -251,6 +305,7 @@ static void sampled(const adomvik_board *now, const adomvik_board *was, const ad
     HOLDS(now->latches == (told->status & 31) && (told->status & 32) == 0);
     kept_last(&now->last, shunt, cells, now->count);
     sampled_tallies(now, was);
+    sampled_journal(now, was);
     if (now->kind == ADOMVIK_GARDEN)
         sampled_garden(now, was, told);
     else
@@ -359,7 +414,7 @@ static adomvik_readings readings(void)
     x.shunt = (int32_t)number();
     if (byte() & 1)
         x.shunt = (int32_t)(0 - (uint32_t)x.shunt);
-    x.thermistor = byte() % 8 ? 900 + byte() : number();
+    x.thermistor = byte() % 8 ? 900u + byte() : number();
     x.load = byte() % 8 ? byte() & 1 : number();
     return x;
 }
@@ -447,12 +502,12 @@ static int tally_byte(const adomvik_tallies *tallies, uint8_t reg)
     return reg >= TALLY_LOW && reg < TALLY_LOW + TALLIES ? all[reg - TALLY_LOW] % 256 : -1;
 }
 
-/* What an accepted frame leaves of a record: tallies, latches and register 1 but for a write to that register, and all of a garden
- * board. */
+/* What an accepted frame leaves of a record: tallies and journal, latches and register 1 but for a write to that register, and all
+ * of a garden board. */
 static void framed(const adomvik_board *now, const adomvik_board *was, const uint8_t *frame, const uint8_t *reply)
 {
     const int tally = tally_byte(&was->tallies, frame[1]);
-    HOLDS(same_tallies(now, was));
+    HOLDS(same_past(now, was));
     if (tally >= 0 || was->kind == ADOMVIK_GARDEN) {
         HOLDS(alike(now, was) && frame[0] % 2 == 0 && (tally >= 0 ? reply[2] == tally : frame[1] == 0));
         return;
@@ -518,6 +573,60 @@ static void reading(void)
     free(told);
 }
 
+/* The entry so many places behind the oldest of a journal whose place counts by its remainder. */
+static adomvik_latching entry(const adomvik_journal *journal, size_t held, size_t at)
+{
+    const size_t place = (journal->next + JOURNAL - held + at) % JOURNAL;
+    const adomvik_latching found = {journal->whats[place] / HALF, journal->whats[place] % HALF, journal->numbers[place]};
+    return found;
+}
+
+static size_t held_by(const adomvik_board *board)
+{
+    return board->journal.len < JOURNAL ? board->journal.len : JOURNAL;
+}
+
+/* What a listing with that room has to return. */
+static uint32_t listed(uint32_t board, size_t room)
+{
+    if (!good_row())
+        return 256 + ADOMVIK_BAD_ROW;
+    if (board < 1 || board > boards)
+        return 256 + ADOMVIK_NO_BOARD;
+    const size_t held = held_by(&before[board - 1]);
+    return room < held ? 256 + ADOMVIK_LIST_ROOM : (uint32_t)held;
+}
+
+/* The same by entries, in a block of its own. */
+static void listing_by_entries(uint32_t board, size_t room, uint32_t wanted, const uint32_t *words)
+{
+    adomvik_latching *entries = blank(room * sizeof *entries);
+    size_t count = LONGEST;
+    const uint8_t result = adomvik_listing(row, boards, board, entries, room, &count);
+    HOLDS(result == (wanted < 256 ? 0 : wanted - 256) && count == (wanted < 256 ? wanted : LONGEST));
+    HOLDS(memcmp(entries, words, room * sizeof *entries) == 0);
+    free(entries);
+}
+
+static void listing(void)
+{
+    const uint32_t board = byte() % 8 ? byte() % 17 : number();
+    const uint8_t how = byte();
+    const size_t held = board >= 1 && board <= boards ? held_by(&row[board - 1]) : 0;
+    /* all of it but one, all of it, one or two more than that, or any */
+    const size_t room = how % 8 < 4 ? held + how % 4 - (held > 0) : byte() % (JOURNAL + LONGEST), many = 3 * room + how / 8 % 3;
+    uint32_t *words = blank(many * sizeof *words);
+    const uint32_t wanted = listed(board, room), result = adomvik_list(row, boards, board, words, many);
+    const size_t count = result < 256 ? result : 0;
+    HOLDS(result == wanted && row_stays() && is_blank(words + 3 * count, (many - 3 * count) * sizeof *words));
+    for (size_t i = 0; i < count; i++) {
+        const adomvik_latching of = entry(&before[board - 1].journal, held, i);
+        HOLDS(words[3 * i] == of.cause && words[3 * i + 1] == of.cell && words[3 * i + 2] == of.number);
+    }
+    listing_by_entries(board, room, wanted, words);
+    free(words);
+}
+
 /* The kind and the cells of a board that there can be, and its row and trigger. */
 static void make_good(adomvik_board *board, uint8_t how)
 {
@@ -531,6 +640,20 @@ static void make_good(adomvik_board *board, uint8_t how)
     }
 }
 
+/* A journal of any place and length. Its entries are more than an input should spend its bytes on: they go on from one number. */
+static void overwrite_journal(adomvik_board *board)
+{
+    uint32_t n = word();
+    for (size_t i = 0; i < JOURNAL; i++, n = 1664525 * n + 1013904223) {
+        board->journal.numbers[i] = n;
+        board->journal.whats[i] = (uint8_t)(n >> 24);
+    }
+    board->journal.next = byte();
+    board->journal.len = byte();
+    if (byte() % 2) /* a number at its top, or three short of it at most */
+        board->samples |= ~(uint32_t)3;
+}
+
 /* Garbage over a record, mostly one that a row may have. */
 static void overwrite(void)
 {
@@ -538,8 +661,9 @@ static void overwrite(void)
         return;
     adomvik_board *place = &row[byte() % boards];
     const uint8_t how = byte();
-    for (size_t i = 0; i < sizeof *place; i++)
+    for (size_t i = 0; i < offsetof(adomvik_board, journal); i++)
         ((uint8_t *)place)[i] = byte();
+    overwrite_journal(place);
     if (byte() % 8)
         make_good(place, how);
     if (byte() % 2) /* tallies that have stopped, or are three short of it at most */
@@ -560,7 +684,7 @@ static void make_row(void)
 
 int LLVMFuzzerTestOneInput(const uint8_t *data, size_t size)
 {
-    static void (*const acts[])(void) = {sample_row, frame, sample_row, frame, reading, sample_one, open_row, overwrite, open_plans, frame};
+    static void (*const acts[])(void) = {sample_row, frame, sample_row, frame, reading, sample_one, open_row, overwrite, open_plans, listing};
     at = data;
     end = data + size;
     make_row();
