@@ -89,6 +89,19 @@ static void same_reading(void)
         fail("a reading is answered otherwise by the peer");
 }
 
+/* With room for the listing, for more, or for less, in words. */
+static void same_listing(void)
+{
+    const uint32_t number = random_below(20) ? 1 + random_below(boards) : random_below(boards + 2);
+    const size_t many = random_below(4) ? LIST_WORDS : random_below(LIST_WORDS);
+    uint32_t one[LIST_WORDS], other[LIST_WORDS];
+    memset(one, 0xa5, sizeof one);
+    memset(other, 0xa5, sizeof other);
+    const uint32_t a = adomvik_list(ours, boards, number, one, many), b = peer_list(theirs, boards, number, other, many);
+    if (a != b || memcmp(one, other, sizeof one) != 0)
+        fail("a listing is answered otherwise by the peer");
+}
+
 /* Mostly one from the lowest up, now and then one that no board can have. */
 static uint32_t usually(uint32_t lowest, uint32_t count)
 {
@@ -104,10 +117,11 @@ static adomvik_plan plan_with(uint32_t cells)
     }
 }
 
-/* Tallies that a few latchings take to their stop. */
+/* Tallies that a few latchings take to their stop, and a number of samples close to its top. */
 static void near_the_stop(void)
 {
     for (size_t i = 0; i < boards; i++) {
+        ours[i].samples = theirs[i].samples = UINT32_MAX - random_below(40);
         const uint16_t near = (uint16_t)(UINT16_MAX - random_below(4));
         ours[i].tallies = (adomvik_tallies){near, near, near, near, near};
         for (int k = 0; k < 5; k++)
@@ -146,8 +160,10 @@ static void same_answers(void)
             same_sample();
         else if (kind < 9)
             same_frame();
-        else
+        else if (random_below(2))
             same_reading();
+        else
+            same_listing();
     }
 }
 

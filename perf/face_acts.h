@@ -7,7 +7,7 @@
 #include "adomvik.h"
 #include "face_peer.h"
 
-enum { BOARDS = 16, CELLS = 10, GARDEN_CELLS = 5, KINDS = 8 };
+enum { BOARDS = 16, CELLS = 10, GARDEN_CELLS = 5, KINDS = 8, LIST_WORDS = 3 * ADOMVIK_JOURNAL_MAX };
 
 typedef void act(int i);
 
@@ -61,36 +61,43 @@ static void theirs_one(int i) { sum += peer_sample_board(&theirs[0], readings, m
 static void ours_row(int i) { sum += adomvik_sample(ours, boards, (uint32_t)(i & (int)(boards - 1)) + 1, readings, mv[i % KINDS], CELLS, &sampled); }
 static void theirs_row(int i) { sum += peer_sample(theirs, boards, (uint32_t)(i & (int)(boards - 1)) + 1, readings, mv[i % KINDS], CELLS, &sampled); }
 
-/* a short circuit that comes and goes: every other sample of a board latches. The first board's tally goes back at each round, since
- * it would stop where that board has all the samples */
-static adomvik_readings circuit[2]; /* off and on */
+/* a fault that comes and goes, SCD by the shunt or UV by two cells: every other sample of a board latches it, is tallied and entered
+ * in a journal that is full soon; the others let it go. The first board's tallies go back at each round, since they would stop where
+ * that board has all the samples */
+static uint32_t low[KINDS][CELLS];
+static adomvik_readings trip_readings[2]; /* off and on, here and below */
+static const uint32_t (*trip_cells[2])[CELLS];
 
-static void ours_short(int i)
+static void ours_trip(int i)
 {
+    const int on = (i & (int)boards) != 0;
     if (i == 0)
-        ours[0].tallies.scd = 0;
-    sum += adomvik_sample_board(&ours[0], circuit[(i & (int)boards) != 0], mv[i % KINDS], CELLS, &sampled);
+        ours[0].tallies.scd = ours[0].tallies.uv = 0;
+    sum += adomvik_sample_board(&ours[0], trip_readings[on], trip_cells[on][i % KINDS], CELLS, &sampled);
 }
 
-static void theirs_short(int i)
+static void theirs_trip(int i)
 {
+    const int on = (i & (int)boards) != 0;
     if (i == 0)
-        theirs[0].tallies[0] = 0;
-    sum += peer_sample_board(&theirs[0], circuit[(i & (int)boards) != 0], mv[i % KINDS], CELLS, &sampled);
+        theirs[0].tallies[0] = theirs[0].tallies[3] = 0;
+    sum += peer_sample_board(&theirs[0], trip_readings[on], trip_cells[on][i % KINDS], CELLS, &sampled);
 }
 
-static void ours_short_row(int i)
+static void ours_trip_row(int i)
 {
+    const int on = (i & (int)boards) != 0;
     if (i == 0)
-        ours[0].tallies.scd = 0;
-    sum += adomvik_sample(ours, boards, (uint32_t)(i & (int)(boards - 1)) + 1, circuit[(i & (int)boards) != 0], mv[i % KINDS], CELLS, &sampled);
+        ours[0].tallies.scd = ours[0].tallies.uv = 0;
+    sum += adomvik_sample(ours, boards, (uint32_t)(i & (int)(boards - 1)) + 1, trip_readings[on], trip_cells[on][i % KINDS], CELLS, &sampled);
 }
 
-static void theirs_short_row(int i)
+static void theirs_trip_row(int i)
 {
+    const int on = (i & (int)boards) != 0;
     if (i == 0)
-        theirs[0].tallies[0] = 0;
-    sum += peer_sample(theirs, boards, (uint32_t)(i & (int)(boards - 1)) + 1, circuit[(i & (int)boards) != 0], mv[i % KINDS], CELLS, &sampled);
+        theirs[0].tallies[0] = theirs[0].tallies[3] = 0;
+    sum += peer_sample(theirs, boards, (uint32_t)(i & (int)(boards - 1)) + 1, trip_readings[on], trip_cells[on][i % KINDS], CELLS, &sampled);
 }
 
 /* of garden boards: one sample goes to every board before the next does, so that counts go up and down again and nothing latches */
@@ -103,6 +110,12 @@ static void ours_frame(int i) { sum += adomvik_frame(ours, boards, frames[i % KI
 static void theirs_frame(int i) { sum += peer_frame(theirs, boards, frames[i % KINDS], 4, reply, 4); }
 static void ours_read(int i) { (void)i; sum += adomvik_read(ours, boards, &whole); }
 static void theirs_read(int i) { (void)i; sum += peer_read(theirs, boards, &whole); }
+
+/* of a listing only a refusal is more than 255 */
+static uint32_t entries[LIST_WORDS];
+
+static void ours_list(int i) { sum += adomvik_list(ours, boards, (uint32_t)(i & (int)(boards - 1)) + 1, entries, LIST_WORDS) >> 8; }
+static void theirs_list(int i) { sum += peer_list(theirs, boards, (uint32_t)(i & (int)(boards - 1)) + 1, entries, LIST_WORDS) >> 8; }
 
 /* a cycle spent at each call: the count goes back, and the staged byte is another than the working one */
 static size_t addressed(int i) { return frames[i % KINDS][0] / 2 - 1u; }
@@ -198,17 +211,34 @@ static void samples(void)
     }
 }
 
-static void short_circuits(void)
+/* Quiet samples in turn with others: a short circuit, or two cells that read low; which ones goes round. */
+static void set_trips(int shunt, int lows)
 {
-    const adomvik_plan plan = plan_of(ADOMVIK_STAND_ALONE);
     set_samples(0);
-    circuit[0] = circuit[1] = readings;
-    circuit[1].shunt = 90000;
-    open_both(1, plan);
-    measure("sample of one record, ", "SCD on and off", ours_short, theirs_short);
-    measure("sample in a row of 1, ", "SCD on and off", ours_short_row, theirs_short_row);
-    open_both(BOARDS, plan);
-    measure("sample in a row of 16, ", "SCD on and off", ours_short_row, theirs_short_row);
+    for (int k = 0; k < KINDS; k++)
+        for (int i = 0; i < CELLS; i++)
+            low[k][i] = (i + 7 * k) % CELLS < lows ? 1300 : mv[k][i];
+    trip_readings[0] = trip_readings[1] = readings;
+    trip_readings[1].shunt = shunt;
+    trip_cells[0] = (const uint32_t (*)[CELLS])mv;
+    trip_cells[1] = (const uint32_t (*)[CELLS])low;
+}
+
+static void trips(void)
+{
+    static const struct { const char *name; int shunt, lows; } how[] = {
+        {"SCD on and off", 90000, 0},
+        {"UV on and off", 0, 2},
+    };
+    const adomvik_plan plan = plan_of(ADOMVIK_STAND_ALONE);
+    for (size_t k = 0; k < sizeof how / sizeof *how; k++) {
+        set_trips(how[k].shunt, how[k].lows);
+        open_both(1, plan);
+        measure("sample of one record, ", how[k].name, ours_trip, theirs_trip);
+        measure("sample in a row of 1, ", how[k].name, ours_trip_row, theirs_trip_row);
+        open_both(BOARDS, plan);
+        measure("sample in a row of 16, ", how[k].name, ours_trip_row, theirs_trip_row);
+    }
 }
 
 static void garden_samples(void)
@@ -270,14 +300,35 @@ static void readings_of_16(void)
     measure("reading of 16, ", "quiet gardens", ours_read, theirs_read);
 }
 
+/* So many samples of each board, every other of which latches. */
+static void trip_all(int times)
+{
+    set_trips(90000, 0);
+    for (int i = 0; i < times * (int)boards; i++) {
+        ours_trip_row(i);
+        theirs_trip_row(i);
+    }
+}
+
+/* Listings of boards that have latched nothing, and of boards with more latchings than a journal keeps. */
+static void listings_in(size_t count, const char *row)
+{
+    open_both(count, plan_of(ADOMVIK_STAND_ALONE));
+    measure(row, "empty", ours_list, theirs_list);
+    trip_all(300);
+    measure(row, "full", ours_list, theirs_list);
+}
+
 static void all_acts(void)
 {
     samples();
-    short_circuits();
+    trips();
     garden_samples();
     frames_in(1, "frame in a row of 1, ");
     frames_in(BOARDS, "frame in a row of 16, ");
     readings_of_16();
+    listings_in(1, "listing in a row of 1, ");
+    listings_in(BOARDS, "listing in a row of 16, ");
 }
 
 /* ---- bytes of stack, by what the program that measures has for one act */
@@ -296,6 +347,8 @@ static void all_stacks(void)
     tell("stack of a sample", depth(ours_row) - base, depth(theirs_row) - base);
     tell("stack of a frame", depth(ours_frame) - base, depth(theirs_frame) - base);
     tell("stack of a reading", depth(ours_read) - base, depth(theirs_read) - base);
+    trip_all(300);
+    tell("stack of a listing", depth(ours_list) - base, depth(theirs_list) - base);
     open_both(BOARDS, plan_of(ADOMVIK_GARDEN));
     set_garden_samples(GARDEN_CELLS);
     tell("stack of a sample, garden", depth(ours_garden_row) - base, depth(theirs_garden_row) - base);

@@ -13,6 +13,7 @@ enum { RUN_MAX = 8000001 }; /* past the longest delay: counting on would tell no
 enum { STAND_ALONE = 0, HOST = 1, GARDEN = 2 };
 enum { CLEAR_BIT = 1, DSG_BIT = 2, CHG_BIT = 4, CONTROL_MAX = 7 };
 enum { TALLIES = 5, TALLY_LOW = 16, TALLY_HIGH = 8 }; /* a high byte's register lies 8 above the low one's, as its bits do */
+enum { JOURNAL = 128, WORDS = 3 }; /* words of an entry in a listing */
 enum { STOPS_DSG = UV | OCD | SCD | HOT, STOPS_CHG = OV | OCD | SCD | HOT };
 
 static const int32_t ov_hysteresis[4] = {100, 200, 300, 0};
@@ -137,13 +138,19 @@ static inline unsigned next_latch(unsigned latches, unsigned fault, bool stood, 
     return stood ? latches | fault : latches;
 }
 
-/* These faults latch. */
-static inline void tally(struct peer_board *b, unsigned latching)
+/* These faults latch, OV and UV by these cells: each is tallied and entered in the journal, the lowest bit first. It is out of line,
+ * since most samples latch nothing. */
+static __attribute__((noinline)) void keep(struct peer_board *b, unsigned latching, unsigned over, unsigned under)
 {
     for (; latching; latching &= latching - 1) {
-        uint16_t *of = &b->tallies[__builtin_ctz(latching)];
-        if (*of < UINT16_MAX)
-            ++*of;
+        const unsigned cause = (unsigned)__builtin_ctz(latching), fault = 1u << cause, cells = fault == OV ? over : fault == UV ? under : 0;
+        const unsigned cell = cells ? (unsigned)__builtin_ctz(cells) + 1 : 0;
+        if (b->tallies[cause] < UINT16_MAX)
+            b->tallies[cause]++;
+        b->numbers[b->next] = b->samples;
+        b->whats[b->next] = (uint8_t)(cause << 4 | cell);
+        b->next = (b->next + 1) % JOURNAL;
+        b->len = (uint8_t)(b->len + (b->len < JOURNAL));
     }
 }
 
@@ -193,9 +200,9 @@ static inline int32_t scd_uv(const uint8_t *settings)
     return 60000 + 5000 * (settings[4] & 15);
 }
 
-/* The counts of a fault that is not latched, zero where nothing was counted: whether one reaches the trigger. None passes it, so
- * they need no cap. */
-static inline bool count_cells(int32_t *counts, uint16_t *counted, const uint32_t *cells, unsigned n, uint32_t level, bool above, int32_t trigger)
+/* The counts of a fault that is not latched, zero where nothing was counted: the bit of the lowest cell whose count reaches the
+ * trigger. None passes it, so they need no cap. */
+static inline unsigned count_cells(int32_t *counts, uint16_t *counted, const uint32_t *cells, unsigned n, uint32_t level, bool above, int32_t trigger)
 {
     const bool begun = *counted;
     int32_t most = 0;
@@ -206,7 +213,12 @@ static inline bool count_cells(int32_t *counts, uint16_t *counted, const uint32_
         most = now > most ? now : most;
     }
     *counted = most > 0 && most < trigger;
-    return most >= trigger;
+    if (most < trigger)
+        return 0;
+    unsigned bit = 1;
+    while (*counts++ < trigger)
+        bit <<= 1;
+    return bit;
 }
 
 /* The recovery count of a fault that is latched: whether it stays so. */
@@ -221,6 +233,7 @@ static inline bool stays(uint8_t *back, bool inside, int trigger)
 static void grow(struct peer_board *b, bool load, const uint32_t *cells, uint32_t least, uint32_t most, adomvik_sampled *out)
 {
     const struct device *d = &devices[b->row];
+    unsigned over = 0, under = 0;
     bool ov = false, uv = false;
     if (b->latches & OV) {
         ov = stays(&b->ov_back, most < d->ov_inside, b->trigger);
@@ -228,7 +241,8 @@ static void grow(struct peer_board *b, bool load, const uint32_t *cells, uint32_
     } else {
         b->ov_back = 0;
         if (b->over || most > d->ov)
-            ov = count_cells(b->ov_run, &b->over, cells, b->cells, d->ov, true, b->trigger);
+            over = count_cells(b->ov_run, &b->over, cells, b->cells, d->ov, true, b->trigger);
+        ov = over != 0;
     }
     if (b->latches & UV) {
         uv = stays(&b->uv_back, least > d->uv_inside && !(load && d->load_removal), b->trigger);
@@ -236,10 +250,12 @@ static void grow(struct peer_board *b, bool load, const uint32_t *cells, uint32_
     } else {
         b->uv_back = 0;
         if (b->under || least < d->uv)
-            uv = count_cells(b->uv_run, &b->under, cells, b->cells, d->uv, false, b->trigger);
+            under = count_cells(b->uv_run, &b->under, cells, b->cells, d->uv, false, b->trigger);
+        uv = under != 0;
     }
     const unsigned latches = (unsigned)(ov * OV | uv * UV);
-    tally(b, latches & ~b->latches);
+    if (latches & ~b->latches)
+        keep(b, latches & ~b->latches, over, under);
     b->latches = (uint8_t)latches;
     out->status = (uint8_t)(b->latches | !ov * CHG_ON | !uv * DSG_ON);
     out->bled = 0;
@@ -269,14 +285,14 @@ static inline uint8_t step(struct peer_board *b, adomvik_readings x, const uint3
     b->low = (uint16_t)least;
     b->high = (uint16_t)most;
     b->shunt = x.shunt;
+    b->samples += b->samples < UINT32_MAX;
     if (b->kind == GARDEN) {
         grow(b, x.load, cells, least, most, out);
         return 0;
     }
 
     const int32_t elapsed = (int32_t)x.elapsed;
-    unsigned over = 0, under = 0, ov_stood = 0, flags = b->flags;
-    bool uv_stood = false;
+    unsigned over = 0, under = 0, ov_stood = 0, uv_stood = 0, flags = b->flags;
     if (most > ov_level || flags) {
         const int32_t wait = least_run(500000 + 250000 * (w[0] >> 5));
         unsigned low = 0;
@@ -296,7 +312,7 @@ static inline uint8_t step(struct peer_board *b, adomvik_readings x, const uint3
             if (cells[i] < uv_level) {
                 const int32_t run = b->uv_run[i] = next_run(b->uv_run[i], b->under >> i & 1, elapsed);
                 under |= 1u << i;
-                uv_stood |= run >= wait;
+                uv_stood |= (unsigned)(run >= wait) << i;
             }
     }
     b->over = (uint16_t)over;
@@ -321,7 +337,7 @@ static inline uint8_t step(struct peer_board *b, adomvik_readings x, const uint3
     const bool alone = b->kind != HOST, unloaded = alone && !x.load;
     unsigned latches = b->latches;
     latches = next_latch(latches, OV, ov_stood != 0, alone && most < ov_low);
-    latches = next_latch(latches, UV, uv_stood, alone && least > uv_release);
+    latches = next_latch(latches, UV, uv_stood != 0, alone && least > uv_release);
     latches = next_latch(latches, OCD, ocd_stood, unloaded && !ocd_over);
     latches = next_latch(latches, SCD, scd_stood, unloaded && !scd_over);
     const bool hot = x.thermistor < 975;
@@ -329,7 +345,8 @@ static inline uint8_t step(struct peer_board *b, adomvik_readings x, const uint3
     const unsigned latching = latches & ~b->latches;
     if (!alone)
         b->control = (uint8_t)forbidden(b->control, latching);
-    tally(b, latching);
+    if (latching)
+        keep(b, latching, ov_stood, uv_stood);
     b->latches = (uint8_t)latches;
     out->status = (uint8_t)status(b);
     out->bled = (uint16_t)bled(b->flags);
@@ -499,4 +516,26 @@ uint8_t peer_read(const struct peer_board *row, size_t boards, adomvik_reading *
     out->board = (uint8_t)board;
     out->cell = (uint8_t)cell;
     return 0;
+}
+
+/* ---- listings */
+
+uint32_t peer_list(const struct peer_board *row, size_t boards, uint32_t board, uint32_t *words, size_t many)
+{
+    if (!good_row(row, boards))
+        return 256 + 1;
+    if (board - 1u >= boards)
+        return 256 + 2;
+    const struct peer_board *b = &row[board - 1];
+    const unsigned len = b->len;
+    if (many < WORDS * len)
+        return 256 + 14;
+    const unsigned oldest = b->next + JOURNAL - len;
+    for (unsigned i = 0; i < len; i++, words += WORDS) {
+        const unsigned place = (oldest + i) % JOURNAL, what = b->whats[place];
+        words[0] = what >> 4;
+        words[1] = what & 15;
+        words[2] = b->numbers[place];
+    }
+    return len;
 }

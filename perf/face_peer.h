@@ -18,6 +18,10 @@ struct peer_board {
     int32_t ov_run[10], uv_run[10];
     int32_t ocd_run, scd_run;
     int32_t shunt;
+    uint32_t samples;             /* accepted ones */
+    uint32_t numbers[128];        /* the last latchings, in a ring: at which sample, */
+    uint8_t whats[128];           /* and the cause above the cell; */
+    uint8_t next, len;            /* where the next one goes, and how many there are */
 };
 
 uint8_t peer_open(struct peer_board *row, size_t boards, const uint32_t *counts, size_t count);
@@ -26,5 +30,6 @@ uint8_t peer_sample(struct peer_board *row, size_t boards, uint32_t board, adomv
 uint8_t peer_sample_board(struct peer_board *board, adomvik_readings readings, const uint32_t *cells, size_t count, adomvik_sampled *out);
 uint8_t peer_frame(struct peer_board *row, size_t boards, const uint8_t *frame, size_t length, uint8_t *reply, size_t room);
 uint8_t peer_read(const struct peer_board *row, size_t boards, adomvik_reading *out);
+uint32_t peer_list(const struct peer_board *row, size_t boards, uint32_t board, uint32_t *words, size_t many);
 
 #endif

@@ -24,7 +24,7 @@ enum { SCD = 1, OCD = 2, OV = 4, UV = 8, HOT = 16, DSG_ON = 64, CHG_ON = 128 };
 enum { STOPS_DSG = UV | OCD | SCD | HOT, STOPS_CHG = OV | OCD | SCD | HOT };
 
 // The bench opens stand-alone boards only. Its boards know host boards too, which share every step with them; garden boards have
-// steps of their own, that no line reaches.
+// steps of their own, that no line reaches. Nor does one reach a listing of the journal that every board keeps.
 enum { STAND_ALONE = 0, HOST = 1 };
 enum { CLEAR_BIT = 1, DSG_BIT = 2, CHG_BIT = 4, CONTROL_MAX = 7 };
 
@@ -39,6 +39,7 @@ enum {
     TALLIES = 5,
     TALLY_LOW = 16,
     TALLY_HIGH = 8,  // a high byte's register lies 8 above the low one's, as its bits do
+    JOURNAL = 128,
 };
 
 enum {
@@ -68,6 +69,10 @@ struct board {
     int32_t ov_run[CELLS_MAX], uv_run[CELLS_MAX];
     int32_t ocd_run, scd_run;
     int32_t shunt;
+    uint32_t samples;           // accepted ones
+    uint32_t numbers[JOURNAL];  // the last latchings, in a ring: at which sample,
+    uint8_t whats[JOURNAL];     // and the cause above the cell;
+    uint8_t next, len;          // where the next one goes, and how many there are
 };
 
 static struct board stack[BOARDS_MAX];
@@ -298,13 +303,19 @@ static unsigned forbidden(unsigned control, unsigned latching)
     return control;
 }
 
-// These faults latch.
-static void tally(struct board *b, unsigned latching)
+// These faults latch, OV and UV by these cells: each is tallied and entered in the journal, the lowest bit first. It is out of line,
+// since most samples latch nothing.
+static __attribute__((noinline)) void keep(struct board *b, unsigned latching, unsigned over, unsigned under)
 {
     for (; latching; latching &= latching - 1) {
-        uint16_t *of = &b->tallies[__builtin_ctz(latching)];
-        if (*of < UINT16_MAX)
-            ++*of;
+        const unsigned cause = (unsigned)__builtin_ctz(latching), fault = 1u << cause;
+        const unsigned cells = fault == OV ? over : fault == UV ? under : 0;
+        if (b->tallies[cause] < UINT16_MAX)
+            b->tallies[cause]++;
+        b->numbers[b->next] = b->samples;
+        b->whats[b->next] = (uint8_t)(cause << 4 | (cells ? (unsigned)__builtin_ctz(cells) + 1 : 0));
+        b->next = (b->next + 1) % JOURNAL;
+        b->len = (uint8_t)(b->len + (b->len < JOURNAL));
     }
 }
 
@@ -356,9 +367,8 @@ static void step(struct board *b, const struct line *l)
     // cells lie low is gathered without a branch: it is hard to foretell where
     // that level is close to where cells usually are.
     const int cells = b->cells;
-    unsigned stood = 0, low = 0;
+    unsigned stood = 0, uv_stood = 0, low = 0;
     int32_t least = INT32_MAX;
-    bool uv_stood = false;
     for (int i = 0; i < cells; i++) {
         const int32_t mv = l->list[i];
         int32_t ov_run = NO_RUN, uv_run = NO_RUN;
@@ -367,7 +377,7 @@ static void step(struct board *b, const struct line *l)
             stood |= (unsigned)(ov_run >= ov_wait) << i;
         } else if (mv < uv_level) {
             uv_run = next_run(b->uv_run[i], elapsed);
-            uv_stood |= uv_run >= uv_wait;
+            uv_stood |= (unsigned)(uv_run >= uv_wait) << i;
         }
         b->ov_run[i] = ov_run;
         b->uv_run[i] = uv_run;
@@ -378,6 +388,7 @@ static void step(struct board *b, const struct line *l)
     b->low = (uint16_t)least;
     b->high = (uint16_t)l->largest;
     b->shunt = l->shunt;
+    b->samples += b->samples < UINT32_MAX;
 
     const int32_t ocd_code = w[2] & 31;
     const int32_t ocd_wait = least_run(ocd_code < 16 ? 20000 * (ocd_code + 1) : 100000 * (ocd_code - 15));
@@ -392,7 +403,7 @@ static void step(struct board *b, const struct line *l)
     const bool alone = b->kind != HOST, unloaded = alone && !l->load;
     uint8_t latches = b->latches;
     latches = next_latch(latches, OV, stood != 0, alone && l->largest < ov_low);
-    latches = next_latch(latches, UV, uv_stood, alone && least > uv_release);
+    latches = next_latch(latches, UV, uv_stood != 0, alone && least > uv_release);
     latches = next_latch(latches, OCD, b->ocd_run >= ocd_wait, unloaded && !ocd_over);
     latches = next_latch(latches, SCD, b->scd_run >= scd_wait, unloaded && !scd_over);
     const bool hot = l->thermistor < 975;
@@ -400,7 +411,8 @@ static void step(struct board *b, const struct line *l)
     const unsigned latching = latches & ~(unsigned)b->latches;
     if (!alone)
         b->control = (uint8_t)forbidden(b->control, latching);
-    tally(b, latching);
+    if (latching)
+        keep(b, latching, stood, uv_stood);
     b->latches = latches;
 }
 
