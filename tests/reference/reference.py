@@ -4,10 +4,10 @@
 Reads bench lines from standard input as bytes and writes the answers.
 
 Every board keeps the history of its accepted acts. Settings, cycles, latches
-and flags are read off that history, and a run, a garden board's count or a
-tally is taken from the samples themselves each time it is asked for: there is
-no counter in here that could go wrong in the same way as one in the program
-under test.
+and flags are read off that history, and a run, a garden board's count, a tally
+or a journal is taken from the samples themselves each time it is asked for:
+there is no counter and no ring in here that could go wrong in the same way as
+one in the program under test.
 """
 
 import re
@@ -32,10 +32,14 @@ CONTROL, FIRST_SETTING, LAST_SETTING, CYCLES = 1, 6, 10, 11
 LATCH_CLEAR, DSG_MAY, CHG_MAY = 0, 1, 2
 PROGRAM = 0x41
 MOST_CYCLES = 3
+# the faults in the order of their tallies and journal entries; a fault's place is its number as a cause (02, tickets 7 and 8)
+FAULTS = ("SCD", "OCD", "OV", "UV", "OT")
 # for each register that reads a tally: the fault, and which byte of it, 0 the low one (02, ticket 7)
-TALLIES = {first + place: (fault, byte) for byte, first in enumerate((16, 24))
-           for place, fault in enumerate(("SCD", "OCD", "OV", "UV", "OT"))}
+TALLIES = {first + place: (fault, byte) for byte, first in enumerate((16, 24)) for place, fault in enumerate(FAULTS)}
 MOST_TALLIED = 65535
+# 02, ticket 8
+MOST_LISTED = 128
+MOST_NUMBERED = 4294967295
 
 OV_HYSTERESIS_MV = (100, 200, 300, 0)
 UV_HYSTERESIS_MV = (200, 400, 800, 1200)
@@ -156,12 +160,12 @@ def cells_under(samples, settings):
             for i in range(len(samples[-1].cells))]
 
 
-def faults_stood(samples, settings, over):
-    """The faults whose condition has stood its delay (01, the fault table)."""
+def faults_stood(samples, settings, cells):
+    """The faults whose condition has stood its delay (01, the fault table), by what each cell has."""
     ocd, scd = settings.ocd_level, settings.scd_level
     shown = {
-        "OV": any(over),
-        "UV": any(cells_under(samples, settings)),
+        "OV": any(cells["OV"]),
+        "UV": any(cells["UV"]),
         "OCD": stood(samples, lambda s: s.shunt > ocd, settings.ocd_delay),
         "SCD": stood(samples, lambda s: s.shunt > scd, settings.scd_delay),
         "OT": samples[-1].thermistor < HOT_BELOW_MV,
@@ -229,6 +233,22 @@ def tally(latchings, fault):
     return min(sum(fault in latching for latching in latchings), MOST_TALLIED)
 
 
+def lowest(cells):
+    """The number of the lowest cell that is so, or 0 where none is."""
+    return cells.index(True) + 1 if True in cells else 0
+
+
+def sample_number(place):
+    """The number of the board's accepted sample at that place, 1 the first (02, ticket 8)."""
+    return min(place, MOST_NUMBERED)
+
+
+def journal(latchings):
+    """Every latching of a history, oldest first: cause, lowest cell at fault, number of the sample (02, ticket 8)."""
+    return [(cause, latching[fault], sample_number(place)) for place, latching in enumerate(latchings, 1)
+            for cause, fault in enumerate(FAULTS) if fault in latching]
+
+
 # ------------------------------------------------------------ garden boards
 
 def count(samples, holds):
@@ -270,9 +290,11 @@ class GardenRecord:
         self.since = {"OV": [], "UV": []}   # the samples since the fault last latched or let go
         self.latched = {"OV"}
         self.flagged = set()                # of no cell, ever
+        self.cells = {}                     # for each fault not latched before the last sample: did each cell's count reach the trigger?
 
     def follow(self, _act, sample):
         """Take in one act of the history; a garden board has samples alone."""
+        self.cells = {}
         for fault, samples in self.since.items():
             samples.append(sample)
             if self.turns(fault, samples):
@@ -283,8 +305,9 @@ class GardenRecord:
         """Does a cell's count come to the trigger, or where the fault is latched, the recovery count?"""
         if fault in self.latched:
             return reached(samples, lambda s: inside(fault, s, self.device), self.trigger)
-        return any(reached(samples, lambda s, i=i: past(fault, s.cells[i], self.device), self.trigger)
-                   for i in range(len(samples[-1].cells)))
+        self.cells[fault] = [reached(samples, lambda s, i=i: past(fault, s.cells[i], self.device), self.trigger)
+                             for i in range(len(samples[-1].cells))]
+        return any(self.cells[fault])
 
     def chg(self):
         """Is CHG on?"""
@@ -315,6 +338,7 @@ class Record:
         self.last = None        # the last sample, which a spent cycle does not take away
         self.latched = set()
         self.flagged = set()    # cells counted from 0
+        self.cells = {}         # for OV and UV: had each cell stood the delay at the last sample?
 
     def follow(self, act, detail):
         """Take in one act of the history."""
@@ -333,14 +357,14 @@ class Record:
         """01, When a fault latches, and Bleeding; 02, ticket 3."""
         self.samples.append(sample)
         self.last = sample
-        over = cells_over(self.samples, self.settings)
-        latching = faults_stood(self.samples, self.settings, over) - self.latched
+        self.cells = {"OV": cells_over(self.samples, self.settings), "UV": cells_under(self.samples, self.settings)}
+        latching = faults_stood(self.samples, self.settings, self.cells) - self.latched
         gone = faults_let_go(sample, self.settings)
         if self.kind == HOST:
             gone -= CLEARED_BY_HAND
             self.forbid(latching)
         self.latched = (self.latched - gone) | latching
-        self.flagged = flags_after(self.flagged, sample, self.settings, over)
+        self.flagged = flags_after(self.flagged, sample, self.settings, self.cells["OV"])
 
     def forbid(self, latching):
         """02, ticket 3: a fault that latches clears the bits of the switches it forbids."""
@@ -399,7 +423,8 @@ class Board:
         self.history = []
         self.followed = 0
         self.made = first_record(plan)
-        self.latchings = []     # for each sample, the faults that are latched after it and were not before
+        # for each sample, the faults that are latched after it and were not before, each with the lowest cell at fault, or 0
+        self.latchings = []
 
     def record(self):
         """The record that the whole history amounts to."""
@@ -408,7 +433,8 @@ class Board:
             before = set(self.made.latched)
             self.made.follow(act, detail)
             if act == "sample":
-                self.latchings.append(self.made.latched - before)
+                latching = self.made.latched - before
+                self.latchings.append({fault: lowest(self.made.cells.get(fault, [])) for fault in latching})
             self.followed += 1
         return self.made
 
@@ -431,6 +457,11 @@ class Board:
         if register == CYCLES:
             return record.spent
         return record.working[register - FIRST_SETTING]
+
+    def listing(self):
+        """The last latchings of the history, oldest first (02, ticket 8)."""
+        self.record()
+        return journal(self.latchings)[-MOST_LISTED:]
 
     def write(self, register, value):
         """Accept a write, or refuse with 13 or 11; the value of its reply."""
@@ -538,6 +569,17 @@ class Stack:
             raise Refusal(10)
         given = board.write(register, value) if is_write else board.read(register)
         reply[:4] = (address, register, given, crc8((address, register, given)))
+
+    def listing(self, number, lent):
+        """A board's journal: refusals 2, 14 (02, ticket 8); how many entries it has.
+
+        They go into the first places of the `lent` list.
+        """
+        entries = self.board(number).listing()
+        if len(lent) < len(entries):
+            raise Refusal(14)
+        lent[:len(entries)] = entries
+        return len(entries)
 
     def fault_line(self):
         """Board 1's fault line, from the north down (01, Whole-stack reading)."""

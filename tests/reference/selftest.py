@@ -12,7 +12,7 @@ import sys
 sys.dont_write_bytecode = True
 
 from reference import (GARDEN, HOST, STAND_ALONE, Bench, Board, Plan, Refusal, Sample, Settings, Stack,  # noqa: E402
-                       count, crc8, first_record, inside, past, stand_alone, tally)
+                       count, crc8, first_record, inside, journal, past, sample_number, stand_alone, tally)
 
 FAILED = []
 
@@ -783,6 +783,31 @@ def tally_registers():
             """, **FIVE)
 
 
+def journal_cases():
+    """02, ticket 8: numbers about their top, the order in one sample, and the lent entries, which the bench knows nothing of."""
+    for place, wanted in ((1, 1), (2, 2), (65536, 65536), (4294967294, 4294967294), (4294967295, 4294967295),
+                          (4294967296, 4294967295), (8589934592, 4294967295)):
+        expect(f"the number of sample {place}", wanted, sample_number(place))
+    expect("no latching", [], journal([{}, {}]))
+    expect("the order in one sample", [(0, 0, 2), (1, 0, 2), (2, 5, 2), (3, 1, 2), (4, 0, 2), (2, 3, 4)],
+           journal([{}, {"OT": 0, "UV": 1, "OV": 5, "OCD": 0, "SCD": 0}, {}, {"OV": 3}]))
+    stack, lent = Stack(stand_alone([5, 5])), ["a", "b", "c", "d"]
+    expect("an empty journal", 0, stack.listing(1, lent))
+    expect("an empty journal needs no room", 0, stack.listing(1, []))
+    stack.sample(1, Sample(1, 1, 974, 60001, (4000, 4000, 1399, 1399, 4000)))
+    for number, room, wanted in ((0, 4, 2), (3, 4, 2), (3, 0, 2), (1, 0, 14), (1, 2, 14)):
+        some = lent[:room]
+        expect(f"board {number} with room for {room}", wanted, refusal_of(stack.listing, number, some))
+        expect("the entries after a refusal", lent[:room], some)
+    expect("three entries", 3, stack.listing(1, lent))
+    expect("the entry behind them stays", [(0, 0, 1), (3, 3, 1), (4, 0, 1), "d"], lent)
+    exact = [None] * 3
+    expect("exact room", 3, stack.listing(1, exact))
+    expect("and what it holds", lent[:3], exact)
+    expect("the other board", 0, stack.listing(2, lent))
+    expect("which leaves every entry", [(0, 0, 1), (3, 3, 1), (4, 0, 1), "d"], lent)
+
+
 def unknown_registers():
     """01, Refusal numbers: 9 for every register that is not in the map."""
     for register in (*range(1, 6), *range(12, 16), *range(21, 24), *range(29, 256)):
@@ -883,6 +908,7 @@ RAW_LINES = (
     (b"O 5.0", 12), (b"O", 1), (b"O 0", 1), (b"O 5 4", 1),
     (b"O 99999999999999999999", 12), (b"O 4294967301", 12),
     (b"O 18446744073709551621", 12), (b"F 256", 12), (b"F -1", 12),
+    (b"L", 12), (b"L 1", 12), (b"L 1 0", 12), (b"L 1 128", 12),
     (b"F 2 0 0 0214", 12), (b"F" + b" 0" * 16, 6), (b"F" + b" 0" * 17, 12),
     (b"S", 12), (b"S 1 1 0 2000", 12), (b"S 1 1 0 2000 0", 3),
     (b"S 1 1 0 2000 -0" + b" 1" * 5, 12), (b"S 1 1 0 2000 -01" + b" 1" * 5, 12),
@@ -1011,8 +1037,8 @@ def main():
     """Run all; exit 1 if anything differs."""
     for part in (paper_session, crc_values, settings_tables, marked_cases, run_cases,
                  fault_cases, bleeding_cases, frame_cases, crossed_cases, tally_cases, tally_tops,
-                 tally_registers, unknown_registers, sample_refusals, opening_cases, raw_lines, input_cases, buffer_cases,
-                 kind_cases, count_cases, garden_levels):
+                 tally_registers, journal_cases, unknown_registers, sample_refusals, opening_cases, raw_lines,
+                 input_cases, buffer_cases, kind_cases, count_cases, garden_levels):
         part()
     sys.exit(1 if FAILED else 0)
 

@@ -977,11 +977,374 @@ def garden_tallies():
         """, **FIVE)
 
 
+def listed(entries):
+    """The answer that lists these entries, each a cause, a cell and a number."""
+    return " ".join(["ls", str(len(entries))] + [str(number) for entry in entries for number in entry])
+
+
+def journal_entries():
+    """02, ticket 8: one entry for each latching, with its cause and the number of its sample."""
+    # latched at samples 1 and 5; it stays at 2 and 3 and lets go at 4, which enter nothing
+    told("SCD", """
+        X s5 -> ok
+        L 1 0 -> ls 0
+        S 1 1 1 2000 60001 {calm} -> st 1 bal 0
+        L 1 1 -> ls 1 0 0 1
+        2: S 1 1 1 2000 60001 {calm} -> st 1 bal 0
+        S 1 1 0 2000 0 {calm} -> st 192 bal 0
+        L 1 1 -> ls 1 0 0 1
+        S 1 1 1 2000 60001 {calm} -> st 1 bal 0
+        L 1 2 -> ls 2 0 0 1 0 0 5
+        """, **FIVE)
+    # OCD behind 20 ms at sample 2; OV of cell 2 behind 500 ms, held from 4 on, at 10; UV of cell 4 at 12; heat, as UV goes, at 13
+    told("the others", """
+        X s5 -> ok
+        S 1 1 0 2000 10001 {calm} -> st 192 bal 0
+        L 1 0 -> ls 0
+        S 1 20001 0 2000 10001 {calm} -> st 2 bal 0
+        S 1 1 0 2000 0 {calm} -> st 192 bal 0
+        6: S 1 100000 0 2000 0 {two} -> st 192 bal 0
+        L 1 1 -> ls 1 1 0 2
+        S 1 100000 0 2000 0 {two} -> st 68 bal 2
+        S 1 1 0 2000 0 {calm} -> st 192 bal 0
+        S 1 1 0 2000 0 4000 4000 4000 1399 4000 -> st 136 bal 0
+        S 1 1 0 974 0 {calm} -> st 16 bal 0
+        L 1 4 -> ls 4 1 0 2 2 2 10 3 4 12 4 0 13
+        """, **FIVE)
+    # OV has 500 ms at sample 6 and 600 at 7; OCD, held from 6 on, has 100 at 7
+    told("OV and OCD in one sample", """
+        X s5 -> ok
+        5: S 1 100000 0 2000 0 {one} -> st 192 bal 0
+        S 1 100000 0 2000 10001 {one} -> st 192 bal 0
+        L 1 0 -> ls 0
+        S 1 100000 0 2000 10001 {one} -> st 6 bal 1
+        L 1 2 -> ls 2 1 0 7 2 1 7
+        """, **FIVE)
+    # the same, and at sample 7 the three that need no delay; all let go at 8, and UV and SCD come back at 9
+    told("all five in one sample", """
+        X s5 -> ok
+        5: S 1 100000 0 2000 0 {one} -> st 192 bal 0
+        S 1 100000 0 2000 10001 {one} -> st 192 bal 0
+        S 1 100000 1 974 60001 4151 4000 1399 4000 4000 -> st 31 bal 1
+        L 1 4 -> no 14
+        L 1 5 -> ls 5 0 0 7 1 0 7 2 1 7 3 3 7 4 0 7
+        S 1 1 0 975 10000 {calm} -> st 192 bal 0
+        L 1 5 -> ls 5 0 0 7 1 0 7 2 1 7 3 3 7 4 0 7
+        S 1 1 0 2000 60001 4000 4000 4000 4000 0 -> st 9 bal 0
+        L 1 7 -> ls 7 0 0 7 1 0 7 2 1 7 3 3 7 4 0 7 0 0 9 3 5 9
+        """, **FIVE)
+
+
+def journal_cells():
+    """02, ticket 8: the cell is the lowest that stood its delay at the sample, not the lowest past the level."""
+    # cell 5 is over from sample 1 on, cell 2 from 2, cell 1 from 3: at 7 they have 600, 500 and 400 ms. That the others stand
+    # at 8 and 9 is no latching; from the highest down 5 is bled, 4 and 3 are not flagged, 2 is, and 1 is too close to 2
+    told("cells that join", """
+        X s5 -> ok
+        S 1 100000 0 2000 0 4000 4000 4000 4000 4151 -> st 192 bal 0
+        S 1 100000 0 2000 0 4000 4151 4000 4000 4151 -> st 192 bal 0
+        4: S 1 100000 0 2000 0 4151 4151 4000 4000 4151 -> st 192 bal 0
+        S 1 100000 0 2000 0 4151 4151 4000 4000 4151 -> st 68 bal 16
+        L 1 1 -> ls 1 2 5 7
+        2: S 1 100000 0 2000 0 4151 4151 4000 4000 4151 -> st 68 bal 18
+        L 1 1 -> ls 1 2 5 7
+        """, **FIVE)
+    # cells 2 and 4 together from sample 1, cell 1 behind them
+    told("two that stand", """
+        X s5 -> ok
+        S 1 100000 0 2000 0 4000 4151 4000 4151 4000 -> st 192 bal 0
+        5: S 1 100000 0 2000 0 4151 4151 4000 4151 4000 -> st 192 bal 0
+        S 1 100000 0 2000 0 4151 4151 4000 4151 4000 -> st 68 bal 8
+        L 1 1 -> ls 1 2 2 7
+        """, **FIVE)
+    # cell 1 is at the level on sample 4, so that its run is of 300 ms at 8, where cell 3, over from 2 on, has 600
+    told("a run that was broken", """
+        X s5 -> ok
+        S 1 100000 0 2000 0 {one} -> st 192 bal 0
+        2: S 1 100000 0 2000 0 4151 4000 4151 4000 4000 -> st 192 bal 0
+        S 1 100000 0 2000 0 4150 4000 4151 4000 4000 -> st 192 bal 0
+        3: S 1 100000 0 2000 0 4151 4000 4151 4000 4000 -> st 192 bal 0
+        S 1 100000 0 2000 0 4151 4000 4151 4000 4000 -> st 68 bal 4
+        L 1 1 -> ls 1 2 3 8
+        """, **FIVE)
+    # no delay: every cell under the level has stood, at sample 1 and again at 4; cell 1 comes under the latch, at 2
+    told("UV without a delay", """
+        X s10 -> ok
+        S 1 1 0 2000 0 {calm} 4000 1399 1399 4000 1399 -> st 136 bal 0
+        L 1 1 -> ls 1 3 7 1
+        S 1 1 0 2000 0 1399 4000 4000 4000 4000 4000 1399 1399 4000 1399 -> st 136 bal 0
+        L 1 1 -> ls 1 3 7 1
+        S 1 1 0 2000 0 {calm} {calm} -> st 192 bal 0
+        S 1 1 0 2000 0 {calm} 4000 4000 4000 4000 1399 -> st 136 bal 0
+        L 1 2 -> ls 2 3 7 1 3 10 4
+        """, **FIVE)
+    # code 7 is 30 ms: at sample 3 cell 3 has 30,001 us and cell 1, which is the lower one, 1 us
+    told("UV behind its delay", """
+        X h5 -> ok
+        F 3 9 112 * -> re 3 9 112 *
+        F 3 11 65 234 -> re 3 11 1 *
+        S 1 1 0 2000 0 4000 4000 1399 4000 4000 -> st 0 bal 0
+        S 1 30000 0 2000 0 1399 4000 1399 4000 4000 -> st 0 bal 0
+        L 1 0 -> ls 0
+        S 1 1 0 2000 0 1399 4000 1399 4000 4000 -> st 8 bal 0
+        L 1 1 -> ls 1 3 3 3
+        """, **FIVE)
+
+
+def journal_gardens():
+    """02, ticket 8: on a garden board the lowest cell whose count reached the trigger; the latch it starts with is no entry."""
+    # cell 2 has 2 at sample 4 and cell 1 has 1; at 8 both have 2
+    told("trigger 2", """
+        X g3/0/2 -> ok
+        L 1 0 -> ls 0
+        {calm} -> st 68 bal 0
+        {calm} -> st 192 bal 0
+        L 1 0 -> ls 0
+        {over} -> st 192 bal 0
+        S 1 1 0 2000 0 4201 4201 3600 -> st 68 bal 0
+        L 1 1 -> ls 1 2 2 4
+        {calm} -> st 68 bal 0
+        {calm} -> st 192 bal 0
+        S 1 1 0 2000 0 4201 4201 3600 -> st 192 bal 0
+        S 1 1 0 2000 0 4201 4201 3600 -> st 68 bal 0
+        L 1 2 -> ls 2 2 2 4 2 1 8
+        """, **THREE)
+    # cell 1 has 1, 0 and 1 at samples 4 to 6, cell 2 has 1 at 6, cell 3 has 1, 2 and 3
+    told("a count that went down", """
+        X g3/0/3 -> ok
+        2: {calm} -> st 68 bal 0
+        {calm} -> st 192 bal 0
+        S 1 1 0 2000 0 2899 3600 2899 -> st 192 bal 0
+        S 1 1 0 2000 0 2900 3600 2899 -> st 192 bal 0
+        S 1 1 0 2000 0 2899 2899 2899 -> st 136 bal 0
+        L 1 1 -> ls 1 3 3 6
+        """, **THREE)
+    # the first sample lets the OV latch of the start go; heat and current are nothing here
+    told("OV and UV in one sample", """
+        X g3/2/1 -> ok
+        S 1 1 0 974 500000 3600 3600 3600 -> st 192 bal 0
+        L 1 0 -> ls 0
+        S 1 1 0 0 500000 1999 1999 4276 -> st 12 bal 0
+        L 1 1 -> no 14
+        L 1 2 -> ls 2 2 3 2 3 1 2
+        {calm} -> st 192 bal 0
+        {over} -> st 68 bal 0
+        L 1 3 -> ls 3 2 3 2 3 1 2 2 2 4
+        """, **THREE)
+    told("UV under the OV latch of the start", """
+        X g3/0/2 -> ok
+        S 1 1 0 2000 0 4201 3600 2899 -> st 68 bal 0
+        S 1 1 0 2000 0 4201 3600 2899 -> st 12 bal 0
+        L 1 1 -> ls 1 3 3 2
+        """)
+
+
+def journal_numbers():
+    """02, ticket 8: the number counts the board's accepted samples, the present one included, and never restarts."""
+    # refused samples, other boards' samples, frames, readings and listings are none of board 1's samples
+    told("accepted samples of that board", """
+        X s5 h5 -> ok
+        S 1 1 0 2000 0 {calm} -> st 192 bal 0
+        S 1 0 0 974 0 {calm} -> no 4
+        S 1 1 2 974 60001 {calm} -> no 5
+        S 1 1 0 974 0 4000 -> no 3
+        S 3 1 0 974 0 {calm} -> no 2
+        3: S 2 1 0 2000 0 {calm} -> st 0 bal 0
+        S 2 1 0 974 0 {calm} -> st 16 bal 0
+        F 2 0 0 214 -> re 2 0 192 152
+        R -> ln 1 chg 0 dsg 0 at 0 0
+        L 1 0 -> ls 0
+        S 1 1 0 974 0 {calm} -> st 16 bal 0
+        L 1 1 -> ls 1 4 0 2
+        L 2 1 -> ls 1 4 0 4
+        X s5 h4 -> no 1
+        L 2 1 -> ls 1 4 0 4
+        X s5 h5 -> ok
+        L 1 0 -> ls 0
+        L 2 0 -> ls 0
+        S 2 1 0 974 0 {calm} -> st 16 bal 0
+        L 2 1 -> ls 1 4 0 1
+        """, **FIVE)
+    # equal sets, a spent cycle, crossed levels; the latch of SCD outlasts a cycle, which enters nothing; no cycle left
+    told("programming leaves journal and number", """
+        X s5 -> ok
+        S 1 1 1 2000 60001 {calm} -> st 1 bal 0
+        S 1 1 0 2000 0 {calm} -> st 192 bal 0
+        F 3 11 65 234 -> re 3 11 0 *
+        L 1 1 -> ls 1 0 0 1
+        F 3 6 7 214 -> re 3 6 7 214
+        F 3 11 65 234 -> re 3 11 1 *
+        L 1 1 -> ls 1 0 0 1
+        S 1 1 1 2000 60001 {calm} -> st 1 bal 0
+        L 1 2 -> ls 2 0 0 1 0 0 3
+        F 3 8 1 * -> re 3 8 1 *
+        F 3 11 65 234 -> re 3 11 2 *
+        S 1 1 1 2000 60001 {calm} -> st 1 bal 0
+        L 1 2 -> ls 2 0 0 1 0 0 3
+        F 3 9 10 54 -> re 3 9 10 54
+        F 3 11 65 234 -> no 13
+        F 3 9 1 * -> re 3 9 1 *
+        F 3 11 65 234 -> re 3 11 3 *
+        F 3 9 2 * -> re 3 9 2 *
+        F 3 11 65 234 -> no 11
+        S 1 1 0 2000 0 {calm} -> st 192 bal 0
+        S 1 1 0 974 0 {calm} -> st 16 bal 0
+        L 1 3 -> ls 3 0 0 1 0 0 3 4 0 6
+        """, **FIVE)
+    # a spent cycle starts cell 2's run over: at sample 9 it has 500 ms, and at 10 it has 600, as has cell 1 from 4 on
+    told("a run that starts over", """
+        X s5 -> ok
+        3: S 1 100000 0 2000 0 {two} -> st 192 bal 0
+        F 3 8 1 * -> re 3 8 1 *
+        F 3 11 65 234 -> re 3 11 1 *
+        6: S 1 100000 0 2000 0 {both} -> st 192 bal 0
+        S 1 100000 0 2000 0 {both} -> st 68 bal 2
+        L 1 1 -> ls 1 2 1 10
+        """, **FIVE)
+
+
+def journal_clears():
+    """02, ticket 8: a clear enters nothing, and what latches again after it is entered again."""
+    # the short circuit is still there at the first clear; SCD and heat at sample 5, in their order
+    told("SCD on a host board", """
+        X h5 -> ok
+        S 1 1 1 2000 60001 {calm} -> st 1 bal 0
+        S 1 1 0 2000 0 {calm} -> st 1 bal 0
+        S 1 1 1 2000 60001 {calm} -> st 1 bal 0
+        F 3 1 1 * -> re 3 1 1 *
+        F 3 1 0 * -> re 3 1 0 *
+        F 2 0 0 214 -> re 2 0 1 *
+        L 1 1 -> ls 1 0 0 1
+        S 1 1 0 2000 0 {calm} -> st 1 bal 0
+        F 3 1 1 * -> re 3 1 1 *
+        F 3 1 0 * -> re 3 1 0 *
+        F 2 0 0 214 -> re 2 0 0 *
+        L 1 1 -> ls 1 0 0 1
+        S 1 1 1 974 60001 {calm} -> st 17 bal 0
+        L 1 3 -> ls 3 0 0 1 0 0 5 4 0 5
+        S 1 1 0 975 0 {calm} -> st 1 bal 0
+        S 1 1 0 974 0 {calm} -> st 17 bal 0
+        L 1 4 -> ls 4 0 0 1 0 0 5 4 0 5 4 0 7
+        """, **FIVE)
+    # cell 5 under, then over the level and cleared, then cell 2 under
+    told("UV on a host board", """
+        X h5 -> ok
+        S 1 1 0 2000 0 4000 4000 4000 4000 1399 -> st 8 bal 0
+        S 1 1 0 2000 0 4000 1399 4000 4000 1401 -> st 8 bal 0
+        S 1 1 0 2000 0 4000 1401 4000 4000 1401 -> st 8 bal 0
+        F 3 1 1 * -> re 3 1 1 *
+        F 3 1 0 * -> re 3 1 0 *
+        F 2 0 0 214 -> re 2 0 0 *
+        S 1 1 0 2000 0 4000 1399 4000 4000 1399 -> st 8 bal 0
+        L 1 2 -> ls 2 3 5 1 3 2 4
+        """, **FIVE)
+
+
+def journal_rooms():
+    """02, ticket 8: refusals 1, 2, 14 in this order; an empty listing needs no room, and exact room is enough."""
+    told("refusals", """
+        L 1 0 -> no 1
+        L 1 128 -> no 1
+        L 0 0 -> no 1
+        L 17 2147483647 -> no 1
+        X s4 -> no 1
+        L 1 128 -> no 1
+        X s5 g3/0/1 -> ok
+        L 0 0 -> no 2
+        L 0 128 -> no 2
+        L 3 0 -> no 2
+        L 3 128 -> no 2
+        L 257 128 -> no 2
+        L 2147483647 0 -> no 2
+        L 1 0 -> ls 0
+        L 1 2147483647 -> ls 0
+        L 2 0 -> ls 0
+        S 1 1 1 974 60001 4000 1399 1399 4000 4000 -> st 25 bal 0
+        L 1 0 -> no 14
+        L 1 1 -> no 14
+        L 1 2 -> no 14
+        L 1 3 -> ls 3 0 0 1 3 2 1 4 0 1
+        L 1 4 -> ls 3 0 0 1 3 2 1 4 0 1
+        L 1 128 -> ls 3 0 0 1 3 2 1 4 0 1
+        L 1 129 -> ls 3 0 0 1 3 2 1 4 0 1
+        L 1 256 -> ls 3 0 0 1 3 2 1 4 0 1
+        L 1 65536 -> ls 3 0 0 1 3 2 1 4 0 1
+        L 1 2147483647 -> ls 3 0 0 1 3 2 1 4 0 1
+        L 1 2147483648 -> no 12
+        L 3 0 -> no 2
+        L 2 0 -> ls 0
+        L 1 2 -> no 14
+        """)
+
+
+def journal_floods():
+    """02, ticket 8: the last 128 latchings, or all of them if fewer."""
+    # heat at each odd sample: the latching k is of sample 2k - 1
+    heat = "S 1 1 0 974 0 {calm} -> st 16 bal 0\nS 1 1 0 975 0 {calm} -> st 192 bal 0\n"
+    first = [(4, 0, 2 * k - 1) for k in range(1, 129)]
+    told("129 latchings", f"""
+        X s5 s5 -> ok
+        {heat * 127}L 1 126 -> no 14
+        L 1 127 -> {listed(first[:127])}
+        {heat}L 1 127 -> no 14
+        L 1 128 -> {listed(first)}
+        L 1 129 -> {listed(first)}
+        {heat}L 1 127 -> no 14
+        L 1 128 -> {listed(first[1:] + [(4, 0, 257)])}
+        L 1 2147483647 -> {listed(first[1:] + [(4, 0, 257)])}
+        {heat * 127}L 1 128 -> {listed([(4, 0, 257 + 2 * k) for k in range(128)])}
+        {heat}L 1 128 -> {listed([(4, 0, 259 + 2 * k) for k in range(128)])}
+        L 1 0 -> no 14
+        L 2 0 -> ls 0
+        """, **FIVE)
+    # 127 of heat, then three at sample 255: the last two of them take the places of the first two
+    told("across the end in one sample", f"""
+        X s5 -> ok
+        {heat * 127}S 1 1 1 974 60001 4000 1399 4000 4000 4000 -> st 25 bal 0
+        L 1 128 -> {listed(first[2:127] + [(0, 0, 255), (3, 2, 255), (4, 0, 255)])}
+        """, **FIVE)
+    # a host clears after each; UV of cell 3 at each odd sample
+    hand = ("S 1 1 0 2000 0 4000 4000 1399 4000 4000 -> st 8 bal 0\nS 1 1 0 2000 0 {calm} -> st 8 bal 0\n"
+            "F 3 1 1 * -> re 3 1 1 *\nF 3 1 0 * -> re 3 1 0 *\n")
+    told("on a host board", f"""
+        X h5 -> ok
+        {hand * 129}L 1 127 -> no 14
+        L 1 128 -> {listed([(3, 3, 2 * k - 1) for k in range(2, 130)])}
+        """, **FIVE)
+    # OV and UV at each even sample: 65 times two are two too many
+    both = "S 1 1 0 2000 0 1999 4276 3600 -> st 12 bal 0\n{calm} -> st 192 bal 0\n"
+    told("on a garden board", f"""
+        X g3/2/1 -> ok
+        {{calm}} -> st 192 bal 0
+        {both * 64}L 1 128 -> {listed([entry for k in range(1, 65) for entry in ((2, 2, 2 * k), (3, 1, 2 * k))])}
+        {both}L 1 127 -> no 14
+        L 1 128 -> {listed([entry for k in range(2, 66) for entry in ((2, 2, 2 * k), (3, 1, 2 * k))])}
+        {{over}} -> st 68 bal 0
+        L 1 128 -> {listed([(3, 1, 4)] + [entry for k in range(3, 66) for entry in ((2, 2, 2 * k), (3, 1, 2 * k))] + [(2, 2, 132)])}
+        """, **THREE)
+
+
+def page_journal():
+    """The page's own listings, of the boards of its session."""
+    told("the page's listings", """
+        X s5 h5 g3/0/2 -> ok
+        F 5 1 6 199 -> re 5 1 6 199
+        S 2 1000 0 2000 0 {calm} -> st 192 bal 0
+        S 2 1000 1 2000 60001 {calm} -> st 1 bal 0
+        S 2 1000 0 2000 0 {calm} -> st 1 bal 0
+        F 5 1 7 192 -> re 5 1 7 192
+        F 5 1 6 199 -> re 5 1 6 199
+        L 2 0 -> no 14
+        L 2 128 -> ls 1 0 0 2
+        L 4 128 -> no 2
+        L 1 0 -> ls 0
+        """, **FIVE)
+
+
 def later_forms():
     """Before their request lands."""
     told("later forms", """
         O 5 -> ok
-        L 1 128 -> no 12
         U -> no 12
         W 46 -> no 12
         D -> no 12
@@ -1011,6 +1374,11 @@ RAW_LINES = (
     (b"X g5/10/10", 1),
     (b"F@", 12), (b"F@ 4", 12), (b"F @4", 12), (b"F@04", 12), (b"F@-4", 12), (b"F@+4", 12), (b"F@4 ", 12), (b"F@4@4", 12), (b"F@x", 12),
     (b"F@4", 6), (b"F@00", 12), (b"F 256", 12), (b"F -1", 12), (b"F 00", 12), (b"F@0 256", 12),
+    (b"L", 12), (b"L 1", 12), (b"L 1 ", 12), (b"L 2 0", 2), (b"L 0 0", 2), (b"L 2147483647 2147483647", 2), (b"L 2147483648 0", 12),
+    (b"L 1 2147483648", 12), (b"L 4294967297 0", 12), (b"L 1 4294967424", 12), (b"L 1 99999999999", 12), (b"L 1 -1", 12),
+    (b"L 1 -0", 12), (b"L -1 0", 12), (b"L 1 +0", 12), (b"L 01 0", 12), (b"L 1 00", 12), (b"L 1 0128", 12), (b"L  1 0", 12),
+    (b"L 1  0", 12), (b"L 1 0 ", 12), (b"L 1 0 0", 12), (b"L1 0", 12), (b"L 1,0", 12), (b"L 1/0", 12), (b"L s1 0", 12), (b"L@0 1", 12),
+    (b"L 1@0", 12), (b"l 1 0", 12), (b"LL 1 0", 12), (b"L 1 0\r", 12), (b"L 1 0\0", 12), (b"L 1\t0", 12),
     (b"S", 12), (b"S 1 1 0 2000", 12), (b"S 1 1 0 2000 0", 3), (b"S 1 1 0 2000 -0" + b" 1" * 5, 12),
     (b"S 1 1 0 2000 -01" + b" 1" * 5, 12), (b"S 1 1 0 2000 -" + b" 1" * 5, 12), (b"S 1 1 0 2000 -2147483647" + b" 1" * 5, 5),
     (b"S 1 1 0 2000 -2147483648" + b" 1" * 5, 12), (b"S 1 1 0 2000 2147483647" + b" 1" * 5, 5),
@@ -1055,7 +1423,8 @@ def main():
     """Run all; exit 1 if anything differs."""
     for part in (openings, long_lists, rooms, host_register, host_clears, host_levels, host_bits, host_last_sample, host_rows,
                  garden_openings, garden_levels, garden_counts, garden_cells, garden_load, garden_registers, garden_rows,
-                 host_tallies, garden_tallies, later_forms, raw_lines, long_lengths, input_cases):
+                 host_tallies, garden_tallies, journal_entries, journal_cells, journal_gardens, journal_numbers, journal_clears,
+                 journal_rooms, journal_floods, page_journal, later_forms, raw_lines, long_lengths, input_cases):
         part()
     sys.exit(1 if FAILED else 0)
 

@@ -11,6 +11,7 @@ A form that a request brings is one row of FORMS and one function.
 
 import re
 import sys
+from itertools import chain
 
 sys.dont_write_bytecode = True
 
@@ -19,8 +20,9 @@ from reference import (GARDEN, HOST, LARGEST_NUMBER, STAND_ALONE, Plan, Refusal,
 
 LONGEST_LINE = 300000
 USUAL_ROOM = 4
-# a reply takes four bytes, so a model of the buffer needs a few more and no gigabytes
+# a reply takes four bytes and a listing 128 entries at most, so a model of the buffer needs a few more and no gigabytes
 MODEL_ROOM = 16
+MODEL_ENTRIES = 160
 
 # ten digits are enough for every number that is small enough
 NUMBER = rb"(?:0|[1-9][0-9]{0,9})"
@@ -101,6 +103,13 @@ class Workshop:
         """The whole-stack reading."""
         return b"ln %d chg %d dsg %d at %d %d" % self.opened().reading()
 
+    def listing(self, fields):
+        """A board's journal, with room lent for so many entries."""
+        board, room = fields
+        lent = [None] * min(room, MODEL_ENTRIES)
+        count = self.opened().listing(board, lent)
+        return b"ls " + b" ".join(b"%d" % number for number in [count, *chain(*lent[:count])])
+
     def answers(self, data):
         """The whole output for a whole input."""
         return b"".join(self.answer(line) + b"\n" for line in split_lines(data))
@@ -120,6 +129,8 @@ FORMS = (
      lambda room, data: (byte_list(data), *numbers(room)), Workshop.frame),
     (re.compile(rb"R"),
      lambda: (), Workshop.reading),
+    (re.compile(rb"L((?: %b){2})" % NUMBER),
+     lambda fields: (numbers(fields),), Workshop.listing),
 )
 
 
