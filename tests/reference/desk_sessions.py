@@ -1,28 +1,31 @@
 """Random sessions for tests/differential --workshop.
 
 The sessions of sessions.py, whose stretches meet every delay and level, with
-the workshop's own line forms in between: boards by kind, lent rooms, long
-lists, long lines. A form that a request brings is one more scenario here.
+the workshop's own line forms in between: boards by kind, lent rooms, journals,
+long lists, long lines. A form that a request brings is one more scenario here.
 
 Rows have host boards among the others. Their latches stay, so that most
 scenes on them end in writes to register 1, after samples about the levels
 that work at the write. And they have garden boards, which count samples: most
 scenes on them go about as many samples to one side as the trigger is. On each
-kind faults latch over and over, so that its tallies have something to say.
+kind faults latch over and over, so that its tallies have something to say, and
+in some sessions until a journal has lost its oldest entries. The reference is
+asked how long a journal is, so that room is lent one short or just enough.
 """
 
 from reference import DEVICES, GARDEN, HOST, STAND_ALONE, Plan, Settings, crc8
-from sessions import LARGEST, LONGEST_ELAPSED, Aim, Maker
+from sessions import LARGEST, LONGEST_ELAPSED, QUICK_US, Aim, Maker
 from workshop import LONGEST_LINE, Workshop
 
 # forms of requests that are not in force: malformed, until their scenario stands in their place
-LATER = ("L 1 128", "L 1 0", "L", "U", "U 1", "W 46", "W 0", "W", "D", "C", "C 0100", "C 01000100000000000005",
+LATER = ("U", "U 1", "W 46", "W 0", "W", "D", "C", "C 0100", "C 01000100000000000005",
          "V 00 00 1", "V 0100 0100 0")
 
 # for each fault that a host board keeps: the register of its level and the mask of the level's code
 LEVELS = {"OV": (6, 0x07), "UV": (7, 0x0F), "OCD": (9, 0x0F), "SCD": (10, 0x0F)}
-QUICK_US = 1_000_000    # a delay that a scene waits for
 FEW = 8                 # a trigger that every scene goes for
+FULL = 128              # entries of a journal
+FLOODS = 0.01           # of the scenarios
 
 
 def garden_settings(row, trigger):
@@ -57,6 +60,11 @@ class DeskMaker(Maker):
     """Makes the lines of one session of the workshop."""
 
     answerer = Workshop
+
+    def __init__(self, seed):
+        super().__init__(seed)
+        self.reference = Workshop()
+        self.heard = 0          # lines of the session that the reference has been told
 
     # -- the forms of document 01, as the workshop may write them
 
@@ -205,8 +213,12 @@ class DeskMaker(Maker):
     def look(self, number):
         """A host board's latches stay until they are cleared."""
         super().look(number)
+        if self.chance(0.3):
+            self.listing(number)
         if self.boards[number - 1].kind == HOST and self.chance(0.4):
             self.clear(number)
+            if self.chance(0.2):
+                self.listing(number)
 
     # -- garden boards
 
@@ -284,6 +296,85 @@ class DeskMaker(Maker):
         if gardens:
             self.pick(self.filtered, self.filtered, self.filtered, self.heir, self.trips, self.unanswered)(self.rng.choice(gardens[:2]))
 
+    # -- journals
+
+    def entries(self, number):
+        """How many entries the board's journal has, by the reference, which is told what it has not heard yet."""
+        self.reference.answers(b"".join(line + b"\n" for line in self.lines[self.heard:]))
+        self.heard = len(self.lines)
+        stack = self.reference.stack
+        return len(stack.boards[number - 1].listing()) if stack and number <= len(stack.boards) else 0
+
+    def listing(self, number):
+        """A journal with room just enough, one short or any; at times of a board that there is not."""
+        count = self.entries(number)
+        room = self.pick(count, count, count, count - 1, count - 1, count + 1, 0, FULL - 1, FULL, FULL, FULL + 1, 256, 65536,
+                         LARGEST - 1, LARGEST)
+        if self.chance(0.08):
+            number = self.pick(0, len(self.boards) + 1, 17, 128 + number, 256 + number, LARGEST)
+        self.words("L", [number, max(0, room)])
+
+    def odd_listing(self):
+        """A listing with a field too few or too many, or with one that is no number or too large for one."""
+        number = self.number()
+        self.put(self.pick(
+            "L", "L ", f"L {number}", f"L {number} ", f"L {number} 128 ", f"L {number} 128 0", f"L  {number} 128", f"L {number}  128",
+            f"L 0{number} 128", f"L {number} 0128", f"L {number} 00", f"L {number} -0", f"L {number} -1", f"L -{number} 128",
+            f"L {number} +1", f"L {number} x", f"L s{number} 128", f"L{number} 128", f"L@128 {number}", f"L {number}@128",
+            f"l {number} 128", f"L {number} {LARGEST + 1}", f"L {number} {2**32 + 128}", f"L {number} {2**64 + 128}",
+            f"L {LARGEST + 1} 128", f"L {2**32 + number} 128", "L" + " 1" * 200))
+
+    def quick(self, aim):
+        """The faults of a board that latch and let go at one sample, or at two on a garden board."""
+        if aim.kind == GARDEN:
+            return aim.faults if aim.trigger <= 2 else ()
+        return [fault for fault in aim.faults if self.delay(aim, fault) == 0]
+
+    def flood(self):
+        """Latchings until a journal is full or over, on one board; listings about there."""
+        kinds = {}
+        for number, aim in enumerate(self.boards, 1):
+            if self.quick(aim):
+                kinds.setdefault(aim.kind, []).append(number)
+        if not kinds:
+            return
+        number = self.rng.choice(self.rng.choice(list(kinds.values())))
+        aim, left = self.boards[number - 1], self.pick(-2, -1, 0, 1, 1, 2, 5, FULL - 1, FULL, FULL + 1) + FULL - self.entries(number)
+        while left > 0:
+            faults = self.rng.sample(self.quick(aim), self.pick(*range(1, len(self.quick(aim)) + 1), len(self.quick(aim))))
+            self.trip(number, faults)
+            left -= len(faults)
+            if left < 3 or self.chance(0.01):
+                self.listing(number)
+            if self.chance(self.breaks * 0.2):
+                self.pick(self.refused_sample, self.program, self.stage, self.tallies, self.listing)(number)
+        for _ in range(self.pick(1, 2, 3)):
+            self.listing(number)
+
+    def trips(self, number):
+        """What latched over and over is listed."""
+        super().trips(number)
+        self.listing(number)
+
+    def joining(self, number):
+        """The cell that stood first is listed."""
+        super().joining(number)
+        self.listing(number)
+
+    def program(self, number):
+        """A programming leaves the journal."""
+        super().program(number)
+        if self.chance(0.1):
+            self.listing(number)
+
+    def bare(self):
+        """Listings before an opening too."""
+        if self.chance(0.5):
+            self.put(f"L {self.pick(0, 1, 1, 2, 17)} {self.pick(0, 1, FULL, LARGEST)}")
+        super().bare()
+        if self.chance(0.5):
+            self.listing(self.number())
+
     # -- the workshop's own
 
     def short_room(self):
@@ -358,12 +449,14 @@ class DeskMaker(Maker):
         """One of the workshop's own scenarios."""
         self.rng.choices(
             (self.hosted, self.grown, self.short_room, self.odd_room, self.long_list, self.odd_boards, self.later, self.refused_opening,
-             self.huge_line),
-            (14, 18, 8, 4, 6, 8, 4, 2, 0.06))[0]()
+             lambda: self.listing(self.number()), lambda: self.joining(self.number()), self.odd_listing, self.huge_line),
+            (14, 18, 8, 4, 6, 8, 4, 2, 12, 6, 4, 0.06))[0]()
 
     def scenario(self):
         """The bench's scenarios, and the workshop's own among them."""
-        if self.chance(0.3):
+        if self.chance(FLOODS):
+            self.flood()
+        elif self.chance(0.3):
             self.desk()
         else:
             super().scenario()

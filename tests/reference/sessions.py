@@ -12,6 +12,7 @@ from reference import STAND_ALONE, Bench, Settings, crc8, value_allowed
 
 LARGEST = 2147483647
 LONGEST_ELAPSED = 100000
+QUICK_US = 1_000_000    # a delay that a scene waits for
 
 # every delay code there is; sessions of consecutive seeds go through them all
 TOUR = [(fault, code) for fault, codes in (("OV", 8), ("UV", 16), ("OCD", 32), ("SCD", 16))
@@ -506,6 +507,39 @@ class Maker:
                 self.sample(number, 1, both)
         self.look(number)
 
+    def even(self, total, steps):
+        """Elapsed times that add up to the total, in so many steps or as many as it takes; all but one are equal."""
+        steps = min(max(steps, total // LONGEST_ELAPSED + 1), total)
+        times = [total // steps] * steps
+        times[self.rng.randrange(steps)] += total % steps
+        return times
+
+    def joining(self, number):
+        """Cells go past a level one after another, and some come back once: the first to stand is seldom the lowest."""
+        aim, fault = self.boards[number - 1], self.pick("OV", "UV")
+        if fault == "UV" and self.delay(aim, fault) == 0:
+            # without a delay no cell waits for another; on a board that nothing programs this is refused
+            self.unstage(number)
+            self.write(number, 9, aim.working[3] & 0x0F | self.rng.randint(1, 7) << 4)
+            self.program(number)
+        delay, s = self.delay(aim, fault), aim.settings
+        if delay > QUICK_US:
+            return
+        beyond, at = (s.ov_level + 1, s.ov_level) if fault == "OV" else (s.uv_level - 1, s.uv_level)
+        _, free = self.tripped(aim, ())
+        self.relieve(number, free)
+        times = [self.elapsed()] + self.even(delay + 1, self.pick(2, 3, 5, 8)) + [self.elapsed()] * self.pick(0, 1, 3)
+        some = self.rng.sample(range(aim.count), self.pick(2, 2, 3, aim.count))
+        joins = {cell: self.pick(0, place, self.rng.randrange(len(times))) for place, cell in enumerate(some)}
+        slips = {cell: self.rng.randrange(len(times)) for cell in some if self.chance(0.2)}
+        for step, elapsed in enumerate(times):
+            cells = list(free["cells"])
+            for cell in some:
+                if step >= joins[cell]:
+                    cells[cell] = at if slips.get(cell) == step else beyond
+            self.sample(number, elapsed, dict(free, cells=cells))
+        self.look(number)
+
     def crowd(self, number):
         """Flag many cells, then let them go one by one by their own reading."""
         aim = self.boards[number - 1]
@@ -706,7 +740,7 @@ class Maker:
         rng = self.rng
         at = rng.randint(0, len(line))
         odd = self.pick(b" ", b"0", b"-", b"+", b"\t", b"\r", b"\0", b"\x80", b"\xff",
-                        b"9", b"1", b"S", b".", b"a", b"h", b"g", b"/", bytes([rng.randrange(256)]))
+                        b"9", b"1", b"S", b"L", b".", b"a", b"h", b"g", b"/", bytes([rng.randrange(256)]))
         what = rng.randrange(10)
         if what == 0:
             return line[:at] + line[at + 1:]
@@ -738,10 +772,10 @@ class Maker:
             self.put(bytes(self.rng.randrange(256) for _ in range(size)))
         elif what == 2:
             size = self.pick(1, 2, 5, 20, 199, 200, 201)
-            self.put(bytes(self.rng.choice(b"OSFR 0123456789-") for _ in range(size)))
+            self.put(bytes(self.rng.choice(b"OSFRL 0123456789-") for _ in range(size)))
         elif what == 3:
-            self.put(self.pick(b"O", b"S", b"F", b"R", b"X", b" ", b"-", b"0",
-                               b"O ", b"S ", b"F ", b"R ", b" R", b"R 0", b"RR"))
+            self.put(self.pick(b"O", b"S", b"F", b"R", b"X", b"L", b" ", b"-", b"0",
+                               b"O ", b"S ", b"F ", b"R ", b" R", b"R 0", b"RR", b"L 1 0", b"L 1 128"))
         else:
             self.long_line(self.pick(199, 200, 200, 201, 201, 1000))
 
@@ -791,6 +825,7 @@ class Maker:
             (5, lambda: self.marked(number)),
             (1, lambda: self.twins(number)),
             (3, lambda: self.turns(number)),
+            (4, lambda: self.joining(number)),
             (4, lambda: self.crowd(number)),
             (3, lambda: self.heat(number)),
             (3, lambda: self.trips(number)),
