@@ -10,7 +10,7 @@ use Rattle.journal.specs.Ring.{Entry, latching}
 abbrev pub numberTop : ℕ
 numberTop = 4294967295
 
-unfoldable pub numberNext : ℕ → ℕ
+abbrev pub numberNext : ℕ → ℕ
 numberNext n = min numberTop (n + 1)
 
 abbrev pub cause : Fault → ℕ

@@ -285,10 +285,7 @@ fn last_by(x: Readings, span: Span) -> Last
 fn number_next(samples: u32) -> u32
     ensures { λ r. ⌜ r ≡ numberNext samples ⌝ }
 {
-    if samples < 4294967295 {
-        return samples + 1;
-    }
-    samples
+    if samples < 4294967295 { samples + 1 } else { 4294967295 }
 }
 
 // The shunt reads above a level; no charge current does.

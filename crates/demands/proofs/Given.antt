@@ -134,7 +134,6 @@ tallies-next p h x mv = λ i. tallies (λ f. tally-next p f h x mv i)
 
 -- so the number, and the journal by what latches at it and the cells that made it
 number-next : (h : History) (x : Readings) (mv : List ℕ) → numberNext (sampleNumber h) ≡ sampleNumber (sampled x mv ∷ h)
-unfolding numberNext
 number-next h x mv = omega arith
 
 pub samples-next : (p : Plan) (h : History) (x : Readings) (mv : List ℕ) → numberNext (given p h .samples) ≡ given p (sampled x mv ∷ h) .samples
