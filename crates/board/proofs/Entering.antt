@@ -46,8 +46,8 @@ entering-is s =
 pub all-done : (s : Noted) → nothingUp (s .note) ≡ true → (s .note .answer ≡ entering s .answer) × (s .board ≡ entering s .board)
 all-done s e = (rw e, rw e)
 
-pub not-done : (s : Noted) → nothingUp (s .note) ≡ false → enteredOf (s .board) (s .note) ≡ entering s
-not-done s e = rw e
+pub not-done : (s : Noted) → nothingUp (s .note) ≡ false → (enteredOf (s .board) (s .note) .answer ≡ entering s .answer) × (enteredOf (s .board) (s .note) .board ≡ entering s .board)
+not-done s e = (rw e, rw e)
 
 -- ---- the cells of faults that did not latch do not count
 pub noted-cells : (b : Board) (up : Latches) (ov uv : ℕ) → entered b up (cellOf (lowestIf (latch OV up) ov) (lowestIf (latch UV up) uv)) ≡ entered b up (cellOf (lowestIf true ov) (lowestIf true uv))

@@ -285,7 +285,11 @@ fn last_by(x: Readings, span: Span) -> Last
 fn number_next(samples: u32) -> u32
     ensures { λ r. ⌜ r ≡ numberNext samples ⌝ }
 {
-    if samples < 4294967295 { samples + 1 } else { 4294967295 }
+    if samples < 4294967295 {
+        samples + 1
+    } else {
+        4294967295
+    }
 }
 
 // The shunt reads above a level; no charge current does.
@@ -598,7 +602,16 @@ fn span_found(found: Found) -> Span
 
 // ---- the record behind a reference, by shapes of crate walks
 
-// The ways of an accepted sample: the record is taken apart, stepped by value and stored back. Where something latched it goes on to be entered.
+// Where something latched it is entered. By itself, so that the compiler copies the journal here and nowhere else.
+fn enter_board(b: &mut Board, note: Note) -> Answer
+    ensures { λ r. ⌜ (r ≡ enteredOf (now (b .entry)) note .answer) × (now (b .exit) ≡ enteredOf (now (b .entry)) note .board) ⌝ }
+{
+    let s = enter(*b, note);
+    *b = s.board;
+    s.answer
+}
+
+// The ways of an accepted sample: the record is taken apart, stepped by value and stored back.
 fn rest_board(b: &mut Board, x: Readings, span: Span, mv: &[u32]) -> Answer
     ensures { λ r. ⌜ (r ≡ restedOf (now (b .entry)) x span .answer) × (now (b .exit) ≡ restedOf (now (b .entry)) x span .board) ⌝ }
 {
@@ -616,11 +629,7 @@ fn accept_board(b: &mut Board, x: Readings, span: Span, mv: &[u32]) -> Answer
     if nothing(note) {
         return answer_in(note);
     }
-    // a place of its own: the step's copy of the record then needs none
-    let stepped = *b;
-    let t = enter(stepped, note);
-    *b = t.board;
-    t.answer
+    enter_board(b, note)
 }
 
 fn grow_board(b: &mut Board, x: Readings, span: Span, mv: &[u32]) -> Answer
@@ -632,11 +641,7 @@ fn grow_board(b: &mut Board, x: Readings, span: Span, mv: &[u32]) -> Answer
     if nothing(note) {
         return answer_in(note);
     }
-    // a place of its own: the step's copy of the record then needs none
-    let stepped = *b;
-    let t = enter(stepped, note);
-    *b = t.board;
-    t.answer
+    enter_board(b, note)
 }
 
 // A sample of one board: refused, with its answer; quiet; a garden board's; or it may change the board.

@@ -6,7 +6,7 @@
 --     shows-row, row-home       the row is shown for a new lifetime, and comes home as it was
 --     lends-row, lent-home      the row is lent as a `&mut [T]` for a new lifetime, and comes home with what the callee left in it
 --     settles          a row that is let go is seen for good as it is
---     opens-ref        the record behind a `&mut T` is taken out.        settles-ref, shuts-ref     it is put back as the last one, and as it was for more to come
+--     opens-ref        the record behind a `&mut T` is taken out.        settles-ref, shuts-ref     it is put back as the last one, and as it was for more to come.        moves-ref     another is put in its place for more to come, behind `ref-as`
 -- Each lending begins with [the token; the row] and each coming home ends with them.
 use mathlib.Core.Path.{_≡_, refl, sym, subst}
 use Prim.Native.Nat.{ℕ, _<_}
@@ -145,6 +145,10 @@ module _ {M : Type 1} {𝓤 : URA M} {H : Heap 𝓤} {A : Atoms 𝓤} (R : Rattl
 abbrev OpenRef : (R : RattleType) → RefT (R .Denot) → Lft → Share → Fml
 OpenRef R y κ q = fsep (fobor κ q (Body (mem R) (y .ptr .0) (y .ptr .1) (name y))) (fsep (fobs (name y) (R .coded .code (now y))) (fauth (name y) (R .coded .code (now y))))
 
+-- the reference with another record behind it
+abbrev pub ref-as : (R : RattleType) → RefT (R .Denot) → R .Denot → RefT (R .Denot)
+ref-as R y h = record { ptr = y .ptr; name = name y; now = h }
+
 abbrev pub held-at : (R : RattleType) → RefT (R .Denot) → Val → Fml
 held-at R y v = cellAt fullShare (R .mir) (v ∷ []) (y .ptr .0) (y .ptr .1)
 
@@ -168,3 +172,6 @@ module _ {M : Type 1} {𝓤 : URA M} {H : Heap 𝓤} {A : Atoms 𝓤} {K : Type 
 
   pub shuts-ref : K → Soaks G → {κ : Lft} {q : Share} → Is R (now y) (P .val (now y) ∷ []) → Step K W (‵ (flft κ q) ∷ ‵ (mut-ref R κ y) ∷ Γ) G (‵ (held-at R y (P .val (now y))) ∷ ‵ (OpenRef R y κ q) ∷ Γ) G
   shuts-ref t z g = step (λ s. closes-ref t z (now y) g $ feqI t (List Val) (ptr-vals y) (ptr-vals y) refl $ fjoin3 t $ move t (1 ∷ 0 ∷ []) $ s)
+
+  pub moves-ref : K → Soaks G → {κ : Lft} {q : Share} (h : R .Denot) → Is R h (P .val h ∷ []) → Step K W (‵ (flft κ q) ∷ ‵ (mut-ref R κ (ref-as R y h)) ∷ Γ) G (‵ (held-at R y (P .val h)) ∷ ‵ (OpenRef R y κ q) ∷ Γ) G
+  moves-ref t z h g = step (λ s. closes-ref t z h g $ feqI t (List Val) (ptr-vals y) (ptr-vals y) refl $ fjoin3 t $ move t (1 ∷ 0 ∷ []) $ s)
