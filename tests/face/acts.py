@@ -126,14 +126,9 @@ def frame_told(told, data, room):
 
 def listing_told(told, number, room):
     """The number, the count and the buffer's words, by the reference."""
-    result, count, words = 0, BLANK, [BLANK] * (3 * room)
-    try:
-        entries = told.stack.listing(number, room)
-        count = len(entries)
-        words[:3 * count] = [n for entry in entries for n in entry]
-    except Refusal as refusal:
-        result = refusal.number
-    return " ".join(str(n) for n in [result, count] + words)
+    lent = [(BLANK,) * 3] * room
+    answer = told.act(lambda: [told.stack.listing(number, lent)], [str(BLANK)])
+    return " ".join([answer] + [str(n) for entry in lent for n in entry])
 
 
 def listed(script, told, boards, number, room):
@@ -166,8 +161,8 @@ def session(script, seed):
                 boards = len(fields[0])
         elif told.stack is None:
             continue
-        elif line.startswith(b"L"):
-            number, room = (int(word) for word in line.split()[1:])
+        elif act is Workshop.listing:
+            number, room = fields[0]
             listed(script, told, boards, number, min(room, LARGEST_ROOM))
         elif fields and len(fields[0]) > LONGEST_LIST:
             continue

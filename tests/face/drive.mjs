@@ -54,13 +54,6 @@ const readings = ([elapsed, shunt, thermistor, load]) => ({ elapsed, shunt, ther
 const sampled = ({ status, bled }) => [status, bled];
 const NOT_SAMPLED = [PATTERN, PATTERN << 8 | PATTERN];
 
-// The buffer is the face's own here, so what lies behind the listing is what drive.c has there.
-function listed(boards, board, room) {
-  const entries = row.first(boards).listing(board, room);
-  const words = entries.flatMap(({ cause, cell, number }) => [cause, cell, number]);
-  return [entries.length, ...words, ...Array(3 * room - words.length).fill(BLANK)];
-}
-
 const acts = {
   O: ([boards, ...counts]) => told(() => { row.first(boards).open(counts); return []; }, []),
   P: ([boards, ...fours]) => told(() => { row.first(boards).openPlans(plans(fours)); return []; }, []),
@@ -75,7 +68,11 @@ const acts = {
     const { line, chg, dsg, board, cell } = row.first(boards).read();
     return [+line, +chg, +dsg, board, cell];
   }, Array(5).fill(PATTERN)),
-  L: ([boards, board, room]) => told(() => listed(boards, board, room), Array(1 + 3 * room).fill(BLANK)),
+  L: ([boards, board, room]) => {
+    const words = new Uint32Array(3 * room).fill(BLANK);
+    const number = told(() => [row.first(boards).listingInto(board, words)], [BLANK]);
+    return [...number, ...words];
+  },
 };
 
 const answers = [];

@@ -30,7 +30,7 @@ for (const n of [2 ** 32, 2 ** 32 + 5, -1, 0.5, NaN, Infinity, undefined]) {
   refused(1, () => adomvik.openPlans([Plan.garden(3, n, 1)]));
   refused(1, () => adomvik.openPlans([Plan.garden(3, BQ7791500, n)]));
   refused(2, () => stack.sample(n, quiet, five));
-  refused(2, () => stack.listing(n, 128));
+  refused(2, () => stack.listing(n));
   refused(4, () => stack.sample(1, { ...quiet, elapsed: n }, five));
   refused(5, () => stack.sample(1, { ...quiet, thermistor: n }, five));
   refused(5, () => stack.sample(1, { ...quiet, load: n }, five));
@@ -69,12 +69,12 @@ assert.equal(stack.frame([2, 0, 0, 214])[2], 16);
 
 // its journal goes with it, and its number of samples, which is held at the top
 const hot = (number) => ({ cause: 4, cell: 0, number });
-assert.deepEqual(stack.listing(1, 1), [hot(1)]);
+assert.deepEqual(stack.listing(1), [hot(1)]);
 const late = other.record(0);
 late.set([254, 255, 255, 255], 132);
 other.setRecord(0, late);
 for (const thermistor of [2000, 900, 2000, 900]) other.sample(1, { ...quiet, thermistor }, five);
-assert.deepEqual(other.listing(1, 3), [hot(1), hot(2 ** 32 - 1), hot(2 ** 32 - 1)]);
+assert.deepEqual(other.listing(1), [hot(1), hot(2 ** 32 - 1), hot(2 ** 32 - 1)]);
 
 // a host board: its register 1, which a stand-alone board has not
 const hosted = adomvik.openPlans([Plan.host(5), Plan.standAlone(6)]);
@@ -105,12 +105,26 @@ assert.deepEqual(hosted.sample(1, { ...quiet, shunt: 60001 }, five), { status: 1
 assert.equal(hosted.frame([2, 16, 0, 129])[2], 255);
 assert.equal(hosted.frame([2, 24, 0, 41])[2], 255);
 
-// the journal of both short circuits, with room for them, for more, and for less
-const both = [{ cause: 0, cell: 0, number: 1 }, { cause: 0, cell: 0, number: 3 }];
-for (const room of [2, 3, 128, 129, 2 ** 31]) assert.deepEqual(hosted.listing(1, room), both);
-for (const room of [0, 1]) refused(14, () => hosted.listing(1, room));
-assert.deepEqual(hosted.listing(2, 0), []);
-for (const board of [0, 3]) refused(2, () => hosted.listing(board, 0));
+// the journal of both short circuits, with numbers lent for them, for more, and for less
+const lent = (many) => new Uint32Array(many).fill(7);
+const both = [0, 0, 1, 0, 0, 3];
+assert.deepEqual(hosted.listing(1), [{ cause: 0, cell: 0, number: 1 }, { cause: 0, cell: 0, number: 3 }]);
+for (const many of [6, 7, 8, 9, 384, 385, 1000]) {
+  const words = lent(many);
+  assert.equal(hosted.listingInto(1, words), 2);
+  assert.deepEqual([...words], [...both, ...lent(many - 6)]);
+}
+for (const [number, board, many] of [[14, 1, 0], [14, 1, 3], [14, 1, 5], [2, 0, 6], [2, 3, 6], [2, 3, 0]]) {
+  const words = lent(many);
+  refused(number, () => hosted.listingInto(board, words));
+  assert.deepEqual(words, lent(many));
+}
+assert.deepEqual(hosted.listing(2), []);
+assert.equal(hosted.listingInto(2, lent(0)), 0);
+for (const board of [0, 3]) refused(2, () => hosted.listing(board));
+for (const none of [[...lent(6)], new Int32Array(6), new Uint8Array(24), undefined, 6]) {
+  assert.throws(() => hosted.listingInto(1, none), TypeError);
+}
 
 // a garden board: counts of samples, and of the registers only 0 and those of the tallies
 const garden = adomvik.openPlans([Plan.garden(3, BQ7791500, 2), Plan.garden(5, BQ7791504, 255)]);
@@ -128,7 +142,7 @@ const over = [3600, 4201, 3600];
 assert.deepEqual(garden.sample(1, quiet, over), { status: 192, bled: 0 });
 assert.deepEqual(garden.sample(1, quiet, over), { status: 68, bled: 0 });
 assert.equal(garden.frame([2, 18, 0, 171])[2], 1);
-assert.deepEqual(garden.listing(1, 1), [{ cause: 2, cell: 2, number: 4 }]);
-assert.deepEqual(garden.listing(2, 0), []);
+assert.deepEqual(garden.listing(1), [{ cause: 2, cell: 2, number: 4 }]);
+assert.deepEqual(garden.listing(2), []);
 assert.equal(garden.sample(2, quiet, five).status, 68);
 console.log("no difference");
