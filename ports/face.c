@@ -54,7 +54,7 @@ uint32_t adomvik_list(const adomvik_board *row, size_t boards, uint32_t board, u
     return proved_list(row, boards, board, words, many);
 }
 
-/* ---- what the compiler may call for a copy or a fill, each target's under its own names, so that the archive calls nothing */
+/* ---- what the compiler may call for a copy, a fill or a product, each target's under its own names, so that the archive calls nothing */
 
 #ifndef __wasm__ /* it has instructions for both */
 #define COPIES __attribute__((used, no_builtin)) static
@@ -71,6 +71,21 @@ static inline void copy(void *to, const void *from, size_t bytes)
     else
         for (size_t i = 0; i < bytes; i++)
             t[i] = f[i];
+}
+
+/* The same between places that may overlap: from the end where the later one is put. */
+static inline void move(void *to, const void *from, size_t bytes)
+{
+    uint8_t *t = to;
+    const uint8_t *f = from;
+    if ((uintptr_t)t - (uintptr_t)f >= bytes)
+        copy(to, from, bytes);
+    else if (((uintptr_t)t | (uintptr_t)f | bytes) % sizeof(quad) == 0)
+        for (size_t i = bytes; i > 0; i -= sizeof(quad))
+            *(quad *)(t + i - sizeof(quad)) = *(const quad *)(f + i - sizeof(quad));
+    else
+        for (size_t i = bytes; i > 0; i--)
+            t[i - 1] = f[i - 1];
 }
 
 static inline void fill(void *to, uint8_t with, size_t bytes)
@@ -90,10 +105,20 @@ COPIES void __aeabi_memcpy(void *to, const void *from, size_t bytes)
     copy(to, from, bytes);
 }
 
-/* where both places are known to lie at four bytes */
+/* these with a 4: where the places are known to lie at four bytes */
 COPIES void __aeabi_memcpy4(void *to, const void *from, size_t bytes)
 {
     copy(to, from, bytes);
+}
+
+COPIES void __aeabi_memmove(void *to, const void *from, size_t bytes)
+{
+    move(to, from, bytes);
+}
+
+COPIES void __aeabi_memmove4(void *to, const void *from, size_t bytes)
+{
+    move(to, from, bytes);
 }
 
 COPIES void __aeabi_memclr(void *to, size_t bytes)
@@ -101,15 +126,32 @@ COPIES void __aeabi_memclr(void *to, size_t bytes)
     fill(to, 0, bytes);
 }
 
-/* likewise: the journal of a board that is opened */
 COPIES void __aeabi_memclr4(void *to, size_t bytes)
 {
     fill(to, 0, bytes);
 }
+
+#if __ARM_ARCH_ISA_THUMB == 1
+/* A product of 64 bits, which a Cortex-M0 has no instructions for: a listing's length in words is one, three times a small number. */
+COPIES uint64_t __aeabi_lmul(uint64_t a, uint64_t b)
+{
+    uint64_t product = 0;
+    for (; b != 0; a <<= 1, b >>= 1)
+        if (b & 1)
+            product += a;
+    return product;
+}
+#endif
 #else
 COPIES void *memcpy(void *to, const void *from, size_t bytes)
 {
     copy(to, from, bytes);
+    return to;
+}
+
+COPIES void *memmove(void *to, const void *from, size_t bytes)
+{
+    move(to, from, bytes);
     return to;
 }
 
