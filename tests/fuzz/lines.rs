@@ -48,13 +48,26 @@ fn shape(answer: &[u8]) -> (String, Vec<u32>) {
     (words.join(" "), numbers)
 }
 
+/// The numbers of a listing: how many entries, and for each its cause, its cell and its sample. Only OV and UV have a cell, and
+/// entries come by their samples, those of one sample by their causes.
+fn is_listing(numbers: &[u32]) -> bool {
+    let Some((count, words)) = numbers.split_first() else { return false };
+    let entries: Vec<_> = words.chunks_exact(3).collect();
+    let place = |entry: &&[u32]| (entry[2], entry[0]);
+    *count <= 128
+        && words.len() == 3 * *count as usize
+        && entries.iter().all(|entry| entry[0] <= 4 && entry[1] <= 10 && (entry[1] > 0) == (2..=3).contains(&entry[0]) && entry[2] > 0)
+        && entries.windows(2).all(|pair| place(&pair[0]) < place(&pair[1]))
+}
+
 fn is_answer(answer: &[u8]) -> bool {
     let (words, numbers) = shape(answer);
     match words.as_str() {
         "ok" => true,
-        "no #" => (1..=13).contains(&numbers[0]),
+        "no #" => (1..=14).contains(&numbers[0]),
         "st # bal #" => numbers[0] <= 255 && numbers[0] & 32 == 0 && numbers[1] < 1024,
         "re # # # #" => numbers.iter().all(|byte| *byte <= 255),
+        listing if listing.starts_with("ls #") && listing.len() == 2 + 2 * numbers.len() => is_listing(&numbers),
         "ln # chg # dsg # at # #" => numbers[..3].iter().all(|flag| *flag <= 1) && numbers[3] <= 16 && numbers[4] <= 10,
         _ => false,
     }
