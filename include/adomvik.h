@@ -1,8 +1,7 @@
 /* Adomvik: a proved battery-pack protector, for C11 and C++.
  *
  * A stack is one row of board records, southernmost first, that the caller owns. Every act is lent the row, or one record,
- * and changes it where it lies. The library keeps nothing of its own, allocates nothing, and calls nothing but, on
- * x86-64, memcpy, memmove and memset.
+ * and changes it where it lies. The library keeps nothing of its own, calls nothing and allocates nothing.
  *
  * Results. Every function returns 0 where the act was accepted, and else the number of the refusal (enum below). A refused
  * act has changed nothing: not the row, not the reply buffer or the entry buffer, not the place for the answer. adomvik_list alone
