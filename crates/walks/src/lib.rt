@@ -14,14 +14,15 @@
 //                 look                              answers: this is returned, and all that is lent stays as it is
 //                 f(row, x, ..)                     calls-all, calls-on: its answer is returned. f takes all parameters, or some and values at hand
 //                 let a = f(row, x, ..); h(a)       tells-on: what h makes of the answer is returned
-//                 let at = look; if at < row.len() { piece } piece        at-place, of a `&mut [T]` that is the first parameter
+//                 let at = look; if at < row.len() { piece } piece        at-place, of a `&mut [T]` that is the first parameter; at-shown, of a `&[T]`
 //                 f(&mut row[at], x, ..)            lends-at: its answer is returned
+//                 .. row[at] ..                     copies-at, of a `&[T]`: a piece that has a copy of the element at hand, as for a call by value
 //
-// crates/registers has obey_board (branches by what is asked) and program_board (by the record), crates/stack sample_stack (by the row) and sample_at (a place in a row), and crates/board
-// sample_board (a look first).
+// crates/registers has obey_board (branches by what is asked) and program_board (by the record), crates/stack sample_stack (by the row), sample_at (a place in a row) and list_at (a place in a row that is only
+// shown), and crates/board sample_board (a look first).
 //
 // Else it is one of the shapes below, each in proofs/NAME.antt, statement for statement, and is proved by a file that fills in the records Shape and Knows of its theorem and cites `meets`.
-// crates/stack, crates/held and crates/session have functions of these shapes with that file, and proofs/Known.antt with what is to be known of the crate's own types.
+// crates/board, crates/stack, crates/held and crates/session have functions of these shapes with that file, and proofs/Known.antt with what is to be known of the crate's own types.
 //
 // T is a declared struct of plain fields. X, N, K, S, Y, Z, B and O are plain: a number, a bool, a declared struct or enum of such, an array of such. E and G are what a
 // slice can hold, and where they fill a local array they are plain too. Names of locals, fields and functions are free; statements, their order and the order of
@@ -34,6 +35,8 @@
 //                 f: r ≡ F b x cells            g: (r ≡ F b x cells .answer) × (b' ≡ F b x cells .board)
 // BesideTwo       fn g(b: &mut T, x: X, z: Z, cells: &[E]) -> O { let s = f(*b, x, z, cells); *b = s.board; s.answer }
 //                 f: r ≡ F b x z cells          g: (r ≡ F b x z cells .answer) × (b' ≡ F b x z cells .board)
+// Twice           fn g(b: &mut T, x: X, z: Z, cells: &[E]) -> O { let s = f(*b, x, z, cells); *b = s.board; let n = s.note; if done(n) { return told(n); } let c = *b; let t = h(c, n); *b = t.board; t.answer }
+//                 f: r ≡ F b x z cells          done: r ≡ is-done n      told: r ≡ tells n        h: r ≡ G b n             g: (r ≡ end (F b x z cells) .answer) × (b' ≡ end (F b x z cells) .board)
 // Every           fn g(row: &[T]) -> bool { if f0(row.len()) { return false; } let mut i = 0; while i < row.len() { if f(row[i]) { return false; } i += 1; } true }
 //                 f0: r ≡ bad-count n           f: r ≡ bad b             g: r ≡ A row
 // Fold            fn g(row: &[T]) -> B { let mut acc = init(); let mut i = 0; while i < row.len() { acc = f(acc, i, row[i]); i += 1; } acc }
