@@ -498,7 +498,7 @@ fn out_of_range(x: Readings, span: Span) -> bool
     (5000 < span.high) | (5000 < x.thermistor) | outside | (1 < x.load)
 }
 
-// A sample that finds nothing, on a board that has nothing on record: it changes nothing but the last sample. The record is looked at first.
+// A sample that finds nothing, on a board that has nothing on record: it changes nothing but the last sample and its number. The record is looked at first.
 fn quiet(b: Board, x: Readings, span: Span) -> bool
     ensures { λ r. ⌜ r ≡ quietOf b x span ⌝ }
 {
