@@ -2,7 +2,7 @@
 -- acts is shown in proofs/Fills.antt and proofs/Ways.antt; nobody need believe them.
 -- Assumes nothing.
 use Prim.Native.Nat.{ℕ, zero, suc, _+_, _-_, _*_}
-use mathlib.Core.Bool.{Bool, true, false, cond}
+use mathlib.Core.Bool.{Bool, true, false, cond, not}
 use mathlib.Core.List.{List}
 use lib.Dec.{ltb, eqb}
 use lib.ListN.{length, getD, set}
@@ -16,7 +16,7 @@ use Rattle.board.specs.declared.Readings.{Readings}
 use Rattle.board.specs.declared.Answer.{Answer}
 use Rattle.board.specs.declared.Answer.the-variants as answer
 use Rattle.board.specs.Sample.{sampleOf}
-use Rattle.board.specs.Sample.{fresh}
+use Rattle.board.specs.Sample.{fresh, badBoard}
 use Rattle.frame.specs.declared.Taken.{Taken}
 use Rattle.frame.specs.declared.Request.{Request}
 use Rattle.frame.specs.declared.Reply.{Reply}
@@ -36,6 +36,10 @@ use Rattle.stack.specs.declared.Progress.{Progress}
 use Rattle.stack.specs.declared.Placed.{Placed}
 use Rattle.stack.specs.Row.{placeOf, boardAt}
 use Rattle.stack.specs.Open.{openBars}
+
+-- ---- no record of a row is bad
+abbrev pub allGood : List Board → Bool
+allGood row = every (λ b. not (badBoard b)) row
 
 -- ---- an opening, record by record
 abbrev pub fillFrom : ℕ → ℕ → Bool → Progress

@@ -1,11 +1,12 @@
 // The public library: a stack as one row of board records, lent to each routine (01, The stack and its readings; 02, tickets 3 and 8).
 // Every routine over lent records is put together of pieces of crate walks or is one of its shapes, and calls proved work on plain values.
 ghost use mathlib.Core.Path.{_≡_};
+ghost use mathlib.Core.Bool.{true, false};
 ghost use Rattle.registers.specs.Registers.{obeyedOf};
 ghost use Rattle.stack.specs.Row.{badCount, goodRow, placeOf};
 ghost use Rattle.stack.specs.Open.{goodPlans, openAnswer, openRow, openCountsAnswer, openCountsRow};
 ghost use Rattle.stack.specs.Sample.{sampleAnswer, sampleRow};
-ghost use Rattle.stack.specs.Way.{refusedFill, startOf, more, placedOf, fillAt, fillRowAt, fillEnd, fillRow, openingBy, plainCounts, noOpening, sampleAnswerAt, sampleRowAt, noSample, noRowSample, askedPlace, obeyOutcomeAt, obeyRowAt, frameAnswerIn, frameRowIn, frameBufferIn, noOutcome, noRowReply, noListing, noRowListing, listingIn, bufferIn, listAnswerAt, listBufferAt, noRowView};
+ghost use Rattle.stack.specs.Way.{allGood, refusedFill, startOf, more, placedOf, fillAt, fillRowAt, fillEnd, fillRow, openingBy, plainCounts, noOpening, sampleAnswerAt, sampleRowAt, noSample, noRowSample, askedPlace, obeyOutcomeAt, obeyRowAt, frameAnswerIn, frameRowIn, frameBufferIn, noOutcome, noRowReply, noListing, noRowListing, listingIn, bufferIn, listAnswerAt, listBufferAt, noRowView};
 ghost use Rattle.stack.specs.Frame.{frameAnswer, frameRow, frameBuffer};
 ghost use Rattle.stack.specs.List.{listAnswer, listBuffer};
 ghost use Rattle.stack.specs.Read.{readingOf};
@@ -43,20 +44,40 @@ fn bad_count(boards: usize) -> bool
     (boards < 1) | (16 < boards)
 }
 
-fn good_row(row: &[Board]) -> bool
-    ensures { λ r. ⌜ r ≡ goodRow (now (row .entry)) ⌝ }
+// What the search for a bad record ends with: there is one at this place, or there is none among so many.
+fn found_bad(at: usize) -> bool
+    ensures { λ r. ⌜ r ≡ false ⌝ }
 {
-    if bad_count(row.len()) {
-        return false;
-    }
+    false
+}
+
+fn found_none(boards: usize) -> bool
+    ensures { λ r. ⌜ r ≡ true ⌝ }
+{
+    true
+}
+
+fn all_good(row: &[Board]) -> bool
+    ensures { λ r. ⌜ r ≡ allGood (now (row .entry)) ⌝ }
+{
     let mut i = 0;
     while i < row.len() {
         if board::bad_board(row[i]) {
-            return false;
+            return found_bad(i);
         }
         i += 1;
     }
-    true
+    found_none(i)
+}
+
+fn good_row(row: &[Board]) -> bool
+    ensures { λ r. ⌜ r ≡ goodRow (now (row .entry)) ⌝ }
+{
+    let boards = row.len();
+    if bad_count(boards) {
+        return false;
+    }
+    all_good(row)
 }
 
 // Past the end of every good row; the largest number, so that the compiled code takes 1 from 0 too.

@@ -14,7 +14,7 @@ pub mod Through
 pub mod Beside
 pub mod BesideTwo
 pub mod Twice
-pub mod Every
+pub mod First
 pub mod Fold
 pub mod Sought
 pub mod Framed

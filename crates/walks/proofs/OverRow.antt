@@ -1,4 +1,4 @@
--- A loop over a shared row, which a turn may leave: what Every, Fold and Sought have in common.
+-- A loop over a shared row, which a turn may leave: what First, Fold and Sought have in common.
 -- Assumes nothing.
 --     while i < row.len() { .. row[i] ..; i += 1; } rest
 -- row is the local 1. A turn has the element by value in a local of its own, and the rest of the turn is free: it may return, break out of the loop, or go on to `i += 1` with another state.

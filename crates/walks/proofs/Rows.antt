@@ -2,7 +2,7 @@
 -- Assumes nothing.
 --     copied B T l     a look with a copy of the record at hand: in `g(*b, ..)` it is the newest value
 --     asks-row F g     a look, `g(row)`: the row is shown for the time of the call.        asks-slice F g     the same of a `&[R]`
---     how-many         a look, `row.len()`
+--     how-many         a look, `row.len()`.        how-many-shown     the same of a `&[R]`
 --     at-place v F g p q     the piece `let at = g(x); if at < row.len() { p } q`, of one value at hand: it says `r ≡ F x`. For p and q it is the newest
 --     at-shown         the same of a `&[R]`.        copies-at B T v z p     the piece p with a copy of the element at v at hand, as in `g(row[at], ..)`: the newest value, in no local that has a name. z is what stands past the end
 --     lends-at v z ls h S g     the piece `g(&mut row[at], ..)`, whose answer is returned: the element is lent for the time of the call, and h hands on of the other parameters. z is what stands past the end
@@ -176,8 +176,11 @@ if-within n k b₁ b₂ = steps (sets k (rvOpd (len-of 1)) ∷ sets (suc k) (op2
 abbrev lending : {n m : ℕ} {Qs : List RattleType} {all ks : List (Kind n)} {ls : List (Kind m)} → RattleType → Var all Qs usize → Hands Qs all ks ls → Name → Spots Qs → ℕ → ℕ → Body
 lending R v h g ms j k = steps (finds-elem R 1 (place-of v ms) k (suc k)) (seq (sets (suc (suc k)) (addrOf (place (suc k) (deref (ty R) ∷ [])))) (calling h (suc (suc k) ∷ []) g ms 2 zero (suc (suc (suc k))) return))
 
--- a place in the row y, which is the first parameter, shown or handed on
+-- the length of the row y, which is the first parameter, shown or handed on, and a place in it
 module _ {M : Type 1} {𝓤 : URA M} {H : Heap 𝓤} {A : Atoms 𝓤} {g : Form} (c : Scene 𝓤 H A g) (R : RattleType) (y : RefT (List (R .Denot))) (space : Room R (length (now y))) {ρ : Ty} (lies-first : (Qs : List RattleType) (ms : Spots Qs) (hs : Held 𝓤 H A Qs) (E : Layout) (us : Store) (k : ℕ) → Hand c Qs ms hs E us k → Known E us k 1 (sliceTy ρ) (slice-val y)) where
+  counts-row : {Qs : List RattleType} {hs : Held 𝓤 H A Qs} → Look c Qs hs usize (uint 𝓤 H A (c .W) w64) (length (now y)) [] (λ ms d k rest. seq (sets d (rvOpd (len-of 1))) rest)
+  counts-row {Qs} {hs} = record { looks = λ E us ms d k q rest h are d-is go. sets-in ! E us d d-is (tt, record { fits = space .0 }) (of-opd ! (len-in E us 1 ! (lies-first Qs ms hs E us k h))) $ go us (λ _ _. refl) (refl, space .0) }
+
   -- it lies in a local already
   within : {Qs : List RattleType} {hs : Held 𝓤 H A Qs} (v : Var (g .params) Qs usize) {ns₁ ns₂ ts₁ ts₂ : List Local} {b₁ b₂ : Spots Qs → ℕ → ℕ → Body} → let i = values c hs usize v .1 in
       (i < length (now y) → Piece c Qs hs ns₁ ts₁ b₁) → (length (now y) ≤ i → Piece c Qs hs ns₂ ts₂ b₂)
@@ -203,6 +206,9 @@ module _ {M : Type 1} {𝓤 : URA M} {H : Heap 𝓤} {A : Atoms 𝓤} {g : Form}
   finds-place v F f meets p₁ p₂ = lets (uint 𝓤 H A (c .W) w64) _ (asks-of v F f meets) (within newest p₁ p₂)
 
 module _ {M : Type 1} {𝓤 : URA M} {H : Heap 𝓤} {A : Atoms 𝓤} {W : Given 𝓤 H A} {𝓣 : Tables 𝓤 H} {m : ℕ} {R : RattleType} {ks : List (Kind (suc m))} {O : RattleType} {S : Said (shown zero tt R ∷ ks) O} {N : Plains 𝓤 H A ks} {P₀ : PlainType 𝓤 H A O} {κs : Lfts (suc m)} {qs : Shares (suc m)} {a : Passed κs (shown zero tt R ∷ ks)} {so : Facts 𝓤 H A κs (shown zero tt R ∷ ks) N a} where
+  pub how-many-shown : {Qs : List RattleType} {hs : Held 𝓤 H A Qs} → Look (scene W 𝓣 (shown zero tt R ∷ ks) O S N P₀ κs qs a so) Qs hs usize (uint 𝓤 H A W w64) (length (now (a .0))) [] (λ ms d k rest. seq (sets d (rvOpd (len-of 1))) rest)
+  how-many-shown = counts-row (scene W 𝓣 (shown zero tt R ∷ ks) O S N P₀ κs qs a so) R (a .0) (so .0) (λ Qs ms hs E us k h. h .params .0)
+
   pub at-shown : {Qs : List RattleType} {hs : Held 𝓤 H A Qs} {X : RattleType} (v : Var (shown zero tt R ∷ ks) Qs X) (F : X .Denot → ℕ) (g : Name) → Triple 𝓤 (𝓣 .C g) (met (of-one usize X F) 𝓤 H A) → {ns₁ ns₂ ts₁ ts₂ : List Local} {b₁ b₂ : Spots (usize ∷ Qs) → ℕ → ℕ → Body} → let c = scene W 𝓣 (shown zero tt R ∷ ks) O S N P₀ κs qs a so in let i = F (values c hs X v .1) in
       (i < length (now (a .0)) → Piece c (usize ∷ Qs) ((uint 𝓤 H A W w64, i), hs) ns₁ ts₁ b₁) → (length (now (a .0)) ≤ i → Piece c (usize ∷ Qs) ((uint 𝓤 H A W w64, i), hs) ns₂ ts₂ b₂)
       → Piece c Qs hs (by-values (tyInt w64 ∷ []) ++ (ns₁ ++ ns₂)) (by-values (tyInt w64 ∷ tyBool ∷ []) ++ (ts₁ ++ ts₂)) (λ ms j k. seq (call g (it (place-of v ms) ∷ []) (place j [])) (if-within j k (b₁ (j, ms) (suc j) (suc (suc k))) (b₂ (j, ms) (past ns₁ (suc j)) (past ts₁ (suc (suc k))))))
@@ -257,7 +263,7 @@ module _ {M : Type 1} {𝓤 : URA M} {H : Heap 𝓤} {A : Atoms 𝓤} {W : Given
   }
 
   pub how-many : {Qs : List RattleType} {hs : Held 𝓤 H A Qs} → Look (scene W 𝓣 (handed zero tt R ∷ ks) O S N P₀ κs qs a so) Qs hs usize (uint 𝓤 H A W w64) (length (now (a .0))) [] (λ ms d k rest. seq (sets d (rvOpd (len-of 1))) rest)
-  how-many = record { looks = λ E us ms d k q rest h are d-is go. sets-in ! E us d d-is (tt, record { fits = so .0 .0 }) (of-opd ! (len-in E us 1 ! (h .params .0))) $ go us (λ _ _. refl) (refl, so .0 .0) }
+  how-many = counts-row (scene W 𝓣 (handed zero tt R ∷ ks) O S N P₀ κs qs a so) R (a .0) (so .0) (λ Qs ms hs E us k h. h .params .0)
 
   pub at-place : {Qs : List RattleType} {hs : Held 𝓤 H A Qs} {X : RattleType} (v : Var (handed zero tt R ∷ ks) Qs X) (F : X .Denot → ℕ) (g : Name) → Triple 𝓤 (𝓣 .C g) (met (of-one usize X F) 𝓤 H A) → {ns₁ ns₂ ts₁ ts₂ : List Local} {b₁ b₂ : Spots (usize ∷ Qs) → ℕ → ℕ → Body} → let c = scene W 𝓣 (handed zero tt R ∷ ks) O S N P₀ κs qs a so in let i = F (values c hs X v .1) in
       (i < length (now (a .0)) → Piece c (usize ∷ Qs) ((uint 𝓤 H A W w64, i), hs) ns₁ ts₁ b₁) → (length (now (a .0)) ≤ i → Piece c (usize ∷ Qs) ((uint 𝓤 H A W w64, i), hs) ns₂ ts₂ b₂)
