@@ -11,6 +11,8 @@ use Rattle.reading.proofs.Place as Place
 use Rattle.reading.proofs.Place.Laws as Place′
 use Rattle.reading.proofs.Seen as Seen
 use Rattle.reading.proofs.Seen.Laws as Seen′
+use Rattle.reading.proofs.Line as Line
+use Rattle.reading.proofs.Line.Laws as Line′
 use Rattle.reading.proofs.Whole as Whole
 use Rattle.reading.proofs.Whole.Laws as Whole′
 
@@ -23,6 +25,9 @@ module _ {M : Type 1} (𝓤 : URA M) (H : Heap 𝓤) (A : Atoms 𝓤) (W : Given
 
   abbrev pub seen : PlainType 𝓤 H A Seen.the-row
   seen = struct 𝓤 H A W Seen.the-type Seen′.the-laws Seen′.the-plain Seen′.the-copy
+
+  abbrev pub line : PlainType 𝓤 H A Line.the-row
+  line = struct 𝓤 H A W Line.the-type Line′.the-laws Line′.the-plain Line′.the-copy
 
   abbrev pub whole : PlainType 𝓤 H A Whole.the-row
   whole = struct 𝓤 H A W Whole.the-type Whole′.the-laws Whole′.the-plain Whole′.the-copy

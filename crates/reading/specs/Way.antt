@@ -1,8 +1,8 @@
 -- On the way to a whole-stack reading: what a walk over the boards keeps of them, the search for a flagged cell, and the reading from both. That
--- it is the paper's is shown in proofs/Gathered.antt, proofs/Searching.antt and proofs/Scanned.antt; nobody need believe it.
+-- it is the paper's is shown in proofs/Gathered.antt, proofs/Searching.antt, proofs/Scanned.antt and proofs/Lined.antt; nobody need believe it.
 -- Assumes nothing.
-use Prim.Native.Nat.{ℕ, zero, suc, _+_, _^_}
-use mathlib.Core.Bool.{Bool, false, cond, not, _&&_, _||_}
+use Prim.Native.Nat.{ℕ, zero, suc, _+_, _^_, min}
+use mathlib.Core.Bool.{Bool, true, false, cond, not, _&&_, _||_}
 use mathlib.Core.List.{List, [], _∷_, map}
 use lib.Bits.{bitOr}
 use lib.Dec.{leb, eqb}
@@ -14,6 +14,7 @@ use Rattle.reading.specs.declared.Summary.{Summary}
 use Rattle.reading.specs.declared.Place.{Place}
 use Rattle.reading.specs.declared.Seen.{Seen}
 use Rattle.reading.specs.declared.Whole.{Whole}
+use Rattle.reading.specs.declared.Line.{Line}
 use Rattle.reading.specs.Reading.{summaryOf, chgOn, dsgOn, place}
 
 -- ---- the line of the latches alone, board 1's first
@@ -71,3 +72,17 @@ firstFrom i (b ∷ north) = firstOn b i 0 (b .count) (firstFrom (i + 1) north)
 
 unfoldable pub readRow : List Board → Whole
 readRow row = wholeOf (seenRow row) (cond (seenRow row .flagged) (firstFrom 0 row) (place 0 0))
+
+-- ---- the fault line alone, board by board, counted from 0; a row has 16 boards at most
+abbrev pub upAt : ℕ → Line
+upAt at = record { up = true; looked = min (at + 1) 16 }
+
+abbrev pub noneUp : ℕ → Line
+noneUp boards = record { up = false; looked = min boards 16 }
+
+unfoldable pub lineFrom : ℕ → List Board → Line
+lineFrom i [] = noneUp i
+lineFrom i (b ∷ north) = cond (summaryOf b .latched) (upAt i) (lineFrom (i + 1) north)
+
+abbrev pub lineRow : List Board → Line
+lineRow row = lineFrom 0 row

@@ -1,11 +1,12 @@
-// The whole-stack reading: what a walk over the lent row keeps of its boards, and the search for a flagged cell (01, Whole-stack reading).
+// The whole-stack reading: what a walk over the lent row keeps of its boards, and the search for a flagged cell (01, Whole-stack reading); and
+// the fault line alone (02, ticket 9).
 ghost use mathlib.Core.Path.{_≡_};
 ghost use mathlib.Core.Bool.{not};
 ghost use mathlib.Core.List.{[]};
-ghost use Prim.Native.Nat.{_<_};
+ghost use Prim.Native.Nat.{_+_, _<_, min};
 ghost use Rattle.lists.specs.Marks.{marks, marked};
 ghost use Rattle.reading.specs.Reading.{summaryOf, place};
-ghost use Rattle.reading.specs.Way.{withBoard, seenOf, seenWith, seenRow, placeAt, firstFrom, up, wholeOf, readRow};
+ghost use Rattle.reading.specs.Way.{withBoard, seenOf, seenWith, seenRow, placeAt, firstFrom, up, wholeOf, readRow, upAt, noneUp, lineRow};
 use board::Board;
 
 // What the reading takes from one board; the flagged cells as a number.
@@ -215,4 +216,63 @@ pub fn read_row(row: &[Board]) -> Whole
     }
     let flagged = first_flagged(row);
     read_all(seen, flagged)
+}
+
+// ---- the fault line alone
+
+// Whether the line is up, and how many boards were looked at for it.
+pub struct Line {
+    pub up: bool,
+    pub looked: u8,
+}
+
+fn has_latch(b: Board) -> bool
+    ensures { λ r. ⌜ r ≡ summaryOf b .latched ⌝ }
+{
+    latches::any_latch(b.latches)
+}
+
+// A row has 16 boards at most: the number of the board at a place, and how many there are.
+fn number_at(at: usize) -> u8
+    ensures { λ r. ⌜ r ≡ min (at + 1) 16 ⌝ }
+{
+    if at < 15 { at as u8 + 1 } else { 16 }
+}
+
+fn up_to_sixteen(boards: usize) -> u8
+    ensures { λ r. ⌜ r ≡ min boards 16 ⌝ }
+{
+    if boards < 16 { boards as u8 } else { 16 }
+}
+
+fn up_at(at: usize) -> Line
+    ensures { λ r. ⌜ r ≡ upAt at ⌝ }
+{
+    Line {
+        up: true,
+        looked: number_at(at),
+    }
+}
+
+fn none_up(boards: usize) -> Line
+    ensures { λ r. ⌜ r ≡ noneUp boards ⌝ }
+{
+    Line {
+        up: false,
+        looked: up_to_sixteen(boards),
+    }
+}
+
+// The fault line of a row: the search ends at the first board that has a latch.
+pub fn line_row(row: &[Board]) -> Line
+    ensures { λ r. ⌜ r ≡ lineRow (now (row .entry)) ⌝ }
+{
+    let mut i = 0;
+    while i < row.len() {
+        if has_latch(row[i]) {
+            return up_at(i);
+        }
+        i += 1;
+    }
+    none_up(i)
 }
