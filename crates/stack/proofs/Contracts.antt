@@ -26,9 +26,11 @@ use Rattle.stack.specs.Sample.{sampleAnswer, sampleRow}
 use Rattle.stack.specs.Frame.{frameAnswer, frameRow, frameBuffer}
 use Rattle.stack.specs.List.{listAnswer, listBuffer}
 use Rattle.stack.specs.Read.{readingOf}
+use Rattle.stack.specs.Up.{upOf}
 use Rattle.stack.specs.declared.Opening.{Opening}
 use Rattle.stack.proofs.Opening as Openings
 use Rattle.stack.proofs.Listing as Listing
+use Rattle.stack.proofs.Glance as Glance
 use Rattle.stack.proofs.View as View
 use Rattle.stack.proofs.open_row as open-row
 use Rattle.stack.proofs.open_counts as open-counts
@@ -36,6 +38,7 @@ use Rattle.stack.proofs.sample_stack as sample-stack
 use Rattle.stack.proofs.frame_stack as frame-stack
 use Rattle.stack.proofs.list_stack as list-stack
 use Rattle.stack.proofs.read_stack as read-stack
+use Rattle.stack.proofs.up_stack as up-stack
 
 -- the answer and the row
 abbrev opensBy : (List Board → List ℕ → Opening) → (List Board → List ℕ → List Board) → Form
@@ -67,6 +70,9 @@ listForm = on-list Listing.the-row Boards.the-row u32 u32 listAnswer listBuffer
 abbrev pub readForm : Form
 readForm = of-slice View.the-row Boards.the-row readingOf
 
+abbrev pub upForm : Form
+upForm = of-slice Glance.the-row Boards.the-row upOf
+
 module _ {M : Type 1} (𝓤 : URA M) (H : Heap 𝓤) (A : Atoms 𝓤) (mem : Memory → SProp 𝓤) (run : Routine → Fun 𝓤) where
   pub open-row-says : open-row.spec 𝓤 H A mem run ≡ closing 𝓤 H A (ended-of openForm) (clauses-of openForm 𝓤)
   open-row-says = refl
@@ -85,3 +91,6 @@ module _ {M : Type 1} (𝓤 : URA M) (H : Heap 𝓤) (A : Atoms 𝓤) (mem : Mem
 
   pub read-stack-says : read-stack.spec 𝓤 H A mem run ≡ closing 𝓤 H A (ended-of readForm) (clauses-of readForm 𝓤)
   read-stack-says = refl
+
+  pub up-stack-says : up-stack.spec 𝓤 H A mem run ≡ closing 𝓤 H A (ended-of upForm) (clauses-of upForm 𝓤)
+  up-stack-says = refl

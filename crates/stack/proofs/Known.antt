@@ -31,6 +31,10 @@ use Rattle.stack.proofs.Placed as Placed
 use Rattle.stack.proofs.Placed.Laws as Placed′
 use Rattle.stack.proofs.Listing as Listing
 use Rattle.stack.proofs.Listing.Laws as Listing′
+use Rattle.reading.proofs.Line as Line
+use Rattle.reading.proofs.Line.Laws as Line′
+use Rattle.stack.proofs.Glance as Glance
+use Rattle.stack.proofs.Glance.Laws as Glance′
 use Rattle.stack.proofs.View as View
 use Rattle.stack.proofs.View.Laws as View′
 
@@ -64,6 +68,12 @@ module _ {M : Type 1} (𝓤 : URA M) (H : Heap 𝓤) (A : Atoms 𝓤) (W : Given
 
   abbrev pub listing : PlainType 𝓤 H A Listing.the-row
   listing = enumeration 𝓤 H A W Listing.the-type Listing′.the-laws Listing′.the-plain Listing′.the-copy tt
+
+  abbrev pub line : PlainType 𝓤 H A Line.the-row
+  line = struct 𝓤 H A W Line.the-type Line′.the-laws Line′.the-plain Line′.the-copy
+
+  abbrev pub glance : PlainType 𝓤 H A Glance.the-row
+  glance = enumeration 𝓤 H A W Glance.the-type Glance′.the-laws Glance′.the-plain Glance′.the-copy tt
 
   abbrev pub opening : PlainType 𝓤 H A Opening.the-row
   opening = enumeration 𝓤 H A W Opening.the-type Opening′.the-laws Opening′.the-plain Opening′.the-copy tt

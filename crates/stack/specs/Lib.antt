@@ -4,4 +4,5 @@ pub mod Sample
 pub mod Frame
 pub mod List
 pub mod Read
+pub mod Up
 pub mod Way

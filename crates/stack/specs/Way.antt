@@ -30,6 +30,8 @@ use Rattle.stack.specs.declared.Listing.{Listing}
 use Rattle.stack.specs.declared.Listing.the-variants as listing
 use Rattle.stack.specs.declared.View.{View}
 use Rattle.stack.specs.declared.View.the-variants as view
+use Rattle.stack.specs.declared.Glance.{Glance}
+use Rattle.stack.specs.declared.Glance.the-variants as glance
 use Rattle.stack.specs.declared.Opening.{Opening}
 use Rattle.stack.specs.declared.Opening.the-variants as opening
 use Rattle.stack.specs.declared.Progress.{Progress}
@@ -168,6 +170,9 @@ listAnswerAt row n buffer = cond (ltb (placeOf n) (length row)) (listingIn (boar
 unfoldable pub listBufferAt : List Board → ℕ → List ℕ → List ℕ
 listBufferAt row n buffer = cond (ltb (placeOf n) (length row)) (bufferIn (boardAt row (placeOf n)) buffer) buffer
 
--- ---- a reading of a row that is not good
+-- ---- a reading, and a look at the fault line, of a row that is not good
 abbrev pub noRowView : View
 noRowView = view.Refused (numbered 1)
+
+abbrev pub noRowGlance : Glance
+noRowGlance = glance.Refused (numbered 1)

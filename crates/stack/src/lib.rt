@@ -1,4 +1,4 @@
-// The public library: a stack as one row of board records, lent to each routine (01, The stack and its readings; 02, tickets 3 and 8).
+// The public library: a stack as one row of board records, lent to each routine (01, The stack and its readings; 02, tickets 3, 8 and 9).
 // Every routine over lent records is put together of pieces of crate walks or is one of its shapes, and calls proved work on plain values.
 ghost use mathlib.Core.Path.{_≡_};
 ghost use mathlib.Core.Bool.{true, false};
@@ -6,10 +6,11 @@ ghost use Rattle.registers.specs.Registers.{obeyedOf};
 ghost use Rattle.stack.specs.Row.{badCount, goodRow, placeOf};
 ghost use Rattle.stack.specs.Open.{goodPlans, openAnswer, openRow, openCountsAnswer, openCountsRow};
 ghost use Rattle.stack.specs.Sample.{sampleAnswer, sampleRow};
-ghost use Rattle.stack.specs.Way.{allGood, refusedFill, startOf, more, placedOf, fillAt, fillRowAt, fillEnd, fillRow, openingBy, plainCounts, noOpening, sampleAnswerAt, sampleRowAt, noSample, noRowSample, askedPlace, obeyOutcomeAt, obeyRowAt, frameAnswerIn, frameRowIn, frameBufferIn, noOutcome, noRowReply, noListing, noRowListing, listingIn, bufferIn, listAnswerAt, listBufferAt, noRowView};
+ghost use Rattle.stack.specs.Way.{allGood, refusedFill, startOf, more, placedOf, fillAt, fillRowAt, fillEnd, fillRow, openingBy, plainCounts, noOpening, sampleAnswerAt, sampleRowAt, noSample, noRowSample, askedPlace, obeyOutcomeAt, obeyRowAt, frameAnswerIn, frameRowIn, frameBufferIn, noOutcome, noRowReply, noListing, noRowListing, listingIn, bufferIn, listAnswerAt, listBufferAt, noRowView, noRowGlance};
 ghost use Rattle.stack.specs.Frame.{frameAnswer, frameRow, frameBuffer};
 ghost use Rattle.stack.specs.List.{listAnswer, listBuffer};
 ghost use Rattle.stack.specs.Read.{readingOf};
+ghost use Rattle.stack.specs.Up.{upOf};
 use board::Answer;
 use board::Board;
 use board::Readings;
@@ -17,6 +18,7 @@ use frame::Outcome;
 use frame::Reply;
 use frame::Request;
 use frame::Verdict;
+use reading::Line;
 use reading::Whole;
 use refusal::Refusal;
 
@@ -33,6 +35,12 @@ pub enum Listing {
 
 pub enum View {
     Read(Whole),
+    Refused(Refusal),
+}
+
+// The fault line alone.
+pub enum Glance {
+    Seen(Line),
     Refused(Refusal),
 }
 
@@ -420,4 +428,29 @@ pub fn read_stack(row: &[Board]) -> View
         return view_of(whole);
     }
     no_row_view()
+}
+
+// ---- the fault line alone
+
+fn glance_of(line: Line) -> Glance
+    ensures { λ r. ⌜ r ≡ Glance.Seen line ⌝ }
+{
+    Glance::Seen(line)
+}
+
+fn no_row_glance() -> Glance
+    ensures { λ r. ⌜ r ≡ noRowGlance ⌝ }
+{
+    Glance::Refused(Refusal::BadRow)
+}
+
+// Is anything up? The look at every record for a bad row comes first; the search for a latch ends at the first.
+pub fn up_stack(row: &[Board]) -> Glance
+    ensures { λ r. ⌜ r ≡ upOf (now (row .entry)) ⌝ }
+{
+    if good_row(row) {
+        let line = reading::line_row(row);
+        return glance_of(line);
+    }
+    no_row_glance()
 }
