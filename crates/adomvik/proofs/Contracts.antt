@@ -12,6 +12,7 @@ use prog.Routine.{Routine}
 use ghost.Atoms.{Atoms}
 use contract.Monad.{Fun}
 use denote.Builtin.{u8, u32}
+use denote.RattleType.{RattleType}
 use denote.Ref.{now}
 use denote.Triple.Clauses.{closing}
 use Rattle.walks.proofs.Form.{Form, value, shown, handed, behind, ended-of, clauses-of}
@@ -24,9 +25,10 @@ use Rattle.stack.specs.Open.{openRow, openCountsRow}
 use Rattle.stack.specs.Sample.{sampleRow}
 use Rattle.stack.specs.Frame.{frameRow, frameBuffer}
 use Rattle.stack.specs.List.{listBuffer}
-use Rattle.adomvik.specs.Calls.{openNumber, countsNumber, sampleNumber, sampleOut, boardNumber, boardOut, frameNumber, listNumber, readNumber, readOut}
+use Rattle.adomvik.specs.Calls.{openNumber, countsNumber, sampleNumber, sampleOut, boardNumber, boardOut, frameNumber, listNumber, readNumber, readOut, upNumber, upOut}
 use Rattle.adomvik.proofs.Sampled as Sampled
 use Rattle.adomvik.proofs.Reading as Reading
+use Rattle.adomvik.proofs.Up as Up
 use Rattle.adomvik.proofs.adomvik_open as adomvik-open
 use Rattle.adomvik.proofs.adomvik_open_plans as adomvik-open-plans
 use Rattle.adomvik.proofs.adomvik_sample as adomvik-sample
@@ -34,6 +36,7 @@ use Rattle.adomvik.proofs.adomvik_sample_board as adomvik-sample-board
 use Rattle.adomvik.proofs.adomvik_frame as adomvik-frame
 use Rattle.adomvik.proofs.adomvik_list as adomvik-list
 use Rattle.adomvik.proofs.adomvik_read as adomvik-read
+use Rattle.adomvik.proofs.adomvik_up as adomvik-up
 
 -- the number and the row
 abbrev opensBy : (List Board → List ℕ → ℕ) → (List Board → List ℕ → List Board) → Form
@@ -87,13 +90,19 @@ abbrev pub listForm : Form
 listForm = on-list u32 Boards.the-row u32 u32 listNumber listBuffer
 
 -- the number and the place; the row is only read
-abbrev pub readForm : Form
-readForm = record {
+abbrev tellsBy : (P : RattleType) → (List Board → ℕ) → (List Board → P .Denot → P .Denot) → Form
+tellsBy P number out = record {
   lifetimes = 2;
-  params = shown 0 tt Boards.the-row ∷ behind 1 tt Reading.the-row ∷ [];
+  params = shown 0 tt Boards.the-row ∷ behind 1 tt P ∷ [];
   result = u8;
-  says-of = λ κs a r e. (r ≡ readNumber (now (a .0))) × (now (e .1 .0) ≡ readOut (now (a .0)) (now (a .1 .0)));
+  says-of = λ κs a r e. (r ≡ number (now (a .0))) × (now (e .1 .0) ≡ out (now (a .0)) (now (a .1 .0)));
 }
+
+abbrev pub readForm : Form
+readForm = tellsBy Reading.the-row readNumber readOut
+
+abbrev pub upForm : Form
+upForm = tellsBy Up.the-row upNumber upOut
 
 module _ {M : Type 1} (𝓤 : URA M) (H : Heap 𝓤) (A : Atoms 𝓤) (mem : Memory → SProp 𝓤) (run : Routine → Fun 𝓤) where
   pub open-says : adomvik-open.spec 𝓤 H A mem run ≡ closing 𝓤 H A (ended-of openForm) (clauses-of openForm 𝓤)
@@ -116,3 +125,6 @@ module _ {M : Type 1} (𝓤 : URA M) (H : Heap 𝓤) (A : Atoms 𝓤) (mem : Mem
 
   pub read-says : adomvik-read.spec 𝓤 H A mem run ≡ closing 𝓤 H A (ended-of readForm) (clauses-of readForm 𝓤)
   read-says = refl
+
+  pub up-says : adomvik-up.spec 𝓤 H A mem run ≡ closing 𝓤 H A (ended-of upForm) (clauses-of upForm 𝓤)
+  up-says = refl

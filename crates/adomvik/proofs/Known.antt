@@ -17,6 +17,10 @@ use Rattle.adomvik.proofs.PlacedSample as PlacedSample
 use Rattle.adomvik.proofs.PlacedSample.Laws as PlacedSample′
 use Rattle.adomvik.proofs.PlacedReading as PlacedReading
 use Rattle.adomvik.proofs.PlacedReading.Laws as PlacedReading′
+use Rattle.adomvik.proofs.Up as Up
+use Rattle.adomvik.proofs.Up.Laws as Up′
+use Rattle.adomvik.proofs.PlacedUp as PlacedUp
+use Rattle.adomvik.proofs.PlacedUp.Laws as PlacedUp′
 
 module _ {M : Type 1} (𝓤 : URA M) (H : Heap 𝓤) (A : Atoms 𝓤) (W : Given 𝓤 H A) where
   abbrev pub byte : PlainType 𝓤 H A u8
@@ -27,6 +31,9 @@ module _ {M : Type 1} (𝓤 : URA M) (H : Heap 𝓤) (A : Atoms 𝓤) (W : Given
 
   abbrev pub reading : PlainType 𝓤 H A Reading.the-row
   reading = struct 𝓤 H A W Reading.the-type Reading′.the-laws Reading′.the-plain Reading′.the-copy
+
+  abbrev pub up : PlainType 𝓤 H A Up.the-row
+  up = struct 𝓤 H A W Up.the-type Up′.the-laws Up′.the-plain Up′.the-copy
 
   -- what the functions by value return
   abbrev pub placed-sample : PlainPair 𝓤 H A PlacedSample.the-type Sampled.the-row u8 (λ z. z .out) (λ z. z .number)
@@ -49,4 +56,15 @@ module _ {M : Type 1} (𝓤 : URA M) (H : Heap 𝓤) (A : Atoms 𝓤) (W : Given
         laid-out = refl;
         spelled = λ z. refl;
         owed = λ z is. (LL.owed PlacedReading.the-type PlacedReading′.the-laws z _ is .0, LL.owed PlacedReading.the-type PlacedReading′.the-laws z _ is .1 .0);
+      }
+
+  abbrev pub placed-up : PlainPair 𝓤 H A PlacedUp.the-type Up.the-row u8 (λ z. z .out) (λ z. z .number)
+  placed-up =
+      record {
+        both = struct 𝓤 H A W PlacedUp.the-type PlacedUp′.the-laws PlacedUp′.the-plain PlacedUp′.the-copy;
+        first = up;
+        second = byte;
+        laid-out = refl;
+        spelled = λ z. refl;
+        owed = λ z is. (LL.owed PlacedUp.the-type PlacedUp′.the-laws z _ is .0, LL.owed PlacedUp.the-type PlacedUp′.the-laws z _ is .1 .0);
       }

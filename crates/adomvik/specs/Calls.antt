@@ -12,9 +12,11 @@ use Rattle.stack.specs.Frame.{frameAnswer}
 use Rattle.stack.specs.List.{listingSaid, listAnswer}
 use Rattle.stack.specs.Read.{viewSaid}
 use Rattle.stack.specs.Read as stack
+use Rattle.stack.specs.Up.{glanceSaid, upOf}
 use Rattle.adomvik.specs.declared.Sampled.{Sampled}
 use Rattle.adomvik.specs.declared.Reading.{Reading}
-use Rattle.adomvik.specs.Placed.{placed, sampledOf, readingOf, countOrRefusal}
+use Rattle.adomvik.specs.declared.Up.{Up}
+use Rattle.adomvik.specs.Placed.{placed, sampledOf, readingOf, upIn, countOrRefusal}
 
 -- the opening of the row, by plans and by bare cell counts
 unfoldable pub openNumber : List Board → List ℕ → ℕ
@@ -51,3 +53,10 @@ readNumber row = viewSaid (stack.readingOf row) .number
 
 unfoldable pub readOut : List Board → Reading → Reading
 readOut row out = placed (viewSaid (stack.readingOf row)) out (readingOf (viewSaid (stack.readingOf row)))
+
+-- the fault line alone
+unfoldable pub upNumber : List Board → ℕ
+upNumber row = glanceSaid (upOf row) .number
+
+unfoldable pub upOut : List Board → Up → Up
+upOut row out = placed (glanceSaid (upOf row)) out (upIn (glanceSaid (upOf row)))

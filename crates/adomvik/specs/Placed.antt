@@ -8,16 +8,20 @@ use Rattle.board.specs.declared.Answer.{Answer}
 use Rattle.board.specs.Sample.{answerSaid}
 use Rattle.frame.specs.declared.Reply.{Reply}
 use Rattle.frame.specs.Reply.{replySaid}
+use Rattle.stack.specs.declared.Glance.{Glance}
 use Rattle.stack.specs.declared.Listing.{Listing}
 use Rattle.stack.specs.declared.Opening.{Opening}
 use Rattle.stack.specs.declared.View.{View}
 use Rattle.stack.specs.Open.{openingSaid}
 use Rattle.stack.specs.List.{listingSaid}
 use Rattle.stack.specs.Read.{viewSaid}
+use Rattle.stack.specs.Up.{glanceSaid}
 use Rattle.adomvik.specs.declared.Sampled.{Sampled}
 use Rattle.adomvik.specs.declared.Reading.{Reading}
 use Rattle.adomvik.specs.declared.PlacedSample.{PlacedSample}
 use Rattle.adomvik.specs.declared.PlacedReading.{PlacedReading}
+use Rattle.adomvik.specs.declared.Up.{Up}
+use Rattle.adomvik.specs.declared.PlacedUp.{PlacedUp}
 
 -- a refusal leaves the place alone
 abbrev pub placed : {A : Type 0} → Said → A → A → A
@@ -38,6 +42,12 @@ placedReading out v = record { out = placed (viewSaid v) out (readingOf (viewSai
 
 unfoldable pub numberOfReply : Reply → ℕ
 numberOfReply a = replySaid a .number
+
+abbrev pub upIn : Said → Up
+upIn s = record { line = value 0 s; looked = value 1 s }
+
+unfoldable pub placedUp : Up → Glance → PlacedUp
+placedUp out g = record { out = placed (glanceSaid g) out (upIn (glanceSaid g)); number = glanceSaid g .number }
 
 -- a listing tells by one number how many entries there are, or 256 more than the number of its refusal
 abbrev pub countOrRefusal : Said → ℕ

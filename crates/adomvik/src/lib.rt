@@ -7,12 +7,13 @@ ghost use Rattle.stack.specs.List.{listBuffer};
 ghost use Rattle.board.specs.Sample.{sampleOf};
 ghost use Rattle.lists.specs.Marks.{bit};
 ghost use Rattle.stack.specs.Open.{openRow, openCountsRow};
-ghost use Rattle.adomvik.specs.Placed.{placedSample, placedReading, numberOfReply, numberOfOpening, numberOfListing};
-ghost use Rattle.adomvik.specs.Calls.{openNumber, countsNumber, sampleNumber, sampleOut, boardNumber, boardOut, frameNumber, listNumber, readNumber, readOut};
+ghost use Rattle.adomvik.specs.Placed.{placedSample, placedReading, placedUp, numberOfReply, numberOfOpening, numberOfListing};
+ghost use Rattle.adomvik.specs.Calls.{openNumber, countsNumber, sampleNumber, sampleOut, boardNumber, boardOut, frameNumber, listNumber, readNumber, readOut, upNumber, upOut};
 use board::Answer;
 use board::Board;
 use board::Readings;
 use frame::Reply;
+use stack::Glance;
 use stack::Listing;
 use stack::Opening;
 use stack::View;
@@ -32,6 +33,13 @@ pub struct Reading {
     pub dsg: u8,
     pub board: u8,
     pub cell: u8,
+}
+
+// The fault line alone: the line as 1 or 0, and how many boards were looked at for it.
+#[repr(C)]
+pub struct Up {
+    pub line: u8,
+    pub looked: u8,
 }
 
 // ---- what an answer puts into its place, and its number
@@ -109,6 +117,40 @@ fn place_reading(out: &mut Reading, v: View) -> u8
     ensures { λ r. ⌜ (r ≡ placedReading (now (out .entry)) v .number) × (now (out .exit) ≡ placedReading (now (out .entry)) v .out) ⌝ }
 {
     let s = placed_reading(*out, v);
+    *out = s.out;
+    s.number
+}
+
+struct PlacedUp {
+    out: Up,
+    number: u8,
+}
+
+fn placed_up(out: Up, g: Glance) -> PlacedUp
+    ensures { λ r. ⌜ r ≡ placedUp out g ⌝ }
+{
+    match g {
+        Glance::Seen(line) => {
+            let next = Up {
+                line: byte_of(line.up),
+                looked: line.looked,
+            };
+            PlacedUp {
+                out: next,
+                number: 0,
+            }
+        }
+        Glance::Refused(why) => PlacedUp {
+            out: out,
+            number: refusal::number(why),
+        },
+    }
+}
+
+fn place_up(out: &mut Up, g: Glance) -> u8
+    ensures { λ r. ⌜ (r ≡ placedUp (now (out .entry)) g .number) × (now (out .exit) ≡ placedUp (now (out .entry)) g .out) ⌝ }
+{
+    let s = placed_up(*out, g);
     *out = s.out;
     s.number
 }
@@ -216,4 +258,13 @@ pub extern "C" fn adomvik_read(row: &[Board], out: &mut Reading) -> u8
 {
     let v = stack::read_stack(row);
     place_reading(out, v)
+}
+
+// Is anything up? The fault line alone.
+#[no_mangle]
+pub extern "C" fn adomvik_up(row: &[Board], out: &mut Up) -> u8
+    ensures { λ r. ⌜ (r ≡ upNumber (now (row .entry))) × (now (out .exit) ≡ upOut (now (row .entry)) (now (out .entry))) ⌝ }
+{
+    let g = stack::up_stack(row);
+    place_up(out, g)
 }
