@@ -13,7 +13,7 @@ use Rattle.registers.specs.Registers.{accessBars}
 use Rattle.stack.specs.Row.{placeOf}
 use Rattle.stack.specs.Frame.{framePlace}
 use Rattle.demands.specs.Paper.{Entry, sampled, History}
-use Rattle.demands.specs.Acts.{Act, sample, frame, listing, reading, bars, final}
+use Rattle.demands.specs.Acts.{Act, sample, frame, listing, reading, up, bars, final}
 use Rattle.demands.specs.Demands.{Log, begun, logAt, joined, boardGiven, rowGiven, frameEntry, joins, taken}
 use Rattle.demands.proofs.Tells.{frame-fits}
 
@@ -45,6 +45,7 @@ module _ (P : History → Type 0) (starts : P []) (samples-keep : (x : Readings)
       so-kept (bars (rowGiven logs) (frame bytes buffer)) logs (framePlace bytes) (frameEntry bytes) (λ accepted. frames-keep (logAt logs (framePlace bytes)) bytes (frame-fits logs bytes buffer accepted .1) (h (framePlace bytes))) h
   so-taken logs (listing n buffer) h = h
   so-taken logs reading h = h
+  so-taken logs up h = h
 
   so-final : (logs : List Log) (acts : List Act) → EachSo logs → EachSo (final taken logs acts)
   so-final logs [] h = h

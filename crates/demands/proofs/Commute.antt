@@ -20,7 +20,7 @@ use Rattle.registers.specs.Registers.{accessBars}
 use Rattle.stack.specs.Row.{goodRow, placeOf, boardAt}
 use Rattle.stack.specs.Frame.{framePlace}
 use Rattle.demands.specs.Paper.{Entry, sampled, framed}
-use Rattle.demands.specs.Acts.{Act, sample, frame, listing, reading, Outcome, bars}
+use Rattle.demands.specs.Acts.{Act, sample, frame, listing, reading, up, Outcome, bars}
 use Rattle.demands.specs.Table.{lent}
 use Rattle.demands.specs.Tied.{Who, board, whole, nobody, early, who, ties, tied}
 use Rattle.demands.specs.Demands.{Log, noLog, logAt, joined, boardGiven, rowGiven, frameEntry, joins, taken, sampleSays, frameSays, listingSays, told}
@@ -36,18 +36,21 @@ place (sample n x mv) = placeOf n
 place (frame bytes buffer) = framePlace bytes
 place (listing n buffer) = placeOf n
 place reading = 0
+place up = 0
 
 abbrev entry : Act → Entry
 entry (sample n x mv) = sampled x mv
 entry (frame bytes buffer) = frameEntry bytes
 entry (listing n buffer) = framed 0 0 0
 entry reading = framed 0 0 0
+entry up = framed 0 0 0
 
 abbrev late : Board → Act → List Bar
 late b (sample n x mv) = readingBars b x mv
 late b (frame bytes buffer) = accessBars b (writes (byte bytes 0)) (byte bytes 1) (byte bytes 2)
 late b (listing n buffer) = bar 14 (ltb (length buffer / 3) (length (journal.listing (b .journal)))) ∷ []
 late b reading = []
+late b up = []
 
 -- it stands in its board's log, if it is not refused
 abbrev enters : Act → Bool
@@ -55,6 +58,7 @@ enters (sample n x mv) = true
 enters (frame bytes buffer) = true
 enters (listing n buffer) = false
 enters reading = false
+enters up = false
 
 -- what it makes of its board's log, and its outcome there; and its outcome where it is refused early
 abbrev stepIn : Log → Act → Log
@@ -71,6 +75,7 @@ answerIn l (listing n buffer) =
     let entries = listingSays l in
     record { said = judged refusals (length entries ∷ []); buffer = unlessRefused refusals buffer (journal.wordsOver entries buffer) }
 answerIn l reading = record { said = accepts []; buffer = [] }
+answerIn l up = record { said = accepts []; buffer = [] }
 
 abbrev refusedEarly : ℕ → Act → Outcome
 refusedEarly m a = record { said = refuses (first (early m a)); buffer = lent a }
@@ -84,7 +89,7 @@ nextFor nobody logs a = logs
 
 abbrev answerFor : ℕ → Who → List Log → Act → Outcome
 answerFor m (board i) logs a = answerIn (logAt logs i) a
-answerFor m whole logs a = told logs reading
+answerFor m whole logs a = told logs a
 answerFor m nobody logs a = refusedEarly m a
 
 flip : (v w : Who) → ties v w ≡ ties w v
@@ -268,6 +273,7 @@ module _ (plans : List Plan) (good : goodOf plans ≡ true) where
     agrees (frame bytes buffer) = frame-agrees bytes buffer (eqb (first (early m (frame bytes buffer))) 0) refl
     agrees (listing n buffer) = list-agrees n buffer (eqb (first (early m (listing n buffer))) 0) refl
     agrees reading = (refl, refl)
+    agrees up = (refl, refl)
 
   -- two acts that are not tied, the first before the second
   pub commute : (logs : List Log) (a b : Act) → Good logs → tied m a b ≡ false

@@ -18,7 +18,7 @@ use Rattle.stack.specs.Open.{goodPlans, opened, openRow}
 use Rattle.stack.specs.Frame.{framePlace}
 use Rattle.board.proofs.Counts.{good-plan}
 use Rattle.demands.specs.Paper.{Entry, sampled}
-use Rattle.demands.specs.Acts.{Act, sample, frame, listing, reading, Outcome, bars, outcome, next, final, answers}
+use Rattle.demands.specs.Acts.{Act, sample, frame, listing, reading, up, Outcome, bars, outcome, next, final, answers}
 use Rattle.demands.specs.Demands.{Log, noLog, begun, logAt, joined, boardGiven, rowGiven, frameEntry, joins, taken, told, opens, Demand2}
 use Rattle.demands.specs.Refused.{plansBy, plansOf}
 use Rattle.demands.proofs.Given.{given-start}
@@ -40,6 +40,7 @@ same-plans logs (sample n x mv) = kept-plans (bars (rowGiven logs) (sample n x m
 same-plans logs (frame bytes buffer) = kept-plans (bars (rowGiven logs) (frame bytes buffer)) logs (framePlace bytes) (frameEntry bytes)
 same-plans logs (listing n buffer) = refl
 same-plans logs reading = refl
+same-plans logs up = refl
 
 abbrev pub goodOf : List Plan → Bool
 goodOf plans = not (badCount (length plans)) && every (λ p. not (badPlan p)) plans

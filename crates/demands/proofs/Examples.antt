@@ -20,11 +20,12 @@ use Rattle.cells.specs.Bleed.{bled}
 use Rattle.latches.specs.Latches.{latchesByte}
 use Rattle.board.specs.Shunt.{shuntAbove}
 use Rattle.reading.specs.Reading.{lineUp, firstFlagged, readOf}
+use Rattle.reading.specs.Line.{lookedAt}
 use Rattle.stack.specs.Row.{goodRow}
 use Rattle.demands.specs.Acts.{reading}
 use Rattle.demands.specs.Tied.{tied}
 use Rattle.demands.specs.Shuffle.{times, turn, Shuffle, inside, keepsTurn, shuffles}
-use Rattle.demands.specs.Examples.{eight, orders, right, Matters}
+use Rattle.demands.specs.Examples.{nine, orders, right, Matters}
 use Rattle.demands.proofs.Lists.{all-at, all-yes}
 
 -- ---- places outside are not named
@@ -102,18 +103,18 @@ unfolding each
 orders-right = refl
 
 -- so one of them is a shuffle; one in which a board passes itself is none, nor one in which it passes a reading
-pub allowed : Shuffle (tied 2) reading eight (6 ∷ 2 ∷ 5 ∷ 0 ∷ 1 ∷ 3 ∷ 7 ∷ 4 ∷ [])
+pub allowed : Shuffle (tied 2) reading nine (7 ∷ 2 ∷ 6 ∷ 0 ∷ 1 ∷ 4 ∷ 3 ∷ 8 ∷ 5 ∷ [])
 unfolding each
-allowed = from-test (tied 2) reading eight (6 ∷ 2 ∷ 5 ∷ 0 ∷ 1 ∷ 3 ∷ 7 ∷ 4 ∷ []) refl
+allowed = from-test (tied 2) reading nine (7 ∷ 2 ∷ 6 ∷ 0 ∷ 1 ∷ 4 ∷ 3 ∷ 8 ∷ 5 ∷ []) refl
 
-pub past-itself : Shuffle (tied 2) reading eight (1 ∷ 0 ∷ 2 ∷ 3 ∷ 4 ∷ 5 ∷ 6 ∷ 7 ∷ []) → ⊥
+pub past-itself : Shuffle (tied 2) reading nine (1 ∷ 0 ∷ 2 ∷ 3 ∷ 4 ∷ 5 ∷ 6 ∷ 7 ∷ 8 ∷ []) → ⊥
 unfolding each
-past-itself w = true≢false (sym (to-test (tied 2) reading eight (1 ∷ 0 ∷ 2 ∷ 3 ∷ 4 ∷ 5 ∷ 6 ∷ 7 ∷ []) w))
+past-itself w = true≢false (sym (to-test (tied 2) reading nine (1 ∷ 0 ∷ 2 ∷ 3 ∷ 4 ∷ 5 ∷ 6 ∷ 7 ∷ 8 ∷ []) w))
 
-pub past-reading : Shuffle (tied 2) reading eight (0 ∷ 1 ∷ 3 ∷ 2 ∷ 4 ∷ 5 ∷ 6 ∷ 7 ∷ []) → ⊥
+pub past-reading : Shuffle (tied 2) reading nine (0 ∷ 1 ∷ 3 ∷ 2 ∷ 4 ∷ 5 ∷ 6 ∷ 7 ∷ 8 ∷ []) → ⊥
 unfolding each
-past-reading w = true≢false (sym (to-test (tied 2) reading eight (0 ∷ 1 ∷ 3 ∷ 2 ∷ 4 ∷ 5 ∷ 6 ∷ 7 ∷ []) w))
+past-reading w = true≢false (sym (to-test (tied 2) reading nine (0 ∷ 1 ∷ 3 ∷ 2 ∷ 4 ∷ 5 ∷ 6 ∷ 7 ∷ 8 ∷ []) w))
 
 pub order-matters : Matters
-unfolding each shuntAbove number bled latchesByte goodRow every readOf lineUp firstFlagged lowest marks journal.listing journal.entered journal.noEntries journal.words sample.latchings
-order-matters = record { before-reading = refl; behind-reading = refl; before-listing = refl; behind-listing = refl; then-rest = refl; rest-first = refl }
+unfolding each shuntAbove number bled latchesByte goodRow every readOf lineUp lookedAt firstFlagged lowest marks journal.listing journal.entered journal.noEntries journal.words sample.latchings
+order-matters = record { before-reading = refl; behind-reading = refl; before-up = refl; behind-up = refl; before-listing = refl; behind-listing = refl; then-rest = refl; rest-first = refl }

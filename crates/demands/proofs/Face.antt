@@ -23,22 +23,25 @@ use Rattle.board.specs.declared.Answer.{Answer}
 use Rattle.board.specs.Plan.{Plan, planOf}
 use Rattle.board.specs.Sample.{fresh, badBoard, readingBars, sampleBars, sampleValues, boardNext, answerSaid, answerSaying, sampleOf}
 use Rattle.reading.specs.Reading.{summaryOf, readOf, wholeSaid}
+use Rattle.reading.specs.Line.{lineOf, lineSaid}
 use Rattle.stack.specs.Row.{badCount, goodRow, noBoard, placeOf, boardAt}
 use Rattle.stack.specs.Open.{goodPlans, openBars, openRow}
 use Rattle.stack.specs.Sample.{sampleAnswer, sampleRow}
 use Rattle.stack.specs.Frame.{frameRow, frameBuffer}
 use Rattle.stack.specs.List.{entriesOf, listBars, listingSaid, listAnswer, listBuffer}
+use Rattle.stack.proofs.Scanned.{up-said}
 use Rattle.stack.proofs.Laws.{list-said}
 use Rattle.stack.specs.Read.{viewSaid, readBars, readingOf}
+use Rattle.stack.specs.Up.{glanceSaid, upOf}
 use Rattle.adomvik.specs.Placed.{placed, sampledOf, countOrRefusal}
-use Rattle.adomvik.specs.Calls.{openNumber, sampleNumber, sampleOut, boardNumber, boardOut, frameNumber, listNumber, readNumber, readOut}
+use Rattle.adomvik.specs.Calls.{openNumber, sampleNumber, sampleOut, boardNumber, boardOut, frameNumber, listNumber, readNumber, readOut, upNumber, upOut}
 use Rattle.adomvik.proofs.Laws.{open-number, sample-number, frame-number}
 use Rattle.demands.specs.Acts.{Act, reading, Outcome, outcome, next, openedRow, final, answers}
 use Rattle.demands.specs.Shuffle.{picked}
 use Rattle.demands.specs.Table.{numbersOf}
 use Rattle.demands.specs.Demands.{Log, begun, boardGiven, rowGiven, taken, told, opens, nothing}
 use Rattle.demands.specs.Refused.{plansOf}
-use Rattle.demands.specs.Face.{Call, sampleCall, recordCall, frameCall, listCall, readCall, inSample, inReply, inList, inReading, lent, Returned, returned, returns, leaves, actOf, inC, OfRow, AllOfRow, SameActs, barsOf, numbers, OneOf, NumberBy, FaceDemand1, takenIn, toldIn, FaceDemand2, noCall, noReturn, FaceDemand3}
+use Rattle.demands.specs.Face.{Call, sampleCall, recordCall, frameCall, listCall, readCall, upCall, inSample, inReply, inList, inReading, inUp, lent, Returned, returned, returns, leaves, actOf, inC, OfRow, AllOfRow, SameActs, barsOf, numbers, OneOf, NumberBy, FaceDemand1, takenIn, toldIn, FaceDemand2, noCall, noReturn, FaceDemand3}
 use Rattle.demands.proofs.Clear.{clear, numbered}
 use Rattle.demands.proofs.Table.{first-is, is-first, none-is, is-none, kept-old, reading-judged}
 use Rattle.demands.proofs.Tells.{tells, gives}
@@ -120,7 +123,7 @@ listing-small row n words =
     subst (λ (s : Said). value 0 s < 256) (sym (list-said row n words)) (split (eqb (first rows) 0) (λ e. rw e (omega (arith, few))) (λ e. rw e (omega arith)))
 
 call-is : (row : List Board) → goodRow row ≡ true → (c : Call) → OfRow (length row) c → (returns row c ≡ inC c (outcome row (actOf c))) × (leaves row c ≡ next row (actOf c))
-unfolding sampleNumber sampleOut boardNumber boardOut frameNumber listNumber readNumber readOut
+unfolding sampleNumber sampleOut boardNumber boardOut frameNumber listNumber readNumber readOut upNumber upOut
 call-is row good (sampleCall n x mv out) so = (refl, refl)
 call-is row good (recordCall at x mv out) so =
     let is = record-is row good at so x mv in
@@ -130,6 +133,7 @@ call-is row good (listCall n words count) so =
     let said = listingSaid (listAnswer row n words) in
     ((λ i. returned (told-apart said (listing-small row n words) .0 i) (inList (listBuffer row n words) (told-apart said (listing-small row n words) .1 count i))), refl)
 call-is row good (readCall out) so = (refl, refl)
+call-is row good (upCall out) so = (refl, refl)
 
 pub same-acts : SameActs
 same-acts =
@@ -150,7 +154,7 @@ board-said b x mv =
     split (eqb (first rows) 0) (λ e. rw e) (λ e. rw (e, e, number-back rows tt e))
 
 number-first : (row : List Board) (c : Call) → returns row c .number ≡ first (barsOf row c)
-unfolding boardNumber listNumber readNumber
+unfolding boardNumber listNumber readNumber upNumber
 number-first row (sampleCall n x mv out) = sample-number row n x mv
 number-first row (recordCall at x mv out) =
     let b = boardAt row at in
@@ -160,6 +164,7 @@ number-first row (listCall n words count) =
     let rows = listBars row n words in
     told-apart (listingSaid (listAnswer row n words)) (listing-small row n words) .0 ∙ ap (λ (s : Said). s .number) (list-said row n words) ∙ judged-number rows (length (entriesOf row n) ∷ [])
 number-first row (readCall out) = ap (λ (s : Said). s .number) (reading-judged row) ∙ judged-number (readBars row) (wholeSaid (readOf (map summaryOf row)))
+number-first row (upCall out) = ap (λ (s : Said). s .number) (up-said row) ∙ judged-number (readBars row) (lineSaid (lineOf (map summaryOf row)))
 
 by-first : (rows : List Bar) (number : ℕ) → numbered rows ≡ true → number ≡ first rows → NumberBy rows number
 by-first rows number u is =
@@ -174,6 +179,7 @@ all-numbered row (recordCall at x mv out) = refl
 all-numbered row (frameCall bytes buffer) = refl
 all-numbered row (listCall n words count) = refl
 all-numbered row (readCall out) = refl
+all-numbered row (upCall out) = refl
 
 -- the number of the first row that holds is 0 or one of theirs
 first-among : (rows : List Bar) → OneOf (first rows) (0 ∷ numbersOf rows)
@@ -193,6 +199,7 @@ numbers-are row (recordCall at x mv out) = refl
 numbers-are row (frameCall bytes buffer) = refl
 numbers-are row (listCall n words count) = refl
 numbers-are row (readCall out) = refl
+numbers-are row (upCall out) = refl
 
 own : (row : List Board) (c : Call) → OneOf (returns row c .number) (0 ∷ numbers c)
 own row c =
@@ -204,7 +211,7 @@ place-stays : {A : Type 0} (s : Said) (old new : A) → 0 < s .number → placed
 place-stays s old new p = rw (ne-eqb (s .number) 0 (λ z. omega arith))
 
 call-stays : (row : List Board) (c : Call) → 0 < returns row c .number → first (barsOf row c) ≡ returns row c .number → (leaves row c ≡ row) × (returns row c .place ≡ lent c)
-unfolding sampleRow frameRow frameBuffer listBuffer sampleOf sampleNumber sampleOut boardNumber boardOut readNumber readOut
+unfolding sampleRow frameRow frameBuffer listBuffer sampleOf sampleNumber sampleOut boardNumber boardOut readNumber readOut upNumber upOut
 call-stays row (sampleCall n x mv out) p e =
     (kept-old (barsOf row (sampleCall n x mv out)) _ p e _ _, ap inSample (place-stays (answerSaid (sampleAnswer row n x mv)) out _ p))
 call-stays row (recordCall at x mv out) p e =
@@ -221,6 +228,7 @@ call-stays row (listCall n words count) p e =
     let other : eqb number 0 ≡ false = ne-eqb number 0 (λ z. omega (arith, p, z)) in
     (refl, λ i. inList (left i) (cond (other i) (listNumber row n words) count))
 call-stays row (readCall out) p e = (refl, ap inReading (place-stays (viewSaid (readingOf row)) out _ p))
+call-stays row (upCall out) p e = (refl, ap inUp (place-stays (glanceSaid (upOf row)) out _ p))
 
 open-stays : (row : List Board) (plans : List ℕ) → 0 < openNumber row plans → openRow row plans ≡ row
 unfolding openRow

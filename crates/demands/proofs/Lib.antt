@@ -22,6 +22,7 @@ pub mod Mechanic
 pub mod Asked
 pub mod Refused
 pub mod Whole
+pub mod Up
 pub mod Face
 pub mod Host
 pub mod Counts

@@ -32,7 +32,7 @@ use Rattle.registers.proofs.Map.{read-setting}
 use Rattle.stack.specs.Row.{goodRow, placeOf}
 use Rattle.stack.specs.Frame.{framePlace, frameRow}
 use Rattle.demands.specs.Paper.{sampled, History, programming, staged, working, spent, sampleOf, runOf, stoodDelay, places, stands, letsGo, clears, counted, Filter, countAt, trips, counting, backAt, recovers, recovering, filter, latched, latchesAt, tallied}
-use Rattle.demands.specs.Acts.{Act, sample, frame, listing, reading, Outcome, bars, outcome, next, final}
+use Rattle.demands.specs.Acts.{Act, sample, frame, listing, reading, up, Outcome, bars, outcome, next, final}
 use Rattle.demands.specs.Demands.{Log, noLog, begun, logAt, joined, rowGiven, frameEntry, joins, taken, shownGiven, frameSays}
 use Rattle.demands.specs.Mechanic.{Stood, bitOf, isLatched, Accepted, Answers, Mechanic}
 use Rattle.demands.proofs.Lists.{some-at, some-yes}
@@ -312,6 +312,7 @@ module _ (logs : List Log) (good : goodRow (rowGiven logs) ≡ true) (fine : (at
       stays (bars row a) (values row a) n p (sym (act-judged row a) ∙ e) logs (joins logs (framePlace bytes) (frameEntry bytes))
   refused-leaves (listing k buffer) n p e = refl
   refused-leaves reading n p e = refl
+  refused-leaves up n p e = refl
 
   -- a tally's bytes
   module _ (bytes buffer : List ℕ) (taken-in : Accepted row (frame bytes buffer)) (w : writes (byte bytes 0) ≡ false) where
@@ -360,6 +361,7 @@ module _ (logs : List Log) (good : goodRow (rowGiven logs) ≡ true) (fine : (at
         never-crossed = fine;
         refused = λ a n p e. let same = demand1 row .unchanged a n p e in (same .0, same .1, refused-leaves a n p e);
         reading-accepted = ap (λ (o : Outcome). o .said .number) (tells logs good reading);
+        up-accepted = ap (λ (o : Outcome). o .said .number) (tells logs good up);
       }
 
 pub mechanic : Mechanic

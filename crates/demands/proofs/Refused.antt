@@ -36,7 +36,7 @@ use Rattle.stack.specs.Sample.{sampleRowBars}
 use Rattle.stack.specs.Frame.{framePlace, frameRowBars}
 use Rattle.stack.specs.List.{entriesOf, listBars}
 use Rattle.demands.specs.Paper.{Entry, History, staged, working, spent}
-use Rattle.demands.specs.Acts.{Act, sample, frame, listing, reading, bars, outcome, next, openedRow, final}
+use Rattle.demands.specs.Acts.{Act, sample, frame, listing, reading, up, bars, outcome, next, openedRow, final}
 use Rattle.demands.specs.Table.{FirstIs, NoneHolds, ByTable}
 use Rattle.demands.specs.Demands.{Log, noLog, begun, logAt, joined, boardGiven, rowGiven, joins, taken, listingSays, opens}
 use Rattle.demands.specs.Refused.{Rule, Some, NoGarden, NoPlan, NoStack, plansBy, plansOf, plansIn, logOf, NoBoard, WrongCells, WrongShunt, WrongReading, ReadOf, WriteOf, Reads, Writes, NoBoardNamed, Named, OfTallies, Known, OnlyRead, WrongRegister, MayCarry, WrongValue, Programs, Crossed, Worn, NoRoom, openingRules, sampleRules, frameRules, listRules, rules, SameRows, SameTable, FirstOf, NoneOf, ByRules, ActOf, entered, RefusedByPaper}
@@ -427,6 +427,7 @@ module _ (logs : List Log) (few : length logs ≤ 16) where
   act-rows (frame bytes buffer) = frame-rows bytes buffer
   act-rows (listing n buffer) = list-rows n buffer
   act-rows reading = also 1 (logs-ask logs) tt
+  act-rows up = also 1 (logs-ask logs) tt
 
 pub same-table : SameTable
 same-table =
@@ -494,6 +495,7 @@ bad-first row (frame bytes buffer) =
     one-first (not (goodRow row)) (frameBars bytes (length buffer) ++ (bar 2 (noBoard row (boardOf (byte bytes 0))) ∷ late)) refl
 bad-first row (listing n buffer) = one-first (not (goodRow row)) (bar 2 (noBoard row n) ∷ bar 14 (ltb (length buffer / 3) (length (entriesOf row n))) ∷ []) refl
 bad-first row reading = one-first (not (goodRow row)) [] refl
+bad-first row up = one-first (not (goodRow row)) [] refl
 
 -- ---- an act in its board's log
 
@@ -518,6 +520,7 @@ module _ (logs : List Log) (fine : ¬ NoStack (plansOf logs)) where
       (entered-is logs few n (λ none. none-holds .1 .1 .1 .1 .0 (n, is, none)) e)
   act-enters (listing m buffer) n e is none-holds = absurd is
   act-enters reading n e is none-holds = absurd is
+  act-enters up n e is none-holds = absurd is
 
   act-leaves : (a : Act) (n : ℕ) → 0 < n → FirstOf n (rules logs a) → taken logs a ≡ logs
   act-leaves a n p f =
@@ -528,6 +531,7 @@ module _ (logs : List Log) (fine : ¬ NoStack (plansOf logs)) where
       left (frame bytes buffer) e = kept-old (bars (rowGiven logs) (frame bytes buffer)) n p e logs _
       left (listing m buffer) e = refl
       left reading e = refl
+      left up e = refl
 
 -- ---- refused by the paper's table
 

@@ -15,6 +15,7 @@ use Rattle.board.specs.declared.Board.{Board}
 use Rattle.board.specs.Sample.{sampleValues}
 use Rattle.reading.specs.declared.Whole.{Whole}
 use Rattle.reading.specs.Reading.{summaryOf, readOf, wholeSaid}
+use Rattle.reading.specs.Line.{lineOf, lineSaid}
 use Rattle.stack.specs.Row.{goodRow, placeOf, boardAt}
 use Rattle.stack.specs.Open.{openBars, openRow}
 use Rattle.stack.specs.Sample.{sampleRow}
@@ -22,8 +23,8 @@ use Rattle.stack.specs.Frame.{frameReply, frameRow, frameBuffer}
 use Rattle.stack.specs.List.{entriesOf, listBuffer}
 use Rattle.stack.specs.Read.{viewSaid, readBars, readingOf}
 use Rattle.stack.proofs.Laws.{open-said, sample-said, frame-said, list-said}
-use Rattle.stack.proofs.Scanned.{whole-said}
-use Rattle.demands.specs.Acts.{Act, sample, frame, listing, reading, outcome, bars, next}
+use Rattle.stack.proofs.Scanned.{whole-said, up-said}
+use Rattle.demands.specs.Acts.{Act, sample, frame, listing, reading, up, outcome, bars, next}
 use Rattle.demands.specs.Table.{FirstIs, NoneHolds, ByTable, lent, InOrder, Demand1, Demand1Opening}
 use Rattle.demands.proofs.Clear.{numbered}
 
@@ -86,18 +87,21 @@ values row (sample n x mv) = sampleValues (boardAt row (placeOf n)) x mv
 values row (frame bytes buffer) = frameReply row bytes
 values row (listing n buffer) = length (entriesOf row n) ∷ []
 values row reading = wholeSaid (readOf (map summaryOf row))
+values row up = lineSaid (lineOf (map summaryOf row))
 
 pub act-judged : (row : List Board) (a : Act) → outcome row a .said ≡ judged (bars row a) (values row a)
 act-judged row (sample n x mv) = sample-said row n x mv
 act-judged row (frame bytes buffer) = frame-said row bytes buffer
 act-judged row (listing n buffer) = list-said row n buffer
 act-judged row reading = reading-judged row
+act-judged row up = up-said row
 
 numbers : (row : List Board) (a : Act) → numbered (bars row a) ≡ true
 numbers row (sample n x mv) = refl
 numbers row (frame bytes buffer) = refl
 numbers row (listing n buffer) = refl
 numbers row reading = refl
+numbers row up = refl
 
 act-stays : (row : List Board) (a : Act) (n : ℕ) → 0 < n → judged (bars row a) (values row a) ≡ refuses n → (next row a ≡ row) × (outcome row a .buffer ≡ lent a)
 unfolding sampleRow frameRow frameBuffer listBuffer
@@ -108,9 +112,10 @@ act-stays row (frame bytes buffer) k p e =
     (stays rows vs k p e _ _, stays rows vs k p e _ _)
 act-stays row (listing n buffer) k p e = (refl, stays (bars row (listing n buffer)) (values row (listing n buffer)) k p e _ _)
 act-stays row reading k p e = (refl, refl)
+act-stays row up k p e = (refl, refl)
 
 in-order : (row : List Board) → InOrder row
-in-order row = record { of-sample = λ n x mv. refl; of-frame = λ bytes buffer. refl; of-listing = λ n buffer. refl; of-reading = refl }
+in-order row = record { of-sample = λ n x mv. refl; of-frame = λ bytes buffer. refl; of-listing = λ n buffer. refl; of-reading = refl; of-up = refl }
 
 pub demand1 : (row : List Board) → Demand1 row
 demand1 row =

@@ -11,7 +11,7 @@ use lib.Seq.{getD-set-same}
 use borrow.Author.Tests.{ltb-true, ltb-false, eqb-true, not-false}
 use Rattle.lists.proofs.Split.{split, both}
 use Rattle.settings.specs.Levels.{crossed}
-use Rattle.refusal.specs.Said.{Bar, bar, accepts, first, judged, unlessRefused}
+use Rattle.refusal.specs.Said.{Said, Bar, bar, accepts, first, judged, unlessRefused}
 use Rattle.latches.specs.declared.Latches.{Latches}
 use Rattle.latches.specs.Latches.{anyLatch, chgOn, dsgOn, latchesOf, latchesByte}
 use Rattle.latches.specs.Tallies.{tallies}
@@ -32,16 +32,19 @@ use Rattle.registers.specs.Map.{Shown, readValue, fits, noRegister}
 use Rattle.registers.specs.Registers.{programs, lacksCycle, accessBars, boardAfter, replyValue}
 use Rattle.reading.specs.declared.Summary.{Summary}
 use Rattle.reading.specs.Reading.{summaryOf, readOf, wholeSaid}
+use Rattle.reading.specs.Line.{lineOf, lineSaid}
 use Rattle.stack.specs.Row.{goodRow, noBoard, placeOf, boardAt}
 use Rattle.stack.specs.Sample.{sampleRowBars, sampleRow}
 use Rattle.stack.specs.Frame.{framePlace, frameBoard, boardFramed, frameReply, frameRowBars, frameRow, frameBuffer}
 use Rattle.stack.specs.List.{entriesOf, listBars, listBuffer}
-use Rattle.stack.specs.Read.{readBars}
+use Rattle.stack.specs.Read.{viewSaid, readBars, readingOf}
+use Rattle.stack.specs.Up.{glanceSaid, upOf}
+use Rattle.stack.proofs.Scanned.{up-said}
 use Rattle.registers.proofs.Map.{no-writes}
 use Rattle.stack.proofs.Ways.{board-good, has-none}
 use Rattle.stack.proofs.Laws.{sample-said, frame-said, list-said}
 use Rattle.demands.specs.Paper.{sampled, staged, working, spent, steers, latchesAt, tallied, latchings, control, mayDsg, mayChg}
-use Rattle.demands.specs.Acts.{Act, sample, frame, listing, reading, outcome, next}
+use Rattle.demands.specs.Acts.{Act, sample, frame, listing, reading, up, Outcome, outcome, next}
 use Rattle.demands.specs.Demands.{Log, noLog, logAt, joined, boardGiven, rowGiven, frameEntry, joins, taken, sampleSays, readSays, frameSays, listingSays, summaryGiven, told}
 use Rattle.demands.proofs.Given.{given-start, may-dsg-is, may-chg-is, status-is, given-framed}
 use Rattle.demands.proofs.Grown.{given-sampled, values-are}
@@ -244,7 +247,7 @@ module _ (logs : List Log) (n : ℕ) (buffer : List ℕ) where
       let said = list-said (rowGiven logs) n buffer ∙ ap (λ (es : List journal.Entry). judged rows (length es ∷ [])) entries-are in
       λ i. record { said = said i; buffer = unlessRefused rows buffer (journal.wordsOver (entries-are i) buffer) }
 
--- ---- a whole-stack reading
+-- ---- whole-stack acts: what the row's summaries say, told of a good row
 
 summary-is : (l : Log) → summaryOf (boardGiven l) ≡ summaryGiven l
 unfolding summaryOf
@@ -258,13 +261,14 @@ summaries-are : (logs : List Log) → map summaryOf (rowGiven logs) ≡ map summ
 summaries-are [] = refl
 summaries-are (l ∷ logs) = ap₂ (λ (s : Summary) (north : List Summary). s ∷ north) (summary-is l) (summaries-are logs)
 
-reading-told : (logs : List Log) → goodRow (rowGiven logs) ≡ true → outcome (rowGiven logs) reading ≡ told logs reading
-reading-told logs good =
+whole-told : (says : List Summary → List ℕ) (logs : List Log) → goodRow (rowGiven logs) ≡ true → (said : Said) → said ≡ judged (readBars (rowGiven logs)) (says (map summaryOf (rowGiven logs)))
+    → _≡_ {A = Outcome} (record { said = said; buffer = [] }) (record { said = accepts (says (map summaryGiven logs)); buffer = [] })
+whole-told says logs good said is =
     let row = rowGiven logs in
-    let vs = wholeSaid (readOf (map summaryOf row)) in
+    let vs = says (map summaryOf row) in
     let read : judged (readBars row) vs ≡ accepts vs = rw good in
-    let said = reading-judged row ∙ read ∙ ap (λ (boards : List Summary). accepts (wholeSaid (readOf boards))) (summaries-are logs) in
-    λ i. record { said = said i; buffer = [] }
+    let all = is ∙ read ∙ ap (λ (boards : List Summary). accepts (says boards)) (summaries-are logs) in
+    λ i. record { said = all i; buffer = [] }
 
 -- ---- any act
 
@@ -272,10 +276,12 @@ pub tells : (logs : List Log) → goodRow (rowGiven logs) ≡ true → (a : Act)
 tells logs good (sample n x mv) = sample-told logs n x mv
 tells logs good (frame bytes buffer) = frame-told logs bytes buffer
 tells logs good (listing n buffer) = list-told logs n buffer
-tells logs good reading = reading-told logs good
+tells logs good reading = let row = rowGiven logs in whole-told (λ boards. wholeSaid (readOf boards)) logs good (viewSaid (readingOf row)) (reading-judged row)
+tells logs good up = let row = rowGiven logs in whole-told (λ boards. lineSaid (lineOf boards)) logs good (glanceSaid (upOf row)) (up-said row)
 
 pub gives : (logs : List Log) (a : Act) → next (rowGiven logs) a ≡ rowGiven (taken logs a)
 gives logs (sample n x mv) = sample-taken logs n x mv
 gives logs (frame bytes buffer) = frame-taken logs bytes buffer
 gives logs (listing n buffer) = refl
 gives logs reading = refl
+gives logs up = refl

@@ -34,17 +34,17 @@ use Rattle.demands.proofs.Refused.{opens-so}
 
 -- ---- line and switches
 
-abbrev on : Log → Fault → Bool
+abbrev pub on : Log → Fault → Bool
 on l f = latched (l .plan) f (l .acts)
 
-abbrev On : Log → Fault → Type 0
+abbrev pub On : Log → Fault → Type 0
 On l f = on l f ≡ true
 
 asks-it : (b : Bool) → Asks b (b ≡ true)
 asks-it b = (λ e. e, λ e. e)
 
 -- a board has a latch
-any-ask : (l : Log) → Asks (summaryGiven l .latched) ((f : Fault) × On l f)
+pub any-ask : (l : Log) → Asks (summaryGiven l .latched) ((f : Fault) × On l f)
 any-ask l =
     let a = on l SCD in
     let b = on l OCD in
@@ -102,7 +102,7 @@ line-at (l ∷ logs) =
     back zero f h = inl (f, h)
     back (suc i) f h = inr (i, f, h)
 
-line-ask : (logs : List Log) → Asks (lineUp (map summaryGiven logs)) (LineUp logs 1)
+pub line-ask : (logs : List Log) → Asks (lineUp (map summaryGiven logs)) (LineUp logs 1)
 line-ask logs = asks-so (lineUp (map summaryGiven logs)) (line-at logs) (λ (i, f, h). (suc i, omega arith, f, h)) (λ (b, p, f, h). back b f h)
   where
     back : (b : ℕ) (f : Fault) → Latched logs b f → (i : ℕ) × (f : Fault) × On (logAt logs i) f
@@ -156,7 +156,7 @@ dsg-ask logs =
     let ask : (b : ℕ) → _ = λ b. let l = logOf logs b in switch-ask l (dsgSet (l .plan) (l .acts)) (on l UV) (on l OCD) (on l SCD) (on l OT) in
     asks-so (every dsgOn (map summaryGiven logs)) (every-board dsgOn refl logs) (λ h b. ask b .0 (h b)) (λ h b. ask b .1 (h b))
 
-one-if : {P : Type 0} (t : Bool) → Asks t P → OneIf P (bit t)
+pub one-if : {P : Type 0} (t : Bool) → Asks t P → OneIf P (bit t)
 one-if true a = inl (a .0 refl, refl)
 one-if false a = inr (asks-no false a .0 refl, refl)
 

@@ -13,13 +13,15 @@ use Rattle.stack.specs.Sample.{sampleRowBars, sampleAnswer, sampleRow}
 use Rattle.stack.specs.Frame.{frameRowBars, frameAnswer, frameRow, frameBuffer}
 use Rattle.stack.specs.List.{listBars, listingSaid, listAnswer, listBuffer}
 use Rattle.stack.specs.Read.{viewSaid, readBars, readingOf}
+use Rattle.stack.specs.Up.{glanceSaid, upOf}
 
--- the kinds of act: a sample of the board of a number, a frame with its lent reply buffer, a listing of the board of a number with its lent buffer of words, a whole-stack reading
+-- the kinds of act: a sample of the board of a number, a frame with its lent reply buffer, a listing of the board of a number with its lent buffer of words, a whole-stack reading, and a look whether anything is up
 pub data Act : Type 0 where
   sample : ℕ → Readings → List ℕ → Act
   frame : List ℕ → List ℕ → Act
   listing : ℕ → List ℕ → Act
   reading : Act
+  up : Act
 
 -- what comes of an act: the paper's number and values, and the lent buffer after it; only a frame and a listing lend one
 pub record Outcome : Type 0 where
@@ -32,20 +34,23 @@ bars row (sample n x mv) = sampleRowBars row n x mv
 bars row (frame bytes buffer) = frameRowBars row bytes buffer
 bars row (listing n buffer) = listBars row n buffer
 bars row reading = readBars row
+bars row up = readBars row
 
--- ---- the library: sample_stack, frame_stack, list_stack, read_stack, open_row
+-- ---- the library: sample_stack, frame_stack, list_stack, read_stack, up_stack, open_row
 
 abbrev pub outcome : List Board → Act → Outcome
 outcome row (sample n x mv) = record { said = answerSaid (sampleAnswer row n x mv); buffer = [] }
 outcome row (frame bytes buffer) = record { said = replySaid (frameAnswer row bytes buffer); buffer = frameBuffer row bytes buffer }
 outcome row (listing n buffer) = record { said = listingSaid (listAnswer row n buffer); buffer = listBuffer row n buffer }
 outcome row reading = record { said = viewSaid (readingOf row); buffer = [] }
+outcome row up = record { said = glanceSaid (upOf row); buffer = [] }
 
 abbrev pub next : List Board → Act → List Board
 next row (sample n x mv) = sampleRow row n x mv
 next row (frame bytes buffer) = frameRow row bytes buffer
 next row (listing n buffer) = row
 next row reading = row
+next row up = row
 
 -- the row that open_row gives of as many records as there are plans
 abbrev pub openedRow : List ℕ → List Board

@@ -19,11 +19,12 @@ use Rattle.frame.specs.Reply.{replyBytes}
 use Rattle.registers.specs.Map.{Shown, readValue}
 use Rattle.reading.specs.declared.Summary.{Summary}
 use Rattle.reading.specs.Reading.{readOf, wholeSaid}
+use Rattle.reading.specs.Line.{lineOf, lineSaid}
 use Rattle.stack.specs.Row.{placeOf}
 use Rattle.stack.specs.Open.{openBars}
 use Rattle.stack.specs.Frame.{framePlace}
 use Rattle.demands.specs.Paper.{Entry, sampled, framed, History, programming, working, spent, latchesAt, tallied, control, mayDsg, mayChg, status, flagsAt, listed, given}
-use Rattle.demands.specs.Acts.{Act, sample, frame, listing, reading, Outcome, bars, outcome, next, openedRow, final, answers}
+use Rattle.demands.specs.Acts.{Act, sample, frame, listing, reading, up, Outcome, bars, outcome, next, openedRow, final, answers}
 use Rattle.demands.specs.Shuffle.{picked, Shuffle}
 use Rattle.demands.specs.Tied.{tied}
 
@@ -70,6 +71,7 @@ taken logs (sample n x mv) = unlessRefused (bars (rowGiven logs) (sample n x mv)
 taken logs (frame bytes buffer) = unlessRefused (bars (rowGiven logs) (frame bytes buffer)) logs (joins logs (framePlace bytes) (frameEntry bytes))
 taken logs (listing n buffer) = logs
 taken logs reading = logs
+taken logs up = logs
 
 -- ---- what an accepted act says, by the log after it
 
@@ -116,11 +118,15 @@ summaryGiven l =
 abbrev pub readingSays : List Log → List ℕ
 readingSays logs = wholeSaid (readOf (map summaryGiven logs))
 
+-- whether anything is up: the line, and the boards looked at for it
+abbrev pub upSays : List Log → List ℕ
+upSays logs = lineSaid (lineOf (map summaryGiven logs))
+
 -- a listing: the last 128 latchings of its board, or all if fewer
 abbrev pub listingSays : Log → List journal.Entry
 listingSays l = listed (l .plan) (l .acts)
 
--- the outcome that the paper tells: the first refusal in the table's order, or these values; a reading of an opened stack is never refused
+-- the outcome that the paper tells: the first refusal in the table's order, or these values; a whole-stack act on an opened stack is never refused
 abbrev pub told : List Log → Act → Outcome
 told logs (sample n x mv) =
     record {
@@ -136,6 +142,7 @@ told logs (listing n buffer) =
     let entries = listingSays (logAt logs (placeOf n)) in
     record { said = judged refusals (length entries ∷ []); buffer = unlessRefused refusals buffer (journal.wordsOver entries buffer) }
 told logs reading = record { said = accepts (readingSays logs); buffer = [] }
+told logs up = record { said = accepts (upSays logs); buffer = [] }
 
 -- ---- demand 2
 

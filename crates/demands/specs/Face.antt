@@ -18,9 +18,10 @@ use Rattle.stack.specs.Frame.{frameRow, frameBuffer}
 use Rattle.stack.specs.List.{listBuffer}
 use Rattle.adomvik.specs.declared.Sampled.{Sampled}
 use Rattle.adomvik.specs.declared.Reading.{Reading}
-use Rattle.adomvik.specs.Placed.{placed, sampledOf, readingOf}
-use Rattle.adomvik.specs.Calls.{openNumber, countsNumber, sampleNumber, sampleOut, boardNumber, boardOut, frameNumber, listNumber, readNumber, readOut}
-use Rattle.demands.specs.Acts.{Act, sample, frame, listing, reading, Outcome, bars, outcome, next, openedRow, final, answers}
+use Rattle.adomvik.specs.declared.Up.{Up}
+use Rattle.adomvik.specs.Placed.{placed, sampledOf, readingOf, upIn}
+use Rattle.adomvik.specs.Calls.{openNumber, countsNumber, sampleNumber, sampleOut, boardNumber, boardOut, frameNumber, listNumber, readNumber, readOut, upNumber, upOut}
+use Rattle.demands.specs.Acts.{Act, sample, frame, listing, reading, up, Outcome, bars, outcome, next, openedRow, final, answers}
 use Rattle.demands.specs.Shuffle.{picked, Shuffle}
 use Rattle.demands.specs.Tied.{tied}
 use Rattle.demands.specs.Table.{FirstIs, NoneHolds}
@@ -28,13 +29,14 @@ use Rattle.demands.specs.Demands.{Log, begun, rowGiven, taken, told, ope
 
 -- ---- a call, and what comes of it
 
--- adomvik_sample by the board's number, adomvik_sample_board on the record at a place of the row, counted from 0, adomvik_frame, adomvik_list with the place of the count that the header adds, adomvik_read; each with what it is lent beside the row
+-- adomvik_sample by the board's number, adomvik_sample_board on the record at a place of the row, counted from 0, adomvik_frame, adomvik_list with the place of the count that the header adds, adomvik_read, adomvik_up; each with what it is lent beside the row
 pub data Call : Type 0 where
   sampleCall : ℕ → Readings → List ℕ → Sampled → Call
   recordCall : ℕ → Readings → List ℕ → Sampled → Call
   frameCall : List ℕ → List ℕ → Call
   listCall : ℕ → List ℕ → ℕ → Call
   readCall : Reading → Call
+  upCall : Up → Call
 
 -- what is lent beside the row
 pub data Place : Type 0 where
@@ -42,6 +44,7 @@ pub data Place : Type 0 where
   inReply : List ℕ → Place
   inList : List ℕ → ℕ → Place
   inReading : Reading → Place
+  inUp : Up → Place
 
 abbrev pub lent : Call → Place
 lent (sampleCall n x mv out) = inSample out
@@ -49,6 +52,7 @@ lent (recordCall at x mv out) = inSample out
 lent (frameCall bytes buffer) = inReply buffer
 lent (listCall n words count) = inList words count
 lent (readCall out) = inReading out
+lent (upCall out) = inUp out
 
 -- the number that a call returns, and what is lent after it
 pub record Returned : Type 0 where
@@ -65,6 +69,7 @@ returns row (recordCall at x mv out) = returned (boardNumber (boardAt row at) x 
 returns row (frameCall bytes buffer) = returned (frameNumber row bytes buffer) (inReply (frameBuffer row bytes buffer))
 returns row (listCall n words count) = let r = listNumber row n words in returned (r - 256) (inList (listBuffer row n words) (cond (eqb (r - 256) 0) r count))
 returns row (readCall out) = returned (readNumber row) (inReading (readOut row out))
+returns row (upCall out) = returned (upNumber row) (inUp (upOut row out))
 
 -- the row after it
 abbrev pub leaves : List Board → Call → List Board
@@ -73,6 +78,7 @@ leaves row (recordCall at x mv out) = set row at (sampleOf (boardAt row at) x mv
 leaves row (frameCall bytes buffer) = frameRow row bytes buffer
 leaves row (listCall n words count) = row
 leaves row (readCall out) = row
+leaves row (upCall out) = row
 
 -- ---- the act that a call is, and the outcome of that act as C gets it: its number, and its values in the place unless it is refused
 
@@ -82,6 +88,7 @@ actOf (recordCall at x mv out) = sample (suc at) x mv
 actOf (frameCall bytes buffer) = frame bytes buffer
 actOf (listCall n words count) = listing n words
 actOf (readCall out) = reading
+actOf (upCall out) = up
 
 abbrev pub inC : Call → Outcome → Returned
 inC (sampleCall n x mv out) o = returned (o .said .number) (inSample (placed (o .said) out (sampledOf (o .said))))
@@ -89,6 +96,7 @@ inC (recordCall at x mv out) o = returned (o .said .number) (inSample (placed (o
 inC (frameCall bytes buffer) o = returned (o .said .number) (inReply (o .buffer))
 inC (listCall n words count) o = returned (o .said .number) (inList (o .buffer) (placed (o .said) count (value 0 (o .said))))
 inC (readCall out) o = returned (o .said .number) (inReading (placed (o .said) out (readingOf (o .said))))
+inC (upCall out) o = returned (o .said .number) (inUp (placed (o .said) out (upIn (o .said))))
 
 -- a record that is lent by itself is one of the row
 abbrev pub OfRow : ℕ → Call → Type 0
@@ -97,6 +105,7 @@ OfRow boards (recordCall at x mv out) = at < boards
 OfRow boards (frameCall bytes buffer) = Unit {0}
 OfRow boards (listCall n words count) = Unit {0}
 OfRow boards (readCall out) = Unit {0}
+OfRow boards (upCall out) = Unit {0}
 
 abbrev pub AllOfRow : ℕ → List Call → Type 0
 AllOfRow boards [] = Unit {0}
@@ -124,6 +133,7 @@ barsOf row (recordCall at x mv out) = sampleBars (boardAt row at) x mv
 barsOf row (frameCall bytes buffer) = bars row (frame bytes buffer)
 barsOf row (listCall n words count) = bars row (listing n words)
 barsOf row (readCall out) = bars row reading
+barsOf row (upCall out) = bars row up
 
 -- the numbers that a call may return beside 0
 abbrev pub numbers : Call → List ℕ
@@ -132,6 +142,7 @@ numbers (recordCall at x mv out) = 1 ∷ 3 ∷ 4 ∷ 5 ∷ []
 numbers (frameCall bytes buffer) = 1 ∷ 6 ∷ 7 ∷ 8 ∷ 2 ∷ 9 ∷ 10 ∷ 13 ∷ 11 ∷ []
 numbers (listCall n words count) = 1 ∷ 2 ∷ 14 ∷ []
 numbers (readCall out) = 1 ∷ []
+numbers (upCall out) = 1 ∷ []
 
 abbrev pub OneOf : ℕ → List ℕ → Type 0
 OneOf n [] = ⊥

@@ -11,6 +11,7 @@ pub mod Turns
 pub mod Mechanic
 pub mod Refused
 pub mod Whole
+pub mod Up
 pub mod Face
 pub mod Host
 pub mod Garden

@@ -20,7 +20,7 @@ use Rattle.frame.specs.Reply.{replyBytes}
 use Rattle.stack.specs.Row.{placeOf, boardAt}
 use Rattle.stack.specs.Frame.{framePlace}
 use Rattle.demands.specs.Paper.{Entry, sampled, framed, History, programming, staged, working, spends, howMany, spent, sampleOf, holds, runOf, places, letsGo, clears, counted, countAt, backAt, filter, tallied, control}
-use Rattle.demands.specs.Acts.{Act, sample, frame, reading, outcome, next, openedRow, final}
+use Rattle.demands.specs.Acts.{Act, sample, frame, reading, up, outcome, next, openedRow, final}
 use Rattle.demands.specs.Table.{lent}
 use Rattle.demands.specs.Turns.{Under, Calm}
 use Rattle.demands.specs.Demands.{Log, begun, logAt, frameEntry, taken, opens}
@@ -130,8 +130,9 @@ pub record Answers (row : List Board) (logs : List Log) : Type 0 where
       → (next row (frame bytes buffer) ≡ row) × (outcome row (frame bytes buffer) .said ≡ refuses 13 → ⊥) × (outcome row (frame bytes buffer) .said ≡ refuses 11 → ⊥)
   -- a refused act changes no record and no byte of its buffer, and joins no history: a refused sample is in no stretch and breaks none
   pub refused : (a : Act) (n : ℕ) → 0 < n → outcome row a .said ≡ refuses n → (next row a ≡ row) × (outcome row a .buffer ≡ lent a) × (taken logs a ≡ logs)
-  -- a whole-stack reading is never refused
+  -- a whole-stack act is never refused
   pub reading-accepted : Accepted row reading
+  pub up-accepted : Accepted row up
 
 -- whatever was opened, and whatever came after it
 abbrev pub Mechanic : Type 0

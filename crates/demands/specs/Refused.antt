@@ -1,4 +1,4 @@
--- The table of refusals a second time, from what is known of each board and the act alone: for each act its rows in order, each a number and a proposition (01, Refusal numbers; Frames and registers; 02, tickets 1, 3, 5, 7 and 8).
+-- The table of refusals a second time, from what is known of each board and the act alone: for each act its rows in order, each a number and a proposition (01, Refusal numbers; Frames and registers; 02, tickets 1, 3, 5 and 7 to 9).
 -- None of the library's conditions is used: beside the history (Paper) it rests on what a record says that its board is (board, planIn), the two current levels (settings, Levels) and the check byte, which is bit by bit (frame, Check).
 -- Assumes nothing.
 use Prim.Native.Nat.{ℕ, zero, suc, _+_, _-_, _*_, _<_, _≤_, _/_}
@@ -18,7 +18,7 @@ use Rattle.frame.specs.Check.{checkOf}
 use Rattle.stack.specs.Open.{openBars, openingSaid, openAnswer}
 use Rattle.stack.specs.Read.{readBars}
 use Rattle.demands.specs.Paper.{Entry, sampled, framed, History, staged, working, spent, listed}
-use Rattle.demands.specs.Acts.{Act, sample, frame, listing, reading, bars, outcome, next, openedRow, final}
+use Rattle.demands.specs.Acts.{Act, sample, frame, listing, reading, up, bars, outcome, next, openedRow, final}
 use Rattle.demands.specs.Demands.{Log, noLog, begun, logAt, joined, rowGiven, taken}
 
 -- a row of the table: a refusal's number, and what has to hold
@@ -207,6 +207,7 @@ rules logs (sample n x mv) = sampleRules logs n x mv
 rules logs (frame bytes buffer) = frameRules logs bytes buffer
 rules logs (listing n buffer) = listRules logs n buffer
 rules logs reading = stackRules (plansOf logs)
+rules logs up = stackRules (plansOf logs)
 
 -- ---- the library's table is this one, row by row in the same order: each condition holds exactly where the paper's does
 
@@ -239,7 +240,7 @@ pub record ByRules (rs : List Rule) (said : Said) : Type 0 where
   pub refused : (n : ℕ) → 0 < n → (said ≡ refuses n) ↔ FirstOf n rs
   pub accepted : (said .number ≡ 0) ↔ NoneOf rs
 
--- an act of board n, as it stands in that board's log; a listing stands in none
+-- an act of board n, as it stands in that board's log; a listing and a whole-stack act stand in none
 abbrev pub ActOf : ℕ → Entry → Act → Type 0
 ActOf n e (sample m x mv) = (m ≡ n) × (e ≡ sampled x mv)
 ActOf n e (frame bytes buffer) =
@@ -247,6 +248,7 @@ ActOf n e (frame bytes buffer) =
     (ReadOf n address ⊎ WriteOf n address) × (e ≡ framed address (getD bytes 1 0) (getD bytes 2 0))
 ActOf n e (listing m buffer) = ⊥
 ActOf n e reading = ⊥
+ActOf n e up = ⊥
 
 abbrev pub entered : List Log → ℕ → Entry → List Log
 entered logs n e = set logs (n - 1) (joined (logOf logs n) e)

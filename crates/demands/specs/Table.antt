@@ -10,7 +10,7 @@ use Rattle.refusal.specs.Said.{Said, refuses, Bar}
 use Rattle.board.specs.declared.Board.{Board}
 use Rattle.board.specs.declared.Readings.{Readings}
 use Rattle.stack.specs.Open.{openBars, openingSaid, openAnswer, openRow}
-use Rattle.demands.specs.Acts.{Act, sample, frame, listing, reading, outcome, bars, next}
+use Rattle.demands.specs.Acts.{Act, sample, frame, listing, reading, up, outcome, bars, next}
 
 -- n is the number of the first row of a table whose condition holds
 abbrev pub FirstIs : ℕ → List Bar → Type 0
@@ -32,6 +32,7 @@ lent (sample n x mv) = []
 lent (frame bytes buffer) = buffer
 lent (listing n buffer) = buffer
 lent reading = []
+lent up = []
 
 -- the rows that each act meets, in the paper's order
 abbrev pub numbersOf : List Bar → List ℕ
@@ -42,6 +43,7 @@ pub record InOrder (row : List Board) : Type 0 where
   pub of-frame : (bytes buffer : List ℕ) → numbersOf (bars row (frame bytes buffer)) ≡ 1 ∷ 6 ∷ 7 ∷ 8 ∷ 2 ∷ 9 ∷ 10 ∷ 13 ∷ 11 ∷ []
   pub of-listing : (n : ℕ) (buffer : List ℕ) → numbersOf (bars row (listing n buffer)) ≡ 1 ∷ 2 ∷ 14 ∷ []
   pub of-reading : numbersOf (bars row reading) ≡ 1 ∷ []
+  pub of-up : numbersOf (bars row up) ≡ 1 ∷ []
 
 -- on any row of records, also one that no opening gave
 pub record Demand1 (row : List Board) : Type 0 where

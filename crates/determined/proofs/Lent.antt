@@ -15,13 +15,14 @@ use Rattle.determined.specs.Determined.{Lent, AtExit, lentAt, Takes, Als
 use Rattle.board.specs.Sample.{sampleOf}
 use Rattle.frame.specs.Way.{replyOf, bufferWith}
 use Rattle.registers.specs.Registers.{obeyedOf}
-use Rattle.reading.specs.Way.{readRow}
+use Rattle.reading.specs.Way.{readRow, lineRow}
 use Rattle.stack.specs.Open.{openAnswer, openRow, openCountsAnswer, openCountsRow}
 use Rattle.stack.specs.Sample.{sampleAnswer, sampleRow}
 use Rattle.stack.specs.Frame.{frameAnswer, frameRow, frameBuffer}
 use Rattle.stack.specs.List.{listAnswer, listBuffer}
 use Rattle.stack.specs.Read.{readingOf}
-use Rattle.adomvik.specs.Calls.{openNumber, countsNumber, sampleNumber, sampleOut, boardNumber, boardOut, frameNumber, listNumber, readNumber, readOut}
+use Rattle.stack.specs.Up.{upOf}
+use Rattle.adomvik.specs.Calls.{openNumber, countsNumber, sampleNumber, sampleOut, boardNumber, boardOut, frameNumber, listNumber, readNumber, readOut, upNumber, upOut}
 use Rattle.held.specs.Held.{framedOf, framedBuffer}
 use Rattle.acts.specs.InPlace.{actTold, actRow}
 use Rattle.text.specs.Way.{placed, Put}
@@ -33,6 +34,7 @@ use Rattle.frame.proofs.Outcome as Frame-outcome
 use Rattle.frame.proofs.Request as Request
 use Rattle.frame.proofs.Reply as Reply
 use Rattle.reading.proofs.Whole as Whole
+use Rattle.reading.proofs.Line as Line
 use Rattle.held.proofs.Stack as Stack
 use Rattle.held.proofs.FramedStack as FramedStack
 use Rattle.acts.proofs.Act as Act
@@ -46,12 +48,14 @@ use Rattle.journal.specs.Ring.{listing, wordsOver}
 use Rattle.board.proofs.sample_board as sample-board
 use Rattle.registers.proofs.obey_board as obey-board
 use Rattle.reading.proofs.read_row as read-row
+use Rattle.reading.proofs.line_row as line-row
 use Rattle.stack.proofs.open_row as open-row
 use Rattle.stack.proofs.open_counts as open-counts
 use Rattle.stack.proofs.sample_stack as sample-stack
 use Rattle.stack.proofs.frame_stack as frame-stack
 use Rattle.stack.proofs.list_stack as list-stack
 use Rattle.stack.proofs.read_stack as read-stack
+use Rattle.stack.proofs.up_stack as up-stack
 use Rattle.adomvik.proofs.adomvik_open as adomvik-open
 use Rattle.adomvik.proofs.adomvik_open_plans as adomvik-open-plans
 use Rattle.adomvik.proofs.adomvik_sample as adomvik-sample
@@ -59,6 +63,7 @@ use Rattle.adomvik.proofs.adomvik_sample_board as adomvik-sample-board
 use Rattle.adomvik.proofs.adomvik_frame as adomvik-frame
 use Rattle.adomvik.proofs.adomvik_list as adomvik-list
 use Rattle.adomvik.proofs.adomvik_read as adomvik-read
+use Rattle.adomvik.proofs.adomvik_up as adomvik-up
 use Rattle.held.proofs.frame_held as frame-held
 use Rattle.acts.proofs.act_row as act-row
 use Rattle.text.proofs.put_told as put-told
@@ -100,6 +105,9 @@ list-stack-one = record { cited = λ M. stack.list-stack-says {M = M}; one = by-
 pub read-stack-one : Determined stack.readForm (λ M. read-stack.spec {M = M})
 read-stack-one = record { cited = λ M. stack.read-stack-says {M = M}; one = by-equations (stack.readForm .params) (stack.readForm .result) readingOf (λ row. tt) }
 
+pub up-stack-one : Determined stack.upForm (λ M. up-stack.spec {M = M})
+up-stack-one = record { cited = λ M. stack.up-stack-says {M = M}; one = by-equations (stack.upForm .params) (stack.upForm .result) upOf (λ row. tt) }
+
 -- ---- the acts for C
 
 pub adomvik-open-one : Determined adomvik.openForm (λ M. adomvik-open.spec {M = M})
@@ -122,6 +130,9 @@ adomvik-list-one = record { cited = λ M. adomvik.list-says {M = M}; one = by-eq
 
 pub adomvik-read-one : Determined adomvik.readForm (λ M. adomvik-read.spec {M = M})
 adomvik-read-one = record { cited = λ M. adomvik.read-says {M = M}; one = by-equations (adomvik.readForm .params) u8 (λ row out. readNumber row) (λ row out. (readOut row out, tt)) }
+
+pub adomvik-up-one : Determined adomvik.upForm (λ M. adomvik-up.spec {M = M})
+adomvik-up-one = record { cited = λ M. adomvik.up-says {M = M}; one = by-equations (adomvik.upForm .params) u8 (λ row out. upNumber row) (λ row out. (upOut row out, tt)) }
 
 -- ---- below and beside the library
 
@@ -159,6 +170,13 @@ readRowForm = of-slice Whole.the-row Board.the-row readRow
 
 pub read-row-one : Determined readRowForm (λ M. read-row.spec {M = M})
 read-row-one = record { cited = λ M 𝓤 H A mem run. refl; one = by-equations (readRowForm .params) Whole.the-row readRow (λ row. tt) }
+
+-- the fault line of a row, which is only read
+abbrev lineRowForm : Form
+lineRowForm = of-slice Line.the-row Board.the-row lineRow
+
+pub line-row-one : Determined lineRowForm (λ M. line-row.spec {M = M})
+line-row-one = record { cited = λ M 𝓤 H A mem run. refl; one = by-equations (lineRowForm .params) Line.the-row lineRow (λ row. tt) }
 
 -- what is told, and the row
 abbrev actForm : Form
