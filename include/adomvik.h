@@ -235,6 +235,12 @@ typedef struct adomvik_reading {
     uint8_t cell;  /* the lowest flagged cell on it, or 0 */
 } adomvik_reading;
 
+/* The fault line alone. */
+typedef struct adomvik_line {
+    uint8_t line;   /* 1 where board 1's fault line is up */
+    uint8_t looked; /* the boards looked at: the number of the southernmost with a latch, or of all boards where none has one */
+} adomvik_line;
+
 /* An entry of a listing. Causes and cells of a record that came from no opening may be any numbers up to 15. */
 typedef struct adomvik_latching {
     uint32_t cause;  /* ADOMVIK_CAUSE_.. */
@@ -267,6 +273,7 @@ ADOMVIK_ASSERT(sizeof(adomvik_journal) == 644 && ADOMVIK_ALIGN(adomvik_journal) 
 ADOMVIK_ASSERT(sizeof(adomvik_readings) == 16 && ADOMVIK_ALIGN(adomvik_readings) == 4, "readings are four numbers of 4 bytes");
 ADOMVIK_ASSERT(sizeof(adomvik_sampled) == 4 && offsetof(adomvik_sampled, bled) == 2, "an answer to a sample is 4 bytes");
 ADOMVIK_ASSERT(sizeof(adomvik_reading) == 5, "a reading is 5 bytes");
+ADOMVIK_ASSERT(sizeof(adomvik_line) == 2 && offsetof(adomvik_line, line) == 0 && offsetof(adomvik_line, looked) == 1, "a fault line is 2 bytes");
 ADOMVIK_ASSERT(sizeof(adomvik_latching) == 12 && ADOMVIK_ALIGN(adomvik_latching) == 4 && offsetof(adomvik_latching, cause) == 0
         && offsetof(adomvik_latching, cell) == 4 && offsetof(adomvik_latching, number) == 8, "an entry is three numbers of 4 bytes");
 
@@ -289,6 +296,11 @@ uint8_t adomvik_frame(adomvik_board *row, size_t boards, const uint8_t *frame, s
 
 /* The whole-stack reading. Refusal 1, which no opened row gets. */
 uint8_t adomvik_read(const adomvik_board *row, size_t boards, adomvik_reading *out);
+
+/* Is anything up? The line of the reading alone, by a search that stops at the first board with a latch. The OV latch that a garden
+ * board starts with is one; a host board whose switches are off has none by that. Refusal 1, for which the whole row is looked at,
+ * and which no opened row gets. */
+uint8_t adomvik_up(const adomvik_board *row, size_t boards, adomvik_line *out);
 
 /* What adomvik_listing calls: three numbers for each entry, and of all `many` only those are written. Returns how many entries there
  * are, or 256 and the number of the refusal. */

@@ -71,6 +71,14 @@ export interface Reading {
   cell: number;
 }
 
+/** The fault line alone. */
+export interface Line {
+  /** Board 1's fault line is up. */
+  line: boolean;
+  /** The boards looked at: the number of the southernmost with a latch, or of all boards where none has one. */
+  looked: number;
+}
+
 /** An entry of a listing. Causes and cells of a record that came from no opening may be any numbers up to 15. */
 export interface Latching {
   /** One of the five causes, CAUSE_SCD to CAUSE_HOT. */
@@ -117,6 +125,8 @@ export class Row {
   frameInto(frame: ArrayLike<number> & Iterable<number>, reply: Uint8Array): void;
   /** The whole-stack reading. */
   read(): Reading;
+  /** Is anything up? The line of the reading alone, by a search that stops at the first board with a latch. */
+  up(): Line;
   /** The journal of one board, counted from 1: its entries, oldest first. */
   listing(board: number): Latching[];
   /**

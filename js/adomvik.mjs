@@ -239,6 +239,14 @@ export class Row {
     return { line: line === 1, chg: chg === 1, dsg: dsg === 1, board, cell };
   }
 
+  /** Is anything up? The line of the reading alone, by a search that stops at the first board with a latch. */
+  up() {
+    const out = this.#place(0, 2);
+    accepted(this.#acts.adomvik_up(this.#at, this.#boards, out));
+    const [line, looked] = new Uint8Array(this.#memory.buffer, out, 2);
+    return { line: line === 1, looked };
+  }
+
   /**
    * The journal of one board, counted from 1, oldest entry first: how many entries it has. Cause, cell and sample number of each take
    * the first of `words`, and later ones stay.

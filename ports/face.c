@@ -11,6 +11,7 @@ uint8_t proved_sample(adomvik_board *row, uint64_t boards, uint32_t board, uint6
 uint8_t proved_sample_board(adomvik_board *board, uint64_t first, uint64_t second, const uint32_t *cells, uint64_t count, adomvik_sampled *out);
 uint8_t proved_frame(adomvik_board *row, uint64_t boards, const uint8_t *frame, uint64_t length, uint8_t *reply, uint64_t room);
 uint8_t proved_read(const adomvik_board *row, uint64_t boards, adomvik_reading *out);
+uint8_t proved_up(const adomvik_board *row, uint64_t boards, adomvik_line *out);
 uint32_t proved_list(const adomvik_board *row, uint64_t boards, uint32_t board, uint32_t *words, uint64_t many);
 
 /* Two fields of the readings that lie side by side, the lower one first. */
@@ -47,6 +48,11 @@ uint8_t adomvik_frame(adomvik_board *row, size_t boards, const uint8_t *frame, s
 uint8_t adomvik_read(const adomvik_board *row, size_t boards, adomvik_reading *out)
 {
     return proved_read(row, boards, out);
+}
+
+uint8_t adomvik_up(const adomvik_board *row, size_t boards, adomvik_line *out)
+{
+    return proved_up(row, boards, out);
 }
 
 uint32_t adomvik_list(const adomvik_board *row, size_t boards, uint32_t board, uint32_t *words, size_t many)

@@ -67,6 +67,19 @@
 //! assert_eq!(entries[..count], [Latching { cause: CAUSE_SCD, cell: 0, number: 2 }]);
 //! # Ok::<(), adomvik::Refusal>(())
 //! ```
+//!
+//! Whether anything is up is a question of its own, whose search stops at the first board with a latch:
+//!
+//! ```
+//! use adomvik::{Line, Readings, Row};
+//!
+//! let mut row = Row::open([5, 5, 5])?;
+//! assert_eq!(row.up()?, Line { line: false, looked: 3 });
+//! let hot = Readings { elapsed: 1_000, shunt: 0, thermistor: 900, load: 0 };
+//! row.sample(2, hot, &[3_600; 5])?;
+//! assert_eq!(row.up()?, Line { line: true, looked: 2 });
+//! # Ok::<(), adomvik::Refusal>(())
+//! ```
 #![no_std]
 #![warn(missing_docs)]
 
@@ -360,6 +373,23 @@ pub struct Reading {
     pub flagged: Option<(u8, u8)>,
 }
 
+#[repr(C)]
+struct RawLine {
+    line: u8,
+    looked: u8,
+}
+
+const _: () = assert!(size_of::<RawLine>() == 2);
+
+/// The fault line alone.
+#[derive(Clone, Copy, Debug, PartialEq, Eq)]
+pub struct Line {
+    /// Board 1's fault line is up.
+    pub line: bool,
+    /// The boards looked at: the number of the southernmost with a latch, or of all boards where none has one.
+    pub looked: u8,
+}
+
 /// An entry of a listing. Causes and cells of a record that came from no opening may be any numbers up to 15.
 #[derive(Clone, Copy, Debug, Default, PartialEq, Eq)]
 #[repr(C)]
@@ -382,6 +412,7 @@ extern "C" {
     fn adomvik_sample_board(board: &mut Board, readings: Readings, cells: *const u32, count: usize, out: &mut Sampled) -> u8;
     fn adomvik_frame(row: *mut Board, boards: usize, frame: *const u8, length: usize, reply: *mut u8, room: usize) -> u8;
     fn adomvik_read(row: *const Board, boards: usize, out: &mut RawReading) -> u8;
+    fn adomvik_up(row: *const Board, boards: usize, out: &mut RawLine) -> u8;
     fn adomvik_list(row: *const Board, boards: usize, board: u32, words: *mut u32, many: usize) -> u32;
 }
 
@@ -518,6 +549,14 @@ pub fn read(row: &[Board]) -> Result<Reading, Refusal> {
     Ok(Reading { line: out.line == 1, chg: out.chg == 1, dsg: out.dsg == 1, flagged })
 }
 
+/// Is anything up on a lent row? The line of its reading alone, by a search that stops at the first board with a latch.
+pub fn up(row: &[Board]) -> Result<Line, Refusal> {
+    let mut out = RawLine { line: 0, looked: 0 };
+    // SAFETY: a shared slice with its length, and an exclusive reference to a local.
+    Refusal::check(unsafe { adomvik_up(row.as_ptr(), row.len(), &mut out) })?;
+    Ok(Line { line: out.line == 1, looked: out.looked })
+}
+
 /// The journal of board `board` of a lent row, counted from 1, oldest entry first: how many entries it has. They take the first of
 /// the lent ones; later ones stay, and at a refusal all of them. [`JOURNAL_MAX`] are always enough.
 pub fn listing(row: &[Board], board: u32, entries: &mut [Latching]) -> Result<usize, Refusal> {
@@ -567,6 +606,11 @@ impl<const N: usize> Row<N> {
     /// The whole-stack reading.
     pub fn read(&self) -> Result<Reading, Refusal> {
         read(&self.boards)
+    }
+
+    /// Is anything up? The line of the reading alone, by a search that stops at the first board with a latch.
+    pub fn up(&self) -> Result<Line, Refusal> {
+        up(&self.boards)
     }
 
     /// The journal of board `board`, counted from 1, oldest entry first: how many entries it has. They take the first of the lent
