@@ -15,6 +15,7 @@ pub enum Answer<'a> {
     Replied([u8; FRAME_BYTES]),
     Read(Reading),
     Listed(&'a [Latching]),
+    Up(adomvik::Line),
 }
 
 /// The desk: places for sixteen records, of which the stack has the first few, a reply buffer, and entries for a listing.
@@ -49,6 +50,7 @@ impl Desk {
             Line::Frame { bytes, room } => self.frame(bytes, *room),
             Line::Reading => adomvik::read(self.row()).map(Answer::Read),
             Line::Listing { board, room } => self.list(*board, *room),
+            Line::Up => adomvik::up(self.row()).map(Answer::Up),
         }
     }
 

@@ -42,6 +42,8 @@ pub enum Line<'a> {
     Reading,
     /// `L`: the journal of one board, and how many entries are lent for it.
     Listing { board: u32, room: usize },
+    /// `U`: is anything up?
+    Up,
 }
 
 /// Why a line is malformed, and how many of its bytes were read before that showed.
@@ -105,6 +107,7 @@ fn asked<'a>(fields: &mut Fields, lent: &'a mut Lent) -> Result<Line<'a>, What> 
             let (board, room) = (fields.number()?, fields.number()? as usize);
             fields.nothing_more(Line::Listing { board, room })
         }
+        b'U' => fields.nothing_more(Line::Up),
         _ => Err(What::NoLetter),
     }
 }

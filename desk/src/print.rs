@@ -31,6 +31,11 @@ pub fn answer(text: &mut Text, answer: &Answer) {
                 field(text, entry.number);
             }
         }
+        Answer::Up(told) => {
+            words(text, "up");
+            field(text, told.line.into());
+            field(text, told.looked.into());
+        }
     }
 }
 

@@ -12,7 +12,8 @@ const MALFORMED: u8 = 12;
 pub enum Reader {
     /// Another program: the page's answers to the letter.
     Program,
-    /// A person at the desk: each refusal in words behind its number, each listing in words, and a word on `help`.
+    /// A person at the desk: each refusal in words behind its number, each listing and each fault line in words, and a word on
+    /// `help`.
     Person,
 }
 

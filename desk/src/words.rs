@@ -1,5 +1,5 @@
-//! Words for a person at the desk: what stands behind a refusal's number, and behind the numbers of a listing. Nothing here decides
-//! anything.
+//! Words for a person at the desk: what stands behind a refusal's number, and behind the numbers of a listing or of the fault line.
+//! Nothing here decides anything.
 use crate::acts::{Answer, Desk};
 use crate::lines::{Flaw, Kind, Line, Wanted, What, LARGEST, LONGEST_LINE};
 use crate::print::{self, Text};
@@ -51,11 +51,14 @@ fn byte_at(line: &[u8], at: usize) -> String {
     }
 }
 
-/// What an answer's numbers say: those of a listing, entry by entry.
+/// What an answer's numbers say: those of a listing, entry by entry, and those of the fault line.
 pub fn answer(text: &mut Text, answer: &Answer) {
     match answer {
         Answer::Listed([]) => said(text, "nothing has latched since the opening"),
         Answer::Listed(entries) => said(text, &entries.iter().map(latching).collect::<Vec<_>>().join("; ")),
+        Answer::Up(adomvik::Line { line: true, looked }) => said(text, &format!("board {looked} has a latch")),
+        Answer::Up(adomvik::Line { looked: 1, .. }) => said(text, "nothing is up on 1 board"),
+        Answer::Up(adomvik::Line { looked, .. }) => said(text, &format!("nothing is up on {looked} boards")),
         _ => {}
     }
 }
