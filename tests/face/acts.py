@@ -59,6 +59,10 @@ class Script:
         """A reading of the row."""
         self.put("R", [boards], self.rows.reading(boards))
 
+    def up(self, boards):
+        """The fault line of the row."""
+        self.put("U", [boards], self.rows.up(boards))
+
     def listing(self, boards, number, room):
         """A listing of the row, with a buffer of so many entries."""
         self.put("L", [boards, number, room], self.rows.listing(boards, number, room))
@@ -137,6 +141,19 @@ def listed(script, told, boards, number, room):
     agree(listing_told(told, number, room), script)
 
 
+def up_told(told):
+    """The line of the reference's reading, and the boards looked at by what each has latched."""
+    boards = told.stack.boards
+    latched = [number for number, board in enumerate(boards, 1) if board.record().latched]
+    return told.act(lambda: [told.stack.reading()[0], latched[0] if latched else len(boards)], [])
+
+
+def asked_up(script, told, boards):
+    """The fault line of an opened row."""
+    script.up(boards)
+    agree(up_told(told), script)
+
+
 def opened(script, told, plans, by_counts):
     """An opening by plans, or by the counts of plans that are all of stand-alone boards; was it good?"""
     if by_counts:
@@ -177,6 +194,8 @@ def session(script, seed):
             agree(told.act(lambda: told.stack.sample(number, sample), ["165", "42405"]), script)
             if script.rng.random() < 0.1:
                 listed(script, told, boards, number, script.room_about(number))
+            if script.rng.random() < 0.1:
+                asked_up(script, told, boards)
         elif act is Workshop.frame:
             # the driver's own rooms: the session's are at times larger than its memory
             room = script.rng.choice((4, 4, 4, 5, 8, 3, 0))
@@ -185,6 +204,9 @@ def session(script, seed):
         elif act is Workshop.reading:
             script.reading(boards)
             agree(told.act(told.stack.reading, []), script)
+            asked_up(script, told, boards)
+        elif line == b"U":
+            asked_up(script, told, boards)
 
 
 # ------------------------------------------------------------- garbage
@@ -258,6 +280,8 @@ def garbage(rng):
         data[104:116] = last_garbage(rng, data[6:11])
     if data[3] == GARDEN:
         garden_garbage(rng, data)
+    if rng.random() < 0.3:      # no latch, or none but what is no fault's bit
+        data[1] &= 0xE0
     data[122:132] = tallies_garbage(rng)
     data[132:778] = journal_garbage(rng)
     return bytes(data)
@@ -342,6 +366,7 @@ def wreck(script, acts):
             script.listing(boards, number, script.room_about(number))
         elif kind < 0.97:
             script.reading(boards)
+            script.up(boards)
         else:
             odd = (4, 11, 0, 255, 261, 517, 2**32 - 1)
             counts = [rng.choice((5, 7, 10, 10, rng.choice(odd) if rng.random() < 0.2 else 6)) for _ in range(boards)]
@@ -403,3 +428,35 @@ def journals(script, samples):
     """Acts on records that are set: to latch at the next sample, and to the top of the sample number."""
     together(script, samples)
     brim(script)
+
+
+# --------------------------------------------------------- fault lines
+
+def set_latches(script, place, latches):
+    """A record as it is, but with these latches."""
+    record = Record(script.rows.records[place].whole())
+    record.latches = latches
+    script.overwrite(place, record.whole())
+
+
+def fault_lines(script):
+    """Rows of each kind as they start, then with no latch, then with one at each place from the north down: alone, or with others
+    north of it. Bits of a latches byte that are no fault's are set at times; a host board's switches are off throughout. Last, rows
+    of no boards and of seventeen good ones."""
+    rng = script.rng
+    for boards in (1, 2, 16):
+        for plan in (Plan(STAND_ALONE, 5), Plan(HOST, 10), Plan(GARDEN, 3, 0, 1)):
+            script.opening_plans(boards, [plan] * boards)
+            script.up(boards)
+            for place in range(boards):
+                set_latches(script, place, 0)
+            script.up(boards)
+            for place in reversed(range(boards)):
+                set_latches(script, place, 1 << rng.randrange(5) | rng.choice((0, 0xE0)))
+                script.up(boards)
+                if rng.random() < 0.5:
+                    set_latches(script, place, rng.choice((0, 0x20, 0x40, 0x80, 0xE0)))
+                    script.up(boards)
+    script.overwrite(16, script.rows.records[0].whole())
+    for boards in (0, 17, 16):
+        script.up(boards)

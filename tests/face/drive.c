@@ -7,6 +7,7 @@
  *     B place elapsed shunt thermistor load cells..      a sample of the record at a place, from 0
  *     F boards room bytes..                              a frame, with a reply buffer of so many bytes
  *     R boards                                           a reading
+ *     U boards                                           the fault line alone
  *     L boards board room                                a listing, with a buffer of so many entries
  *     W place bytes..                                    780 bytes over the record at a place, and no act
  *     K tries                                            the check byte of every frame of 2^17, that many bytes tried (here alone)
@@ -254,6 +255,27 @@ static void reading(void)
     release(out);
 }
 
+/* Whether the reading is refused as the fault line was, or has that line. */
+static int same_by_reading(uint8_t result, const adomvik_line *up)
+{
+    adomvik_reading *whole = blank(sizeof *whole);
+    const int same = adomvik_read(row, number[0], whole) == result && whole->line == up->line;
+    release(whole);
+    return same;
+}
+
+/* The number is 255 where the reading differs. */
+static void fault_line(void)
+{
+    adomvik_line *out = blank(sizeof *out);
+    const uint8_t result = adomvik_up(row, number[0], out);
+    put_number(same_by_reading(result, out) ? result : 255);
+    put_next(out->line);
+    put_next(out->looked);
+    answer_end();
+    release(out);
+}
+
 /* Whether a listing by words does as the one by entries did, with so many words more than the entries have; those stay too. */
 static int same_by_words(uint8_t result, size_t count, const adomvik_latching *entries, size_t room, size_t more)
 {
@@ -420,6 +442,7 @@ int main(void)
         case 'B': sample_one(); break;
         case 'F': frame(); break;
         case 'R': reading(); break;
+        case 'U': fault_line(); break;
         case 'L': listing(); break;
         case 'W': overwrite(); break;
         case 'K': check_bytes(); break;

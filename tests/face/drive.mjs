@@ -68,6 +68,13 @@ const acts = {
     const { line, chg, dsg, board, cell } = row.first(boards).read();
     return [+line, +chg, +dsg, board, cell];
   }, Array(5).fill(PATTERN)),
+  // the number is 255 where the reading is not refused alike, or has another line
+  U: ([boards]) => {
+    const some = row.first(boards);
+    const [number, line, looked] = told(() => { const up = some.up(); return [+up.line, up.looked]; }, Array(2).fill(PATTERN));
+    const whole = told(() => [+some.read().line], [PATTERN]);
+    return [whole[0] === number && whole[1] === line ? number : 255, line, looked];
+  },
   L: ([boards, board, room]) => {
     const words = new Uint32Array(3 * room).fill(BLANK);
     const number = told(() => [row.first(boards).listingInto(board, words)], [BLANK]);

@@ -86,6 +86,14 @@ fn told_reading(result: Result<adomvik::Reading, Refusal>) -> String {
     }
 }
 
+/// The fault line of a row. The number is 255 where its reading is not refused alike, or has another line.
+fn told_up(row: &[Board]) -> String {
+    let result = adomvik::up(row);
+    let same = result.map(|up| up.line) == adomvik::read(row).map(|whole| whole.line);
+    let (line, looked) = result.map_or((PATTERN, PATTERN), |up| (up.line as u8, up.looked));
+    format!("{} {line} {looked}", if same { number(&result) } else { 255 })
+}
+
 /// A listing of a row with a buffer of so many entries: the number, how many were put there, and all its words.
 fn told_listing(row: &[Board], board: u32, room: usize) -> String {
     let mut entries = vec![Latching { cause: BLANK, cell: BLANK, number: BLANK }; room];
@@ -109,6 +117,7 @@ fn act(row: &mut [Board], letter: u8, x: &[i64]) -> Option<String> {
             format!("{}{space}{text}", number(&result))
         }
         b'R' => told_reading(adomvik::read(&row[..x[0] as usize])),
+        b'U' => told_up(&row[..x[0] as usize]),
         b'L' => told_listing(&row[..x[0] as usize], x[1] as u32, x[2] as usize),
         b'W' => {
             let record: [u8; RECORD_BYTES] = bytes(&x[1..]).try_into().expect("a record's bytes");

@@ -18,6 +18,7 @@ function refused(number, act) {
 const stack = adomvik.open([5, 6]);
 assert.deepEqual(stack.sample(1, quiet, five), { status: 192, bled: 0 });
 assert.deepEqual(stack.read(), { line: false, chg: true, dsg: true, board: 0, cell: 0 });
+assert.deepEqual(stack.up(), { line: false, looked: 2 });
 assert.deepEqual([...stack.frame([2, 0, 0, 214])], [2, 0, 192, 152]);
 const before = stack.record(0);
 
@@ -57,6 +58,9 @@ refused(13, () => crossed.frame([3, 11, 65, 234]));
 assert.throws(() => stack.record(2), RangeError);
 assert.throws(() => stack.setRecord(0, five), RangeError);
 assert.throws(() => stack.first(3), RangeError);
+// rows that no opening has made
+for (const boards of [0, 1, 16, 17, 256]) refused(1, () => adomvik.row(boards).up());
+refused(1, () => stack.first(0).up());
 // a list longer than the memory as it starts
 refused(3, () => stack.sample(1, quiet, Array(100000).fill(3900)));
 assert.deepEqual(stack.record(0), before);
@@ -66,6 +70,7 @@ const other = adomvik.open([5, 6]);
 other.sample(1, { ...quiet, thermistor: 900 }, five);
 stack.setRecord(0, other.record(0));
 assert.equal(stack.frame([2, 0, 0, 214])[2], 16);
+assert.deepEqual(stack.up(), { line: true, looked: 1 });
 
 // its journal goes with it, and its number of samples, which is held at the top
 const hot = (number) => ({ cause: 4, cell: 0, number });
@@ -82,10 +87,12 @@ refused(9, () => stack.frame([2, 1, 0, 195]));
 refused(9, () => hosted.frame([5, 1, 6, 199]));
 refused(10, () => hosted.frame([3, 1, 8, 144]));
 assert.deepEqual(hosted.read(), { line: false, chg: false, dsg: false, board: 0, cell: 0 });
+assert.deepEqual(hosted.up(), { line: false, looked: 2 });
 assert.deepEqual([...hosted.frame([3, 1, CONTROL_DSG | CONTROL_CHG, 186])], [3, 1, 6, 186]);
 assert.deepEqual(hosted.read(), { line: false, chg: true, dsg: true, board: 0, cell: 0 });
 assert.deepEqual(hosted.sample(1, { ...quiet, shunt: 60001 }, five), { status: 1, bled: 0 });
 assert.deepEqual(hosted.sample(1, quiet, five), { status: 1, bled: 0 });
+assert.deepEqual(hosted.up(), { line: true, looked: 1 });
 assert.equal(hosted.frame([2, 1, 0, 195])[2], 0);
 hosted.frame([3, 1, CONTROL_CLEAR, 175]);
 assert.equal(hosted.frame([2, 0, 0, 214])[2], 1);
@@ -130,6 +137,7 @@ for (const none of [[...lent(6)], new Int32Array(6), new Uint8Array(24), undefin
 const garden = adomvik.openPlans([Plan.garden(3, BQ7791500, 2), Plan.garden(5, BQ7791504, 255)]);
 const three = [3600, 3600, 3600];
 assert.deepEqual(garden.read(), { line: true, chg: false, dsg: true, board: 0, cell: 0 });
+assert.deepEqual(garden.up(), { line: true, looked: 1 });
 assert.deepEqual([...garden.frame([2, 0, 0, 214])], [2, 0, 68, 13]);
 refused(10, () => garden.frame([2, 0, 1, 209]));
 refused(9, () => garden.frame([2, 1, 0, 195]));
@@ -138,6 +146,13 @@ refused(9, () => garden.frame([3, 0, 0, 189]));
 refused(3, () => garden.sample(1, quiet, five));
 assert.deepEqual(garden.sample(1, quiet, three), { status: 68, bled: 0 });
 assert.deepEqual(garden.sample(1, quiet, three), { status: 192, bled: 0 });
+assert.deepEqual(garden.up(), { line: true, looked: 2 });
+assert.deepEqual(garden.first(1).up(), { line: false, looked: 1 });
+// a bad board north of a latch is seen
+const north = garden.record(1);
+garden.setRecord(1, Array(north.length).fill(0));
+refused(1, () => garden.up());
+garden.setRecord(1, north);
 const over = [3600, 4201, 3600];
 assert.deepEqual(garden.sample(1, quiet, over), { status: 192, bled: 0 });
 assert.deepEqual(garden.sample(1, quiet, over), { status: 68, bled: 0 });

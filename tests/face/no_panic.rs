@@ -25,6 +25,7 @@ pub extern "C" fn _start() -> ! {
         let _ = black_box(row.sample(black_box(1), readings, black_box(&[3_900; 5])));
         let _ = black_box(row.frame(black_box(&[2, 0, 0, 214])));
         let _ = black_box(row.read().map_err(|why| why.number()));
+        let _ = black_box(row.up().map_err(|why| why.number()));
         let mut entries = [Latching { cause: 0, cell: 0, number: 0 }; 3];
         let _ = black_box(row.listing(black_box(1), black_box(&mut entries)));
         let _ = black_box(row.boards()[0].to_bytes());

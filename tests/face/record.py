@@ -356,3 +356,12 @@ class Rows:
         chg, dsg = all(record.chg() for record in row), all(record.dsg() for record in row)
         place = next(((n, min(r.flagged()) + 1) for n, r in enumerate(row, 1) if r.flagged()), (0, 0))
         return self.line(0, [str(int(n)) for n in (line, chg, dsg) + place])
+
+    def up(self, boards):
+        """The fault line of the row, and the boards looked at for it."""
+        try:
+            row = self.checked(boards)
+        except Refusal as refusal:
+            return self.line(refusal.number, [str(PATTERN)] * 2)
+        latched = [number for number, record in enumerate(row, 1) if record.latched()]
+        return self.line(0, ["1", str(latched[0])] if latched else ["0", str(boards)])
