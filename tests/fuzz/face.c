@@ -5,7 +5,7 @@
  * sanitizer sees a byte too far. No rule of the paper stands here but what the header says of every act: which numbers an
  * entry may return, which rows are refused, that a refused act has changed nothing, that a sample and a frame change one
  * record, which of its fields, and the ranges of what they answer; of a journal, what is entered where, and what a listing of any
- * record gives.
+ * record gives; of the fault line, that it is the reading's, and how many boards were looked at for it.
  */
 #include <stdlib.h>
 #include <string.h>
@@ -573,6 +573,32 @@ static void reading(void)
     free(told);
 }
 
+/* How many boards a search for a latch looks at. */
+static size_t looked_at(void)
+{
+    for (size_t i = 0; i < boards; i++)
+        if (before[i].latches & FAULTS)
+            return i + 1;
+    return boards;
+}
+
+static void fault_line(void)
+{
+    adomvik_line *told = blank(sizeof *told), *again = blank(sizeof *again);
+    adomvik_reading *whole = blank(sizeof *whole);
+    const uint8_t result = adomvik_up(row, boards, told);
+    HOLDS(adomvik_up(other, boards, again) == result && adomvik_read(row, boards, whole) == result);
+    HOLDS(READS >> result & 1 && (result == ADOMVIK_BAD_ROW) == !good_row() && row_stays());
+    HOLDS(told->line == again->line && told->looked == again->looked && told->line == whole->line);
+    if (result)
+        HOLDS(is_blank(told, sizeof *told));
+    else
+        HOLDS(told->looked == looked_at() && told->line == ((before[told->looked - 1].latches & FAULTS) != 0));
+    free(whole);
+    free(again);
+    free(told);
+}
+
 /* The entry so many places behind the oldest of a journal whose place counts by its remainder. */
 static adomvik_latching entry(const adomvik_journal *journal, size_t held, size_t at)
 {
@@ -669,6 +695,8 @@ static void overwrite(void)
     if (byte() % 2) /* tallies that have stopped, or are three short of it at most */
         for (size_t i = 0; i < sizeof place->tallies; i++)
             ((uint8_t *)&place->tallies)[i] |= (uint8_t)(i % 2 ? 0xff : 0xfc);
+    if (byte() % 2) /* no latch, so that a search goes on north */
+        place->latches &= (uint8_t)~FAULTS;
 }
 
 static void make_row(void)
@@ -684,7 +712,7 @@ static void make_row(void)
 
 int LLVMFuzzerTestOneInput(const uint8_t *data, size_t size)
 {
-    static void (*const acts[])(void) = {sample_row, frame, sample_row, frame, reading, sample_one, open_row, overwrite, open_plans, listing};
+    static void (*const acts[])(void) = {sample_row, frame, sample_row, frame, reading, sample_one, open_row, overwrite, open_plans, listing, fault_line};
     at = data;
     end = data + size;
     make_row();

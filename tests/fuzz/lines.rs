@@ -68,6 +68,7 @@ fn is_answer(answer: &[u8]) -> bool {
         "st # bal #" => numbers[0] <= 255 && numbers[0] & 32 == 0 && numbers[1] < 1024,
         "re # # # #" => numbers.iter().all(|byte| *byte <= 255),
         listing if listing.starts_with("ls #") && listing.len() == 2 + 2 * numbers.len() => is_listing(&numbers),
+        "up # #" => numbers[0] <= 1 && (1..=16).contains(&numbers[1]),
         "ln # chg # dsg # at # #" => numbers[..3].iter().all(|flag| *flag <= 1) && numbers[3] <= 16 && numbers[4] <= 10,
         _ => false,
     }
