@@ -89,6 +89,13 @@ static void same_reading(void)
         fail("a reading is answered otherwise by the peer");
 }
 
+static void same_line(void)
+{
+    adomvik_line a, b;
+    if (adomvik_up(ours, boards, &a) || peer_up(theirs, boards, &b) || memcmp(&a, &b, sizeof a) != 0)
+        fail("a fault line is answered otherwise by the peer");
+}
+
 /* With room for the listing, for more, or for less, in words. */
 static void same_listing(void)
 {
@@ -162,6 +169,8 @@ static void same_answers(void)
             same_frame();
         else if (random_below(2))
             same_reading();
+        else if (random_below(2))
+            same_line();
         else
             same_listing();
     }

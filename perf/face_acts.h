@@ -53,6 +53,7 @@ static adomvik_readings readings;
 static uint8_t frames[KINDS][4];
 static adomvik_sampled sampled;
 static adomvik_reading whole;
+static adomvik_line line;
 static uint8_t reply[4];
 static unsigned sum;
 
@@ -110,6 +111,9 @@ static void ours_frame(int i) { sum += adomvik_frame(ours, boards, frames[i % KI
 static void theirs_frame(int i) { sum += peer_frame(theirs, boards, frames[i % KINDS], 4, reply, 4); }
 static void ours_read(int i) { (void)i; sum += adomvik_read(ours, boards, &whole); }
 static void theirs_read(int i) { (void)i; sum += peer_read(theirs, boards, &whole); }
+
+static void ours_up(int i) { (void)i; sum += adomvik_up(ours, boards, &line); }
+static void theirs_up(int i) { (void)i; sum += peer_up(theirs, boards, &line); }
 
 /* of a listing only a refusal is more than 255 */
 static uint32_t entries[LIST_WORDS];
@@ -300,6 +304,18 @@ static void readings_of_16(void)
     measure("reading of 16, ", "quiet gardens", ours_read, theirs_read);
 }
 
+/* The question goes over the whole row for a bad board, and for a latch only to the first one. */
+static void fault_lines(void)
+{
+    const adomvik_plan plan = plan_of(ADOMVIK_STAND_ALONE);
+    open_both(1, plan);
+    measure("fault line of a row of 1, ", "none up", ours_up, theirs_up);
+    open_both(BOARDS, plan);
+    measure("fault line of a row of 16, ", "none up", ours_up, theirs_up);
+    ours[0].latches = theirs[0].latches = ADOMVIK_SCD;
+    measure("fault line of a row of 16, ", "board 1 up", ours_up, theirs_up);
+}
+
 /* So many samples of each board, every other of which latches. */
 static void trip_all(int times)
 {
@@ -327,6 +343,7 @@ static void all_acts(void)
     frames_in(1, "frame in a row of 1, ");
     frames_in(BOARDS, "frame in a row of 16, ");
     readings_of_16();
+    fault_lines();
     listings_in(1, "listing in a row of 1, ");
     listings_in(BOARDS, "listing in a row of 16, ");
 }
@@ -347,6 +364,7 @@ static void all_stacks(void)
     tell("stack of a sample", depth(ours_row) - base, depth(theirs_row) - base);
     tell("stack of a frame", depth(ours_frame) - base, depth(theirs_frame) - base);
     tell("stack of a reading", depth(ours_read) - base, depth(theirs_read) - base);
+    tell("stack of a fault line", depth(ours_up) - base, depth(theirs_up) - base);
     trip_all(300);
     tell("stack of a listing", depth(ours_list) - base, depth(theirs_list) - base);
     open_both(BOARDS, plan_of(ADOMVIK_GARDEN));

@@ -518,6 +518,20 @@ uint8_t peer_read(const struct peer_board *row, size_t boards, adomvik_reading *
     return 0;
 }
 
+/* ---- the fault line alone */
+
+uint8_t peer_up(const struct peer_board *row, size_t boards, adomvik_line *out)
+{
+    if (!good_row(row, boards))
+        return 1;
+    size_t looked = 1;
+    while (looked < boards && !row[looked - 1].latches)
+        looked++;
+    out->line = row[looked - 1].latches != 0;
+    out->looked = (uint8_t)looked;
+    return 0;
+}
+
 /* ---- listings */
 
 uint32_t peer_list(const struct peer_board *row, size_t boards, uint32_t board, uint32_t *words, size_t many)

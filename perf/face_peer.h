@@ -30,6 +30,7 @@ uint8_t peer_sample(struct peer_board *row, size_t boards, uint32_t board, adomv
 uint8_t peer_sample_board(struct peer_board *board, adomvik_readings readings, const uint32_t *cells, size_t count, adomvik_sampled *out);
 uint8_t peer_frame(struct peer_board *row, size_t boards, const uint8_t *frame, size_t length, uint8_t *reply, size_t room);
 uint8_t peer_read(const struct peer_board *row, size_t boards, adomvik_reading *out);
+uint8_t peer_up(const struct peer_board *row, size_t boards, adomvik_line *out);
 uint32_t peer_list(const struct peer_board *row, size_t boards, uint32_t board, uint32_t *words, size_t many);
 
 #endif
