@@ -588,6 +588,14 @@ class Stack:
             up = bool(board.record().latched) or up
         return up
 
+    def up(self):
+        """The fault line alone, and how many boards a search from the south looks at (02, ticket 9).
+
+        Every board is looked at in here, and neither number comes from the line above.
+        """
+        latched = [number for number, board in enumerate(self.boards, 1) if board.record().latched]
+        return int(bool(latched)), min(latched, default=len(self.boards))
+
     def first_flagged(self):
         """Southernmost board with a flag and its lowest flagged cell."""
         for number, board in enumerate(self.boards, 1):

@@ -808,6 +808,35 @@ def journal_cases():
     expect("which leaves every entry", [(0, 0, 1), (3, 3, 1), (4, 0, 1), "d"], lent)
 
 
+def row_of(marks, first):
+    """A stack with the three kinds in turn and a latch on each board that has an x.
+
+    A cell of 1399 mV is under every UV level at once, and 3600 mV lets a garden board's OV latch go.
+    """
+    kinds = Plan(STAND_ALONE, 5), Plan(HOST, 5), Plan(GARDEN, 5, 0, 1)
+    stack = Stack([kinds[(first + place) % 3] for place in range(len(marks))])
+    for number, mark in enumerate(marks, 1):
+        stack.sample(number, Sample(1, 0, 2000, 0, (1399 if mark == "x" else 3600, 3600, 3600, 3600, 3600)))
+    return stack
+
+
+def up_cases():
+    """02, ticket 9: every row of up to seven boards with and without latches; in sixteen, one latch, or all from a place on."""
+    rows = {".": (0, 1), "x": (1, 1), "..": (0, 2), "x.": (1, 1), ".x": (1, 2), "xx": (1, 1), "." * 16: (0, 16), "x" * 16: (1, 1)}
+    for size in range(1, 7):
+        for rest in map("".join, itertools.product(".x", repeat=size)):
+            # one board more at the south end: the first if it has a latch, else it is passed by
+            rows["x" + rest] = 1, 1
+            rows["." + rest] = rows[rest][0], rows[rest][1] + 1
+    for place in range(16):
+        rows["." * place + "x" + "." * (15 - place)] = 1, place + 1
+        rows["." * place + "x" * (16 - place)] = 1, place + 1
+    for turn, (marks, wanted) in enumerate(rows.items()):
+        stack = row_of(marks, turn)
+        expect(f"the latches {marks}", wanted, stack.up())
+        expect(f"the line of {marks}", wanted[0], stack.reading()[0])
+
+
 def unknown_registers():
     """01, Refusal numbers: 9 for every register that is not in the map."""
     for register in (*range(1, 6), *range(12, 16), *range(21, 24), *range(29, 256)):
@@ -908,7 +937,7 @@ RAW_LINES = (
     (b"O 5.0", 12), (b"O", 1), (b"O 0", 1), (b"O 5 4", 1),
     (b"O 99999999999999999999", 12), (b"O 4294967301", 12),
     (b"O 18446744073709551621", 12), (b"F 256", 12), (b"F -1", 12),
-    (b"L", 12), (b"L 1", 12), (b"L 1 0", 12), (b"L 1 128", 12),
+    (b"L", 12), (b"L 1", 12), (b"L 1 0", 12), (b"L 1 128", 12), (b"U", 12), (b"U 1", 12),
     (b"F 2 0 0 0214", 12), (b"F" + b" 0" * 16, 6), (b"F" + b" 0" * 17, 12),
     (b"S", 12), (b"S 1 1 0 2000", 12), (b"S 1 1 0 2000 0", 3),
     (b"S 1 1 0 2000 -0" + b" 1" * 5, 12), (b"S 1 1 0 2000 -01" + b" 1" * 5, 12),
@@ -1037,8 +1066,8 @@ def main():
     """Run all; exit 1 if anything differs."""
     for part in (paper_session, crc_values, settings_tables, marked_cases, run_cases,
                  fault_cases, bleeding_cases, frame_cases, crossed_cases, tally_cases, tally_tops,
-                 tally_registers, journal_cases, unknown_registers, sample_refusals, opening_cases, raw_lines,
-                 input_cases, buffer_cases, kind_cases, count_cases, garden_levels):
+                 tally_registers, journal_cases, up_cases, unknown_registers, sample_refusals, opening_cases,
+                 raw_lines, input_cases, buffer_cases, kind_cases, count_cases, garden_levels):
         part()
     sys.exit(1 if FAILED else 0)
 

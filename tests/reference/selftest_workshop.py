@@ -1341,11 +1341,254 @@ def page_journal():
         """, **FIVE)
 
 
+def ups_along_a_row():
+    """02, ticket 9: the southernmost board with a latch, or all of them where none has one; the line is the reading's."""
+    # from the north to the south and back; what lies north of the first latch is nothing to the answer
+    told("four boards", """
+        X s5 h5 s5 h5 -> ok
+        U -> up 0 4
+        R -> ln 0 chg 0 dsg 0 at 0 0
+        S 4 1 0 974 0 {calm} -> st 16 bal 0
+        U -> up 1 4
+        R -> ln 1 chg 0 dsg 0 at 0 0
+        S 2 1 0 974 0 {calm} -> st 16 bal 0
+        U -> up 1 2
+        S 3 1 0 974 0 {calm} -> st 16 bal 0
+        U -> up 1 2
+        S 1 1 1 2000 60001 {calm} -> st 1 bal 0
+        U -> up 1 1
+        S 3 1 0 2000 0 {calm} -> st 192 bal 0
+        U -> up 1 1
+        S 1 1 0 2000 0 {calm} -> st 192 bal 0
+        U -> up 1 2
+        S 2 1 0 2000 0 {calm} -> st 0 bal 0
+        U -> up 1 4
+        R -> ln 1 chg 0 dsg 0 at 0 0
+        S 4 1 0 2000 0 {calm} -> st 0 bal 0
+        2: U -> up 0 4
+        R -> ln 0 chg 0 dsg 0 at 0 0
+        """, **FIVE)
+    told("one board", """
+        O 5 -> ok
+        U -> up 0 1
+        S 1 1 0 974 0 {calm} -> st 16 bal 0
+        U -> up 1 1
+        S 1 1 0 975 0 {calm} -> st 192 bal 0
+        U -> up 0 1
+        """, **FIVE)
+    heat = "\n".join(f"S {number} 1 0 974 0 {{calm}} -> st 16 bal 0\nU -> up 1 {number}" for number in range(16, 0, -1))
+    cool = "\n".join(f"S {number} 1 0 2000 0 {{calm}} -> st 192 bal 0\nU -> up 1 {number + 1}" for number in range(1, 16))
+    told("sixteen boards", f"""
+        O{" 5" * 16} -> ok
+        U -> up 0 16
+        R -> ln 0 chg 1 dsg 1 at 0 0
+        {heat}
+        R -> ln 1 chg 0 dsg 0 at 0 0
+        {cool}
+        R -> ln 1 chg 0 dsg 0 at 0 0
+        S 16 1 0 2000 0 {{calm}} -> st 192 bal 0
+        U -> up 0 16
+        R -> ln 0 chg 1 dsg 1 at 0 0
+        """, **FIVE)
+    # with board 3 hot throughout: SCD, OCD past 20 ms, OV past 500 ms, UV, each alone on board 2 and gone again
+    told("each fault", """
+        O 5 5 5 -> ok
+        S 3 1 0 974 0 {calm} -> st 16 bal 0
+        S 2 1 1 2000 60001 {calm} -> st 1 bal 0
+        U -> up 1 2
+        S 2 1 1 2000 60000 {calm} -> st 1 bal 0
+        U -> up 1 2
+        S 2 1 0 2000 0 {calm} -> st 192 bal 0
+        U -> up 1 3
+        S 2 1 0 2000 10001 {calm} -> st 192 bal 0
+        S 2 20000 0 2000 10001 {calm} -> st 192 bal 0
+        U -> up 1 3
+        S 2 1 0 2000 10001 {calm} -> st 2 bal 0
+        U -> up 1 2
+        S 2 1 0 2000 10000 {calm} -> st 192 bal 0
+        U -> up 1 3
+        6: S 2 100000 0 2000 0 {one} -> st 192 bal 0
+        U -> up 1 3
+        S 2 1 0 2000 0 {one} -> st 68 bal 1
+        U -> up 1 2
+        R -> ln 1 chg 0 dsg 0 at 2 1
+        S 2 1 0 2000 0 {calm} -> st 192 bal 0
+        U -> up 1 3
+        S 2 1 0 2000 0 1399 4000 4000 4000 4000 -> st 136 bal 0
+        U -> up 1 2
+        S 2 1 0 2000 0 1600 4000 4000 4000 4000 -> st 136 bal 0
+        U -> up 1 2
+        S 2 1 0 2000 0 1601 4000 4000 4000 4000 -> st 192 bal 0
+        U -> up 1 3
+        """, **FIVE)
+
+
+def ups_of_hosts():
+    """02, ticket 9: a latch counts, and neither a switch that is off nor a flag does."""
+    told("off and on without a latch", """
+        X h5 s5 -> ok
+        F 2 0 0 214 -> re 2 0 0 *
+        U -> up 0 2
+        R -> ln 0 chg 0 dsg 0 at 0 0
+        S 1 1 0 2000 0 {calm} -> st 0 bal 0
+        U -> up 0 2
+        F 3 1 2 * -> re 3 1 2 *
+        U -> up 0 2
+        F 3 1 6 * -> re 3 1 6 *
+        U -> up 0 2
+        R -> ln 0 chg 1 dsg 1 at 0 0
+        F 3 1 1 * -> re 3 1 1 *
+        S 2 1 0 974 0 {calm} -> st 16 bal 0
+        U -> up 1 2
+        """, **FIVE)
+    # a calm sample leaves the latch, the clear takes it, and both switches stay off
+    told("a latch that stays, and its clear", """
+        X s5 h5 s5 -> ok
+        F 5 1 6 199 -> re 5 1 6 199
+        S 2 1 1 2000 60001 {calm} -> st 1 bal 0
+        U -> up 1 2
+        S 2 1 0 2000 0 {calm} -> st 1 bal 0
+        U -> up 1 2
+        F 5 1 1 * -> re 5 1 1 *
+        U -> up 1 2
+        F 5 1 0 * -> re 5 1 0 *
+        F 4 0 0 171 -> re 4 0 0 *
+        U -> up 0 3
+        R -> ln 0 chg 0 dsg 0 at 0 0
+        """, **FIVE)
+    # 4149 clears OV and is not lower than 4050, so that cell 1 keeps its flag
+    told("a flag without a latch", """
+        X h5 s5 -> ok
+        6: S 1 100000 0 2000 0 {one} -> st 0 bal 0
+        S 1 1 0 2000 0 {one} -> st 4 bal 1
+        U -> up 1 1
+        S 1 1 0 2000 0 4149 4000 4000 4000 4000 -> st 4 bal 1
+        F 3 1 1 * -> re 3 1 1 *
+        F 3 1 6 * -> re 3 1 6 *
+        F 2 0 0 214 -> re 2 0 192 152
+        U -> up 0 2
+        R -> ln 0 chg 1 dsg 1 at 1 1
+        """, **FIVE)
+
+
+def ups_of_gardens():
+    """02, ticket 9: the OV latch that a garden board starts with is one."""
+    told("north of a stand-alone and a host board", """
+        X s5 h5 g3/0/2 -> ok
+        U -> up 1 3
+        R -> ln 1 chg 0 dsg 0 at 0 0
+        S 3 1 0 2000 0 3600 3600 3600 -> st 68 bal 0
+        U -> up 1 3
+        S 3 1 0 2000 0 3600 3600 3600 -> st 192 bal 0
+        U -> up 0 3
+        R -> ln 0 chg 0 dsg 0 at 0 0
+        S 3 1 0 2000 0 3600 2899 3600 -> st 192 bal 0
+        U -> up 0 3
+        S 3 1 0 2000 0 3600 2899 3600 -> st 136 bal 0
+        U -> up 1 3
+        """)
+    told("south of a stand-alone board", """
+        X g3/2/1 s5 -> ok
+        U -> up 1 1
+        S 2 1 0 974 0 {five} -> st 16 bal 0
+        U -> up 1 1
+        {calm} -> st 192 bal 0
+        U -> up 1 2
+        S 2 1 0 975 0 {five} -> st 192 bal 0
+        U -> up 0 2
+        """, five="4000 4000 4000 4000 4000", **THREE)
+    # heat and current are nothing to board 1
+    told("three of them", """
+        X g3/0/1 g4/1/1 g5/2/1 -> ok
+        U -> up 1 1
+        S 2 1 0 2000 0 3600 3600 3600 3600 -> st 192 bal 0
+        U -> up 1 1
+        S 1 1 1 974 500000 3600 3600 3600 -> st 192 bal 0
+        U -> up 1 3
+        S 3 1 0 2000 0 3600 3600 3600 3600 3600 -> st 192 bal 0
+        U -> up 0 3
+        R -> ln 0 chg 1 dsg 1 at 0 0
+        S 2 1 0 2000 0 3600 3600 3600 4251 -> st 68 bal 0
+        U -> up 1 2
+        R -> ln 1 chg 0 dsg 1 at 0 0
+        """)
+    told("sixteen of them", f"""
+        X{" g3/0/1" * 16} -> ok
+        U -> up 1 1
+        X{" s5" * 15} g3/0/255 -> ok
+        U -> up 1 16
+        """)
+
+
+def ups_refused():
+    """02, ticket 9: 1 before a good opening and at no other time; a question changes nothing."""
+    told("refusals", """
+        U -> no 1
+        X -> no 1
+        U -> no 1
+        O 4 -> no 1
+        X s5 q5 -> no 12
+        U 1 -> no 12
+        U -> no 1
+        X s5 s5 -> ok
+        U -> up 0 2
+        S 3 1 0 974 0 {calm} -> no 2
+        S 2 0 0 974 0 {calm} -> no 4
+        U -> up 0 2
+        S 2 1 0 974 0 {calm} -> st 16 bal 0
+        U -> up 1 2
+        O -> no 1
+        X s5 s5 s4 -> no 1
+        U -> up 1 2
+        X s5 s5 s5 -> ok
+        U -> up 0 3
+        """, **FIVE)
+    # OCD from sample 1 on, and its number is 3: two questions between are no samples
+    told("between samples", """
+        O 5 -> ok
+        S 1 1 0 2000 10001 {calm} -> st 192 bal 0
+        U -> up 0 1
+        S 1 20000 0 2000 10001 {calm} -> st 192 bal 0
+        U -> up 0 1
+        S 1 1 0 2000 10001 {calm} -> st 2 bal 0
+        U -> up 1 1
+        L 1 1 -> ls 1 1 0 3
+        2: U -> up 1 1
+        F 2 17 0 * -> re 2 17 1 *
+        """, **FIVE)
+    # cycles spent and settings staged are nothing to it; the latch outlasts a programming
+    told("between frames", """
+        O 5 -> ok
+        S 1 1 1 2000 60001 {calm} -> st 1 bal 0
+        F 3 10 1 * -> re 3 10 1 *
+        U -> up 1 1
+        F 3 11 65 234 -> re 3 11 1 *
+        U -> up 1 1
+        F 2 10 0 * -> re 2 10 1 *
+        S 1 1 0 2000 0 {calm} -> st 192 bal 0
+        U -> up 0 1
+        """, **FIVE)
+
+
+def page_ups():
+    """The page's own questions, of the boards of its session."""
+    told("the page's questions", """
+        X s5 h5 g3/0/2 -> ok
+        U -> up 1 3
+        F 6 0 0 125 -> re 6 0 68 166
+        S 3 1000 0 2000 0 3600 3600 3600 -> st 68 bal 0
+        S 3 1000 0 2000 0 3600 3600 3600 -> st 192 bal 0
+        U -> up 0 3
+        O 5 -> ok
+        S 1 1000 0 2000 0 {calm} -> st 192 bal 0
+        U -> up 0 1
+        """, **FIVE)
+
+
 def later_forms():
     """Before their request lands."""
     told("later forms", """
         O 5 -> ok
-        U -> no 12
         W 46 -> no 12
         D -> no 12
         C -> no 12
@@ -1379,6 +1622,9 @@ RAW_LINES = (
     (b"L 1 -0", 12), (b"L -1 0", 12), (b"L 1 +0", 12), (b"L 01 0", 12), (b"L 1 00", 12), (b"L 1 0128", 12), (b"L  1 0", 12),
     (b"L 1  0", 12), (b"L 1 0 ", 12), (b"L 1 0 0", 12), (b"L1 0", 12), (b"L 1,0", 12), (b"L 1/0", 12), (b"L s1 0", 12), (b"L@0 1", 12),
     (b"L 1@0", 12), (b"l 1 0", 12), (b"LL 1 0", 12), (b"L 1 0\r", 12), (b"L 1 0\0", 12), (b"L 1\t0", 12),
+    (b"U ", 12), (b" U", 12), (b"u", 12), (b"UU", 12), (b"U U", 12), (b"U 0", 12), (b"U 1", 12), (b"U 1 0", 12), (b"U1", 12), (b"U -1", 12),
+    (b"U@4", 12), (b"U s5", 12), (b"U R", 12), (b"RU", 12), (b"UR", 12), (b"U\r", 12), (b"U\t", 12), (b"U\0", 12), (b"\0U", 12),
+    (b"U\xff", 12), (b"\xef\xbb\xbfU", 12), (b"up", 12), (b"Up", 12),
     (b"S", 12), (b"S 1 1 0 2000", 12), (b"S 1 1 0 2000 0", 3), (b"S 1 1 0 2000 -0" + b" 1" * 5, 12),
     (b"S 1 1 0 2000 -01" + b" 1" * 5, 12), (b"S 1 1 0 2000 -" + b" 1" * 5, 12), (b"S 1 1 0 2000 -2147483647" + b" 1" * 5, 5),
     (b"S 1 1 0 2000 -2147483648" + b" 1" * 5, 12), (b"S 1 1 0 2000 2147483647" + b" 1" * 5, 5),
@@ -1413,7 +1659,9 @@ def input_cases():
     """What a line of the input is."""
     for data, wanted in (
             (b"", b""), (b"\n", b"no 12\n"), (b"R", b"no 1\n"), (b"R\n\n", b"no 1\nno 12\n"), (b"X s5\r\nR", b"no 12\nno 1\n"),
-            (b"X s5\nR\0\nR", b"ok\nno 12\nln 0 chg 1 dsg 1 at 0 0\n"), (b"X s5\nF@4 2 0 0 214", b"ok\nre 2 0 192 152\n"),
+            (b"X s5\nR\0\nR", b"ok\nno 12\nln 0 chg 1 dsg 1 at 0 0\n"),
+            (b"U", b"no 1\n"), (b"X s5\nU", b"ok\nup 0 1\n"), (b"X s5\nU\r\nU\n\n", b"ok\nno 12\nup 0 1\nno 12\n"),
+            (b"X s5\nF@4 2 0 0 214", b"ok\nre 2 0 192 152\n"),
             (b"O" + b" 5" * 150000, b"no 12\n"), (b"O" + b" 5" * 150000 + b"\nR\n", b"no 12\nno 1\n")):
         expect(f"input {data[:30]!r}", wanted, Workshop().answers(data))
     expect("lines", [b"a", b"", b"b"], split_lines(b"a\n\nb\n"))
@@ -1424,7 +1672,8 @@ def main():
     for part in (openings, long_lists, rooms, host_register, host_clears, host_levels, host_bits, host_last_sample, host_rows,
                  garden_openings, garden_levels, garden_counts, garden_cells, garden_load, garden_registers, garden_rows,
                  host_tallies, garden_tallies, journal_entries, journal_cells, journal_gardens, journal_numbers, journal_clears,
-                 journal_rooms, journal_floods, page_journal, later_forms, raw_lines, long_lengths, input_cases):
+                 journal_rooms, journal_floods, page_journal, ups_along_a_row, ups_of_hosts, ups_of_gardens, ups_refused, page_ups,
+                 later_forms, raw_lines, long_lengths, input_cases):
         part()
     sys.exit(1 if FAILED else 0)
 

@@ -110,6 +110,10 @@ class Workshop:
         count = self.opened().listing(board, lent)
         return b"ls " + b" ".join(b"%d" % number for number in [count, *chain(*lent[:count])])
 
+    def question(self):
+        """Is anything up?"""
+        return b"up %d %d" % self.opened().up()
+
     def answers(self, data):
         """The whole output for a whole input."""
         return b"".join(self.answer(line) + b"\n" for line in split_lines(data))
@@ -131,6 +135,8 @@ FORMS = (
      lambda: (), Workshop.reading),
     (re.compile(rb"L((?: %b){2})" % NUMBER),
      lambda fields: (numbers(fields),), Workshop.listing),
+    (re.compile(rb"U"),
+     lambda: (), Workshop.question),
 )
 
 
