@@ -10,7 +10,9 @@ that work at the write. And they have garden boards, which count samples: most
 scenes on them go about as many samples to one side as the trigger is. On each
 kind faults latch over and over, so that its tallies have something to say, and
 in some sessions until a journal has lost its oldest entries. The reference is
-asked how long a journal is, so that room is lent one short or just enough.
+asked how long a journal is, so that room is lent one short or just enough, and
+which boards have a latch, so that the first one stands at any place of a row.
+Behind each question for the fault line stands a reading, which has it too.
 """
 
 from reference import DEVICES, GARDEN, HOST, STAND_ALONE, Plan, Settings, crc8
@@ -18,7 +20,7 @@ from sessions import LARGEST, LONGEST_ELAPSED, QUICK_US, Aim, Maker
 from workshop import LONGEST_LINE, Workshop
 
 # forms of requests that are not in force: malformed, until their scenario stands in their place
-LATER = ("U", "U 1", "W 46", "W 0", "W", "D", "C", "C 0100", "C 01000100000000000005",
+LATER = ("W 46", "W 0", "W", "D", "C", "C 0100", "C 01000100000000000005",
          "V 00 00 1", "V 0100 0100 0")
 
 # for each fault that a host board keeps: the register of its level and the mask of the level's code
@@ -97,15 +99,20 @@ class DeskMaker(Maker):
     def open(self, counts):
         """A good opening: boards of one kind or of several."""
         hosts, gardens = self.pick(0, 0.5, 0.5, 1), self.pick(0, 0, 0.4, 0.4, 1)
-        plans = [self.plan(count, hosts, gardens) for count in counts]
+        self.open_row([self.plan(count, hosts, gardens) for count in counts])
+
+    def open_row(self, plans):
+        """A good opening of boards as planned."""
         if any(plan.kind != STAND_ALONE for plan in plans) or self.chance(0.5):
             self.put(" ".join(["X"] + [board_word(plan) for plan in plans]))
         else:
-            Maker.words(self, "O", counts)
+            Maker.words(self, "O", [plan.cells for plan in plans])
         self.boards = [GardenAim(plan) if plan.kind == GARDEN else Aim(plan.cells, plan.kind) for plan in plans]
         for number, plan in enumerate(plans, 1):
             if plan.kind == HOST and self.chance(0.6):
                 self.write(number, 1, self.pick(6, 6, 7, 2, 4))
+        if self.chance(0.3):
+            self.reading()
 
     # -- host boards
 
@@ -131,7 +138,7 @@ class DeskMaker(Maker):
         aim = self.boards[number - 1]
         self.pick(lambda: self.sample(number, self.elapsed(), self.calm(aim)), lambda: self.refused_sample(number),
                   lambda: self.program(number), lambda: self.stage(number), lambda: self.frame(2 * number, 0, 0),
-                  lambda: self.put("R"))()
+                  self.reading)()
 
     def about(self, number, fault, settings):
         """A sample at a fault's level by these settings, or one off it, and nothing else past any level."""
@@ -177,7 +184,7 @@ class DeskMaker(Maker):
                 self.about(number, fault, aim.settings)
             self.clear(number)
         if self.chance(0.3):
-            self.put("R")
+            self.reading()
 
     def hosted(self):
         """A scene of a host board; at times, of one that is none, where register 1 is 9."""
@@ -185,7 +192,7 @@ class DeskMaker(Maker):
         hosts = [n for n, aim in enumerate(self.boards, 1) if aim.kind == HOST]
         if hosts and self.chance(0.9):
             number = self.rng.choice(hosts[:2])
-        self.pick(self.held, self.held, self.clear, self.heated, self.trips)(number)
+        self.pick(self.held, self.held, self.clear, self.heated, self.trips, self.outlived)(number)
 
     def relieve(self, number, free):
         """A host clears by hand; a garden board lets go at its trigger."""
@@ -298,12 +305,16 @@ class DeskMaker(Maker):
 
     # -- journals
 
-    def entries(self, number):
-        """How many entries the board's journal has, by the reference, which is told what it has not heard yet."""
+    def known(self):
+        """The boards of the reference, which is told what it has not heard yet; none before an opening."""
         self.reference.answers(b"".join(line + b"\n" for line in self.lines[self.heard:]))
         self.heard = len(self.lines)
-        stack = self.reference.stack
-        return len(stack.boards[number - 1].listing()) if stack and number <= len(stack.boards) else 0
+        return self.reference.stack.boards if self.reference.stack else []
+
+    def entries(self, number):
+        """How many entries the board's journal has, by the reference."""
+        boards = self.known()
+        return len(boards[number - 1].listing()) if number <= len(boards) else 0
 
     def listing(self, number):
         """A journal with room just enough, one short or any; at times of a board that there is not."""
@@ -374,6 +385,77 @@ class DeskMaker(Maker):
         super().bare()
         if self.chance(0.5):
             self.listing(self.number())
+
+    # -- the fault line alone
+
+    def put(self, line):
+        """Behind a question stands a reading, also where the question is a damaged line."""
+        super().put(line)
+        if b"U" in self.lines[-1].split(b"\n"):
+            super().put("R")
+
+    def reading(self):
+        """A reading, mostly with a question before it."""
+        for letter in self.pick("R", "U", "U", "RU"):
+            self.put(letter)
+
+    def odd_question(self):
+        """A question with something beside it."""
+        self.put(self.pick("U ", " U", "u", "UU", "U U", "U 0", "U 1", f"U {self.number()} 128", "U1", "U -0", "U@4", "U s5", "U R", "RU",
+                           "UR", "U\r", "U\t", "U\0", "up", "U" * 200, "U" * 300))
+
+    def latched(self):
+        """The numbers of the boards with a latch, by the reference."""
+        return [number for number, board in enumerate(self.known(), 1) if board.record().latched]
+
+    def latch(self, number):
+        """Latch some faults of a board that latch soon."""
+        aim = self.boards[number - 1]
+        faults = self.quick(aim) or aim.faults
+        some = self.rng.sample(faults, min(len(faults), self.pick(1, 1, 2)))
+        held, _ = self.tripped(aim, some)
+        for elapsed in self.past_delays(aim, some):
+            self.sample(number, elapsed, held)
+
+    def quiet(self, numbers):
+        """Let every latch of these boards go."""
+        for number in numbers:
+            _, free = self.tripped(self.boards[number - 1], ())
+            self.relieve(number, free)
+
+    def firsts(self):
+        """The first latch of a row at one place after another, or at none; at times of a new row of any length.
+
+        The boards north of the place keep what they have.
+        """
+        noise, self.noise = self.noise, 0
+        if self.chance(0.6):
+            plans = [self.plan(self.rng.randint(5, 10), 0.4, 0.3) for _ in range(self.rng.randint(1, 16))]
+            self.open_row([plan._replace(trigger=min(plan.trigger, self.pick(1, 2, 3))) for plan in plans])
+        count = len(self.boards)
+        places = range(1, count + 2)        # the last is none
+        for place in self.rng.sample(places, min(len(places), self.pick(1, 2, 3, 5))):
+            latched = self.latched()
+            self.quiet(number for number in latched if number < place)
+            if place <= count and place not in latched:
+                self.latch(place)
+            self.put("U")
+        self.noise = noise
+
+    def outlived(self, number):
+        """A flag that outlives its latch on a host board, with no latch south of it: cleared under the level, where the flag stays."""
+        aim, latched = self.boards[number - 1], self.latched()
+        if self.delay(aim, "OV") > QUICK_US:
+            return
+        held, _ = self.tripped(aim, ("OV",))
+        self.quiet(one for one in latched if one < number)
+        for elapsed in self.past_delays(aim, ("OV",)):
+            self.sample(number, elapsed, held)
+        below = self.pick(aim.settings.ov_level - 1, aim.settings.ov_level - 1, aim.settings.ov_release)
+        self.sample(number, self.elapsed(), dict(held, cells=[min(mv, below) for mv in held["cells"]]))
+        self.write(number, 1, 1 | self.switches())
+        self.write(number, 1, self.switches())
+        self.put("U")
 
     # -- the workshop's own
 
@@ -449,8 +531,9 @@ class DeskMaker(Maker):
         """One of the workshop's own scenarios."""
         self.rng.choices(
             (self.hosted, self.grown, self.short_room, self.odd_room, self.long_list, self.odd_boards, self.later, self.refused_opening,
-             lambda: self.listing(self.number()), lambda: self.joining(self.number()), self.odd_listing, self.huge_line),
-            (14, 18, 8, 4, 6, 8, 4, 2, 12, 6, 4, 0.06))[0]()
+             lambda: self.listing(self.number()), lambda: self.joining(self.number()), self.odd_listing, self.firsts, self.odd_question,
+             self.huge_line),
+            (14, 18, 8, 4, 6, 8, 4, 2, 12, 6, 4, 6, 3, 0.06))[0]()
 
     def scenario(self):
         """The bench's scenarios, and the workshop's own among them."""

@@ -365,6 +365,10 @@ class Maker:
             else:
                 self.frame(byte, self.pick(0, 11), 0)
 
+    def reading(self):
+        """A whole-stack reading."""
+        self.put("R")
+
     # -- stretches
 
     def parts(self, delay, target):
@@ -557,7 +561,7 @@ class Maker:
                 s.ov_release - 1, s.ov_release - 1, s.ov_release, s.ov_level)
             self.sample(number, self.elapsed(), fields)
             if self.chance(0.4):
-                self.put("R")
+                self.reading()
 
     def let_go(self, number, fault):
         """Samples on both sides of the lines at which a latch lets go."""
@@ -680,7 +684,7 @@ class Maker:
     def look(self, number):
         """Look at what came out."""
         if self.chance(0.6):
-            self.put("R")
+            self.reading()
         if self.chance(0.3):
             self.frame(2 * number, 0, 0)
         if self.chance(0.2):
@@ -696,7 +700,7 @@ class Maker:
         elif what < 9 and other != number:
             self.sample(other, self.elapsed(), aim.fields or self.calm(aim))
         elif what == 9:
-            self.put("R")
+            self.reading()
         elif what == 10:
             self.read(number)
         elif what == 11:
@@ -740,7 +744,7 @@ class Maker:
         rng = self.rng
         at = rng.randint(0, len(line))
         odd = self.pick(b" ", b"0", b"-", b"+", b"\t", b"\r", b"\0", b"\x80", b"\xff",
-                        b"9", b"1", b"S", b"L", b".", b"a", b"h", b"g", b"/", bytes([rng.randrange(256)]))
+                        b"9", b"1", b"S", b"L", b"U", b".", b"a", b"h", b"g", b"/", bytes([rng.randrange(256)]))
         what = rng.randrange(10)
         if what == 0:
             return line[:at] + line[at + 1:]
@@ -772,10 +776,10 @@ class Maker:
             self.put(bytes(self.rng.randrange(256) for _ in range(size)))
         elif what == 2:
             size = self.pick(1, 2, 5, 20, 199, 200, 201)
-            self.put(bytes(self.rng.choice(b"OSFRL 0123456789-") for _ in range(size)))
+            self.put(bytes(self.rng.choice(b"OSFRLU 0123456789-") for _ in range(size)))
         elif what == 3:
-            self.put(self.pick(b"O", b"S", b"F", b"R", b"X", b"L", b" ", b"-", b"0",
-                               b"O ", b"S ", b"F ", b"R ", b" R", b"R 0", b"RR", b"L 1 0", b"L 1 128"))
+            self.put(self.pick(b"O", b"S", b"F", b"R", b"X", b"L", b"U", b" ", b"-", b"0",
+                               b"O ", b"S ", b"F ", b"R ", b" R", b"R 0", b"RR", b"L 1 0", b"L 1 128", b"U 1"))
         else:
             self.long_line(self.pick(199, 200, 200, 201, 201, 1000))
 
@@ -843,7 +847,7 @@ class Maker:
             (4, self.odd_line),
             (4, self.shunt_word),
             (4, self.large_word),
-            (2, lambda: self.put("R")),
+            (2, self.reading),
             (1, self.good_opening),
             (1, self.zeros),
         )
@@ -867,7 +871,7 @@ class Maker:
         self.boards = [Aim(self.pick(5, 8, 10)) for _ in range(self.pick(1, 3, 16))]
         for _ in range(self.rng.randint(1, 12)):
             number = self.number()
-            self.pick(lambda: self.put("R"), self.refused_opening, self.odd_frame,
+            self.pick(self.reading, self.refused_opening, self.odd_frame,
                       self.odd_line, self.damaged, lambda: self.read(number),
                       lambda: self.refused_sample(number), lambda: self.bound_sample(number),
                       lambda: self.stage(number))()
