@@ -66,17 +66,17 @@ uint32_t adomvik_list(const adomvik_board *row, size_t boards, uint32_t board, u
 #define COPIES __attribute__((used, no_builtin)) static
 typedef uint32_t __attribute__((may_alias)) quad;
 
-/* By four bytes where both places and the length allow it: records and cells do. */
+/* By four bytes as far as they go, where both places lie at four: records, journals and cells do. */
 static inline void copy(void *to, const void *from, size_t bytes)
 {
     uint8_t *t = to;
     const uint8_t *f = from;
-    if (((uintptr_t)t | (uintptr_t)f | bytes) % sizeof(quad) == 0)
-        for (size_t i = 0; i < bytes; i += sizeof(quad))
+    size_t i = 0;
+    if (((uintptr_t)t | (uintptr_t)f) % sizeof(quad) == 0)
+        for (; i < bytes - bytes % sizeof(quad); i += sizeof(quad))
             *(quad *)(t + i) = *(const quad *)(f + i);
-    else
-        for (size_t i = 0; i < bytes; i++)
-            t[i] = f[i];
+    for (; i < bytes; i++)
+        t[i] = f[i];
 }
 
 /* The same between places that may overlap: from the end where the later one is put. */
@@ -84,25 +84,30 @@ static inline void move(void *to, const void *from, size_t bytes)
 {
     uint8_t *t = to;
     const uint8_t *f = from;
-    if ((uintptr_t)t - (uintptr_t)f >= bytes)
+    if ((uintptr_t)t - (uintptr_t)f >= bytes) {
         copy(to, from, bytes);
-    else if (((uintptr_t)t | (uintptr_t)f | bytes) % sizeof(quad) == 0)
-        for (size_t i = bytes; i > 0; i -= sizeof(quad))
-            *(quad *)(t + i - sizeof(quad)) = *(const quad *)(f + i - sizeof(quad));
-    else
-        for (size_t i = bytes; i > 0; i--)
+        return;
+    }
+    size_t i = bytes;
+    if (((uintptr_t)t | (uintptr_t)f) % sizeof(quad) == 0) {
+        for (; i % sizeof(quad) != 0; i--)
             t[i - 1] = f[i - 1];
+        for (; i > 0; i -= sizeof(quad))
+            *(quad *)(t + i - sizeof(quad)) = *(const quad *)(f + i - sizeof(quad));
+    }
+    for (; i > 0; i--)
+        t[i - 1] = f[i - 1];
 }
 
 static inline void fill(void *to, uint8_t with, size_t bytes)
 {
     uint8_t *t = to;
-    if (((uintptr_t)t | bytes) % sizeof(quad) == 0)
-        for (size_t i = 0; i < bytes; i += sizeof(quad))
+    size_t i = 0;
+    if ((uintptr_t)t % sizeof(quad) == 0)
+        for (; i < bytes - bytes % sizeof(quad); i += sizeof(quad))
             *(quad *)(t + i) = with * 0x01010101u;
-    else
-        for (size_t i = 0; i < bytes; i++)
-            t[i] = with;
+    for (; i < bytes; i++)
+        t[i] = with;
 }
 
 #ifdef __ARM_EABI__
