@@ -25,7 +25,8 @@ use Rattle.stack.specs.Up.{upOf}
 use Rattle.adomvik.specs.Calls.{openNumber, countsNumber, sampleNumber, sampleOut, boardNumber, boardOut, frameNumber, listNumber, readNumber, readOut, upNumber, upOut}
 use Rattle.held.specs.Held.{framedOf, framedBuffer}
 use Rattle.acts.specs.InPlace.{actTold, actRow}
-use Rattle.text.specs.Way.{placed, Put}
+use Rattle.puts.specs.Put.{Put}
+use Rattle.text.specs.Way.{placed}
 use Rattle.board.proofs.Board as Board
 use Rattle.board.proofs.Readings as Readings
 use Rattle.board.proofs.Answer as Answer

@@ -5,7 +5,7 @@ use mathlib.Core.Path.{_≡_, refl, _∙_}
 use mathlib.Core.List.{List, [], _∷_, _++_, flatten}
 use lib.ListN.{length, take}
 use Rattle.lines.specs.Line.{lineOf}
-use Rattle.text.proofs.Puts.{put-take}
+use Rattle.puts.proofs.Puts.{put-take}
 use Rattle.held.specs.declared.Stack.{Stack}
 use Rattle.lines.specs.declared.Cutter.{Cutter}
 use Rattle.lines.specs.Lines.{lastLine, linesOf, ended}

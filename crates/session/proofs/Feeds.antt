@@ -8,7 +8,7 @@ use mathlib.Core.List.{List, [], _++_}
 use lib.ListN.{length, take, drop, length-drop, take-append-drop}
 use lib.Seq.{take-all, take-add, drop-drop}
 use Rattle.held.specs.declared.Stack.{Stack}
-use Rattle.text.proofs.Puts.{put-same}
+use Rattle.puts.proofs.Puts.{put-same}
 use Rattle.lines.specs.declared.Cutter.{Cutter}
 use Rattle.lines.specs.Way.{clip, held}
 use Rattle.lines.proofs.Pieces.{ended-none}

@@ -8,8 +8,8 @@ use mathlib.Core.List.{List, [], _∷_, _++_, append-nil}
 use lib.ListN.{length}
 use Rattle.held.specs.declared.Stack.{Stack}
 use Rattle.text.specs.Text.{textOf}
-use Rattle.text.specs.Way.{Put}
-use Rattle.text.proofs.Puts.{put-then, put-same}
+use Rattle.puts.specs.Put.{Put}
+use Rattle.puts.proofs.Puts.{put-then, put-same}
 use Rattle.lines.specs.Lines.{before, ended, left, upTo}
 use Rattle.lines.specs.Way.{clip}
 use Rattle.lines.proofs.Pieces.{ended-newline, left-newline}

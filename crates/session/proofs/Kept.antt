@@ -10,7 +10,7 @@ use lib.ListN.{length, take, drop, length-set, take-append-drop}
 use lib.Seq.{take-all}
 use Rattle.held.specs.declared.Stack.{Stack}
 use Rattle.text.specs.Text.{textOf}
-use Rattle.text.specs.Way.{Put}
+use Rattle.puts.specs.Put.{Put}
 use Rattle.lines.specs.declared.Cutter.{Cutter}
 use Rattle.lines.specs.Lines.{ended, left, upTo}
 use Rattle.lines.specs.Line.{lineOf}

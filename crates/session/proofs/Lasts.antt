@@ -7,7 +7,7 @@ use mathlib.Core.Logic.{inl}
 use mathlib.Core.List.{List, [], _∷_}
 use lib.ListN.{length, take}
 use lib.Seq.{take-all}
-use Rattle.text.proofs.Puts.{put-take}
+use Rattle.puts.proofs.Puts.{put-take}
 use Rattle.held.specs.declared.Stack.{Stack}
 use Rattle.lines.specs.declared.Cutter.{Cutter}
 use Rattle.lines.specs.Lines.{ended, lastLine}

@@ -18,8 +18,10 @@ use Rattle.acts.specs.declared.Told.{Told}
 use Rattle.acts.specs.InPlace.{actTold, actRow}
 use Rattle.acts.proofs.Laws.{act-length}
 use Rattle.text.specs.Text.{textOf}
-use Rattle.text.specs.Way.{placed, Put}
-use Rattle.text.proofs.Puts.{placed-all, put-same}
+use Rattle.puts.specs.Put.{Put}
+use Rattle.puts.proofs.Puts.{put-same}
+use Rattle.text.specs.Way.{placed}
+use Rattle.text.proofs.Places.{placed-all}
 use Rattle.text.proofs.Lines.{text-short}
 use Rattle.lines.specs.Way.{restAt, endAt, clip}
 use Rattle.lines.proofs.Ends.{to-newline}

@@ -7,7 +7,7 @@ use mathlib.Core.List.{List, [], _∷_, _++_}
 use lib.ListN.{length, take}
 use Rattle.held.specs.declared.Stack.{Stack}
 use Rattle.text.specs.Text.{textOf}
-use Rattle.text.specs.Way.{Put}
+use Rattle.puts.specs.Put.{Put}
 use Rattle.lines.specs.Line.{lineOf}
 use Rattle.lines.specs.declared.Cutter.{Cutter}
 use Rattle.lines.specs.Lines.{ended, left}

@@ -1,4 +1,4 @@
-pub mod Puts
+pub mod Places
 pub mod Decimal
 pub mod Lines
 pub mod Apart

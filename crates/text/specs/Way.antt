@@ -1,13 +1,10 @@
--- On the way to an answer's text in a lent buffer: where it is put, and that the numbers of an answer are within their types. Nobody
+-- On the way to an answer's text in a lent buffer: what is put there, and that the numbers of an answer are within their types. Nobody
 -- need believe these; what a session prints is said by Text.
 -- Assumes nothing.
 use Prim.Native.Nat.{ℕ, _+_, _<_}
-use mathlib.Core.Path.{_≡_}
 use mathlib.Core.Bool.{cond}
 use mathlib.Core.List.{List, []}
 use lib.Dec.{leb}
-use lib.ListN.{length}
-use lib.Seq.{sets}
 use Rattle.acts.specs.declared.Told.{Told}
 use Rattle.acts.specs.declared.Told.the-variants.{Opened, Refused, Status, Reply, Reading}
 use Rattle.text.specs.Text.{textOf}
@@ -15,11 +12,6 @@ use Rattle.text.specs.Text.{textOf}
 -- what is put from at on into a buffer of so many bytes: the line where 32 bytes are free, and otherwise nothing
 unfoldable pub placed : ℕ → ℕ → Told → List ℕ
 placed room at told = cond (leb (at + 32) room) (textOf told) []
-
--- text is put into old from at on, which makes it new, and next is the place after it
-pub record Put (at : ℕ) (text old new : List ℕ) (next : ℕ) : Type 0 where
-  pub after : next ≡ at + length text
-  pub whole : new ≡ sets old at text
 
 -- the numbers of an answer are within their types: bytes, and the bled cells sixteen bits
 abbrev pub Typed : Told → Type 0

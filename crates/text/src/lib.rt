@@ -3,25 +3,13 @@ ghost use mathlib.Core.List.{[], _∷_, _++_};
 ghost use Prim.Native.Nat.{_+_, _<_, _≤_};
 ghost use lib.ListN.{length};
 ghost use Rattle.lists.specs.Marks.{bit};
+ghost use Rattle.puts.specs.Put.{Put};
 ghost use Rattle.acts.specs.declared.Told.the-variants as told;
 ghost use Rattle.text.specs.Text.{digit, placeOf, decimal, wordsOf};
-ghost use Rattle.text.specs.Way.{Put, placed};
+ghost use Rattle.text.specs.Way.{placed};
 use acts::Told;
 
-// Puts s into out from at on, and gives the place after it.
-fn put_bytes(out: &mut [u8], at: usize, s: &[u8]) -> usize
-    requires { ⌜ at + length (now s) ≤ length (now out) ⌝ }
-    ensures { λ r. ⌜ Put at (now (s .entry)) (now (out .entry)) (now (out .exit)) r ⌝ }
-{
-    let mut i = 0;
-    while i < s.len() {
-        out[at + i] = s[i];
-        i += 1;
-    }
-    at + i
-}
-
-// The same with one digit.
+// Puts one digit into out from at on, and gives the place after it.
 fn put_digit(out: &mut [u8], at: usize, d: u16) -> usize
     requires { ⌜ (at + 1 ≤ length (now out)) × (d < 10) ⌝ }
     ensures { λ r. ⌜ Put at (digit d ∷ []) (now (out .entry)) (now (out .exit)) r ⌝ }
@@ -61,7 +49,7 @@ fn put_field(out: &mut [u8], at: usize, word: &[u8], n: u16) -> usize
     ensures { λ r. ⌜ Put at (now (word .entry) ++ decimal n) (now (out .entry)) (now (out .exit)) r ⌝ }
     ensures { λ r. ⌜ r ≤ at + length (now (word .entry)) + 5 ⌝ }
 {
-    let word_end = put_bytes(out, at, word);
+    let word_end = puts::put_bytes(out, at, word);
     put_number(out, word_end, n)
 }
 
@@ -71,7 +59,7 @@ fn put_flag(out: &mut [u8], at: usize, word: &[u8], flag: bool) -> usize
     ensures { λ r. ⌜ Put at (now (word .entry) ++ decimal (bit flag)) (now (out .entry)) (now (out .exit)) r ⌝ }
     ensures { λ r. ⌜ r ≤ at + length (now (word .entry)) + 1 ⌝ }
 {
-    let word_end = put_bytes(out, at, word);
+    let word_end = puts::put_bytes(out, at, word);
     put_digit(out, word_end, flag as u16)
 }
 
@@ -122,7 +110,7 @@ fn put_words(out: &mut [u8], at: usize, told: Told) -> usize
     ensures { λ r. ⌜ r ≤ at + 31 ⌝ }
 {
     match told {
-        Told::Opened => put_bytes(out, at, b"ok"),
+        Told::Opened => puts::put_bytes(out, at, b"ok"),
         Told::Refused(n) => put_field(out, at, b"no ", n as u16),
         Told::Status { status, bled } => put_status(out, at, status, bled),
         Told::Reply {
@@ -152,5 +140,5 @@ pub fn put_told(out: &mut [u8], at: usize, told: Told) -> usize
         return at;
     }
     let words_end = put_words(out, at, told);
-    put_bytes(out, words_end, b"\n")
+    puts::put_bytes(out, words_end, b"\n")
 }

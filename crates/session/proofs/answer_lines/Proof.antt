@@ -7,7 +7,7 @@ use mathlib.Core.Logic.{inl, inr}
 use mathlib.Core.Bool.{true}
 use lib.ListN.{length}
 use borrow.Author.Tests.{ltb-true}
-use Rattle.text.proofs.Puts.{put-same}
+use Rattle.puts.proofs.Puts.{put-same}
 use Rattle.lines.specs.declared.Found.{Found}
 use Rattle.lines.specs.Way.{foundAt}
 use Rattle.session.specs.Pace.{Sofar}

@@ -1,7 +1,7 @@
 -- `session::feed` meets its contract: no room, a line completed, and the lines behind it.
 -- Assumes nothing.
 use native.Mathlib.Omega.{arith}
-use Rattle.text.proofs.Puts.{put-same}
+use Rattle.puts.proofs.Puts.{put-same}
 use Rattle.session.proofs.Folds.{fold-inside}
 use Rattle.session.proofs.Feeds.{run-idle, run-completed, within, run-tight, run-all}
 use borrow.Author.Needs.{needs}

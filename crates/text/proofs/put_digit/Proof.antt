@@ -1,7 +1,7 @@
 -- `put_digit`: one byte.
 -- Assumes nothing.
 use borrow.Author.Needs.{needs}
-use Rattle.text.proofs.Puts.{put-one}
+use Rattle.puts.proofs.Puts.{put-one}
 use Rattle.text.proofs.put_digit.Statement.{statement}
 use Rattle.text.proofs.put_digit.Tie as tie
 

@@ -1,7 +1,7 @@
 -- `text::put_field` meets its contract: a word, and its number behind it.
 -- Assumes nothing.
 use native.Mathlib.Omega.{arith}
-use Rattle.text.proofs.Puts.{put-then}
+use Rattle.puts.proofs.Puts.{put-then}
 use borrow.Author.Needs.{needs}
 use Rattle.text.proofs.put_field.Statement.{statement}
 use Rattle.text.proofs.put_field.Tie as tie

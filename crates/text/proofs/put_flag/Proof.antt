@@ -2,7 +2,7 @@
 -- Assumes nothing.
 use native.Mathlib.Omega.{arith}
 use borrow.Author.Needs.{needs}
-use Rattle.text.proofs.Puts.{put-then}
+use Rattle.puts.proofs.Puts.{put-then}
 use Rattle.text.proofs.Decimal.{flag-digit, flag-small}
 use Rattle.text.proofs.put_flag.Statement.{statement}
 use Rattle.text.proofs.put_flag.Tie as tie

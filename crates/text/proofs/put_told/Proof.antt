@@ -1,7 +1,7 @@
 -- `text::put_told` meets its contract: the words and the newline, or nothing.
 -- Assumes nothing.
 use native.Mathlib.Omega.{arith}
-use Rattle.text.proofs.Puts.{put-none, put-line}
+use Rattle.text.proofs.Places.{put-none, put-line}
 use borrow.Author.Needs.{needs}
 use Rattle.text.proofs.put_told.Statement.{statement}
 use Rattle.text.proofs.put_told.Tie as tie

@@ -1,13 +1,13 @@
--- `text::put_bytes` meets its contract: the invariant is that the bytes of s before i are stored.
+-- `puts::put_bytes` meets its contract: the invariant is that the bytes of s before i are stored.
 -- Assumes nothing.
 use Prim.Native.Nat.{_≤_, _-_}
 use mathlib.Core.Path.{_≡_, refl}
 use lib.ListN.{length, take}
 use lib.Seq.{sets}
-use Rattle.text.proofs.Puts.{sets-turn, put-all}
+use Rattle.puts.proofs.Puts.{sets-turn, put-all}
 use borrow.Author.Needs.{needs}
-use Rattle.text.proofs.put_bytes.Statement.{statement}
-use Rattle.text.proofs.put_bytes.Tie as tie
+use Rattle.puts.proofs.put_bytes.Statement.{statement}
+use Rattle.puts.proofs.put_bytes.Tie as tie
 
 abbrev Inv-loop : tie.InvT-loop
 Inv-loop out₀ at s i₀ out i = (i ≤ length s) × (length out ≡ length out₀) × (out ≡ sets out₀ at (take i s))

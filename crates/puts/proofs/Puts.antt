@@ -8,12 +8,9 @@ use mathlib.Core.Path.{_≡_, refl, sym, ap, _∙_}
 use mathlib.Core.List.{List, [], _∷_, _++_}
 use lib.ListN.{length, getD, set, take, drop, length-append}
 use lib.Seq.{sets, length-sets, sets-eq, length-take-le, take-suc, take-all, take-at}
-use borrow.Author.Tests.{le-leb, lt-leb}
-use Rattle.acts.specs.declared.Told.{Told}
-use Rattle.text.specs.Text.{wordsOf, textOf}
-use Rattle.text.specs.Way.{placed, Put}
+use Rattle.puts.specs.Put.{Put}
 
-sets-append : (l : List ℕ) (i : ℕ) (a b : List ℕ) → sets l i (a ++ b) ≡ sets (sets l i a) (i + length a) b
+pub sets-append : (l : List ℕ) (i : ℕ) (a b : List ℕ) → sets l i (a ++ b) ≡ sets (sets l i a) (i + length a) b
 sets-append l i [] b = rw (add-zero i)
 sets-append l i (x ∷ a) b =
     let e : i + suc (length a) ≡ suc i + length a = omega arith in
@@ -39,23 +36,6 @@ put-then {at} {m} {r} {a} {b} {old} p q =
       after = rw (length-append a b) (omega (arith, p .after, q .after));
       whole = rw (sets-append old at a b, ← (p .whole), ← (p .after)) (q .whole);
     }
-
--- without 32 free bytes nothing is put, and with them the line
-pub placed-none : (room at : ℕ) (told : Told) → room < at + 32 → placed room at told ≡ []
-unfolding placed
-placed-none room at told h = rw (lt-leb (at + 32) room h)
-
-pub placed-all : (room at : ℕ) (told : Told) → at + 32 ≤ room → placed room at told ≡ textOf told
-unfolding placed
-placed-all room at told h = rw (le-leb (at + 32) room h)
-
-pub put-none : {at : ℕ} {old : List ℕ} (told : Told) → length old < at + 32 → Put at (placed (length old) at told) old old at
-put-none {at} {old} told h = rw (placed-none (length old) at told h) (record { after = sym (add-zero at); whole = refl })
-
-pub put-line : {at m r : ℕ} {old mid new : List ℕ} (told : Told) → at + 32 ≤ length old → Put at (wordsOf told) old mid m → Put m (10 ∷ []) mid new r
-    → Put at (placed (length old) at told) old new r
-unfolding textOf
-put-line {at} {old = old} told h p q = rw (placed-all (length old) at told h) (put-then p q)
 
 -- what a caller reads off: the buffer's length stays, and the bytes up to the next place are those before and the text
 pub put-same : {at r : ℕ} {text old new : List ℕ} → Put at text old new r → length new ≡ length old
