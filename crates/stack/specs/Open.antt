@@ -23,6 +23,10 @@ goodPlans plans = every (λ plan. not (badPlan (planOf plan))) plans
 abbrev pub openBars : ℕ → List ℕ → List Bar
 openBars boards plans = bar 1 (not (eqb (length plans) boards) || badCount (length plans) || not (goodPlans plans)) ∷ []
 
+-- the same without a row: plans that open no stack of any
+abbrev pub badPlans : List ℕ → Bool
+badPlans plans = badCount (length plans) || not (goodPlans plans)
+
 -- the plan of each board, southernmost first, gives the row
 abbrev pub opened : List ℕ → List Board
 opened plans = map fresh plans

@@ -4,7 +4,7 @@ ghost use mathlib.Core.Path.{_≡_};
 ghost use mathlib.Core.Bool.{true, false};
 ghost use Rattle.registers.specs.Registers.{obeyedOf};
 ghost use Rattle.stack.specs.Row.{badCount, goodRow, placeOf};
-ghost use Rattle.stack.specs.Open.{goodPlans, openAnswer, openRow, openCountsAnswer, openCountsRow};
+ghost use Rattle.stack.specs.Open.{goodPlans, badPlans, openAnswer, openRow, openCountsAnswer, openCountsRow};
 ghost use Rattle.stack.specs.Sample.{sampleAnswer, sampleRow};
 ghost use Rattle.stack.specs.Way.{allGood, refusedFill, startOf, more, placedOf, fillAt, fillRowAt, fillEnd, fillRow, openingBy, plainCounts, noOpening, sampleAnswerAt, sampleRowAt, noSample, noRowSample, askedPlace, obeyOutcomeAt, obeyRowAt, frameAnswerIn, frameRowIn, frameBufferIn, noOutcome, noRowReply, noListing, noRowListing, listingIn, bufferIn, listAnswerAt, listBufferAt, noRowView, noRowGlance};
 ghost use Rattle.stack.specs.Frame.{frameAnswer, frameRow, frameBuffer};
@@ -115,6 +115,16 @@ fn good_plans(plans: &[u32]) -> bool
     good
 }
 
+// Plans that open no stack: not 1 to 16 of them, or a bad one.
+pub fn bad_plans(plans: &[u32]) -> bool
+    ensures { λ r. ⌜ r ≡ badPlans (now (plans .entry)) ⌝ }
+{
+    if bad_count(plans.len()) {
+        return true;
+    }
+    !good_plans(plans)
+}
+
 // How far the records of an opening are put: the place of the next, how many there are, and whether it is refused.
 struct Progress {
     at: usize,
@@ -144,17 +154,14 @@ fn start(plans: &[u32], boards: usize) -> Progress
     if plans.len() != boards {
         return refused_fill();
     }
-    if bad_count(plans.len()) {
+    if bad_plans(plans) {
         return refused_fill();
     }
-    if good_plans(plans) {
-        return Progress {
-            at: 0,
-            many: boards,
-            refused: false,
-        };
+    Progress {
+        at: 0,
+        many: boards,
+        refused: false,
     }
-    refused_fill()
 }
 
 fn more_left(x: Progress) -> bool
