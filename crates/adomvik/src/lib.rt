@@ -7,12 +7,18 @@ ghost use Rattle.stack.specs.List.{listBuffer};
 ghost use Rattle.board.specs.Sample.{sampleOf};
 ghost use Rattle.lists.specs.Marks.{bit};
 ghost use Rattle.stack.specs.Open.{openRow, openCountsRow};
+ghost use mathlib.Core.Bool.{true};
+ghost use mathlib.Core.List.{[], _∷_};
+ghost use lib.ListN.{length, take};
+ghost use Rattle.format.specs.Format.{sample, frame, reading, noted, recordable};
+ghost use Rattle.recorder.specs.Recorder.{beginRecorder, beginMemory, noteRecorder, noteMemory, noteOther, answerOf, frameCan};
 ghost use Rattle.adomvik.specs.Placed.{placedSample, placedReading, placedUp, numberOfReply, numberOfOpening, numberOfListing};
 ghost use Rattle.adomvik.specs.Calls.{openNumber, countsNumber, sampleNumber, sampleOut, boardNumber, boardOut, frameNumber, listNumber, readNumber, readOut, upNumber, upOut};
 use board::Answer;
 use board::Board;
 use board::Readings;
 use frame::Reply;
+use recorder::Recorder;
 use stack::Glance;
 use stack::Listing;
 use stack::Opening;
@@ -267,4 +273,77 @@ pub extern "C" fn adomvik_up(row: &[Board], out: &mut Up) -> u8
 {
     let g = stack::up_stack(row);
     place_up(out, g)
+}
+
+// ---- a recording of the acts, in memory that is lent beside them; a recorder is handed on from each to the next
+
+#[no_mangle]
+pub extern "C" fn adomvik_begin(memory: &mut [u8], plans: &[u32]) -> Recorder
+    ensures { λ r. ⌜ (r ≡ beginRecorder (now (plans .entry)) (length (now (memory .entry)))) × (now (memory .exit) ≡ beginMemory (now (plans .entry)) (now (memory .entry))) ⌝ }
+{
+    recorder::begin(memory, plans)
+}
+
+#[no_mangle]
+pub extern "C" fn adomvik_note_sample(
+    r: Recorder,
+    memory: &mut [u8],
+    board: u32,
+    x: Readings,
+    cells: &[u32],
+    number: u8,
+    status: u8,
+    bled: u16,
+) -> Recorder
+    ensures { λ s. ⌜ (s ≡ noteRecorder r (recordable (sample board (x .elapsed) (x .load) (x .thermistor) (x .shunt) (now (cells .entry)))) (noted (sample board (x .elapsed) (x .load) (x .thermistor) (x .shunt) (now (cells .entry))) (answerOf number (status ∷ bled ∷ []))) (length (now (memory .entry)))) × (now (memory .exit) ≡ noteMemory r (recordable (sample board (x .elapsed) (x .load) (x .thermistor) (x .shunt) (now (cells .entry)))) (noted (sample board (x .elapsed) (x .load) (x .thermistor) (x .shunt) (now (cells .entry))) (answerOf number (status ∷ bled ∷ []))) (now (memory .entry))) ⌝ }
+{
+    recorder::note_sample(
+        r,
+        memory,
+        board,
+        x.elapsed,
+        x.load,
+        x.thermistor,
+        x.shunt,
+        cells,
+        number,
+        status,
+        bled,
+    )
+}
+
+#[no_mangle]
+pub extern "C" fn adomvik_note_frame(
+    r: Recorder,
+    memory: &mut [u8],
+    bytes: &[u8],
+    reply: &[u8],
+    number: u8,
+) -> Recorder
+    ensures { λ s. ⌜ (s ≡ noteRecorder r (frameCan (now (bytes .entry)) (now (reply .entry))) (noted (frame (now (bytes .entry))) (answerOf number (take 4 (now (reply .entry))))) (length (now (memory .entry)))) × (now (memory .exit) ≡ noteMemory r (frameCan (now (bytes .entry)) (now (reply .entry))) (noted (frame (now (bytes .entry))) (answerOf number (take 4 (now (reply .entry))))) (now (memory .entry))) ⌝ }
+{
+    recorder::note_frame(r, memory, bytes, reply, number)
+}
+
+#[no_mangle]
+pub extern "C" fn adomvik_note_reading(
+    r: Recorder,
+    memory: &mut [u8],
+    number: u8,
+    line: u8,
+    chg: u8,
+    dsg: u8,
+    board: u8,
+    cell: u8,
+) -> Recorder
+    ensures { λ s. ⌜ (s ≡ noteRecorder r true (noted reading (answerOf number (line ∷ chg ∷ dsg ∷ board ∷ cell ∷ []))) (length (now (memory .entry)))) × (now (memory .exit) ≡ noteMemory r true (noted reading (answerOf number (line ∷ chg ∷ dsg ∷ board ∷ cell ∷ []))) (now (memory .entry))) ⌝ }
+{
+    recorder::note_reading(r, memory, number, line, chg, dsg, board, cell)
+}
+
+#[no_mangle]
+pub extern "C" fn adomvik_note_other(r: Recorder) -> Recorder
+    ensures { λ s. ⌜ s ≡ noteOther r ⌝ }
+{
+    recorder::note_other(r)
 }
