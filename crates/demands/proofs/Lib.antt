@@ -23,6 +23,8 @@ pub mod Asked
 pub mod Refused
 pub mod Whole
 pub mod Up
+pub mod Recorded
+pub mod Gaps
 pub mod Face
 pub mod Host
 pub mod Counts

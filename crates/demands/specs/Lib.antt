@@ -18,3 +18,4 @@ pub mod Garden
 pub mod Tallied
 pub mod Journaled
 pub mod Counts
+pub mod Recorded
