@@ -64,6 +64,9 @@ use Rattle.board.proofs.may_dsg.Reads as board-may-dsg
 use Rattle.board.proofs.may_chg.Reads as board-may-chg
 use Rattle.board.proofs.status_by.Reads as board-status-by
 use Rattle.board.proofs.cleared.Reads as board-cleared
+use Rattle.stack.proofs.bad_plans.Reads as stack-bad-plans
+use Rattle.recorder.proofs.note_other.Reads as recorder-note-other
+use Rattle.adomvik.proofs.adomvik_note_other.Reads as adomvik-note-other
 use Rattle.held.proofs.row_count.Reads as held-row-count
 use Rattle.held.proofs.sample_held.Reads as held-sample-held
 use Rattle.held.proofs.read_held.Reads as held-read-held
@@ -266,6 +269,16 @@ frame-request-of-one κs a r t s u = agree
 
 pub frame-refusal-one : (κs : _) (a : _) (r t : _) (s u : _) → frame-refusal.Learnt κs a r s → frame-refusal.Learnt κs a t u → r ≡ t
 frame-refusal-one κs a r t s u = agree
+
+-- ---- stack, recorder and adomvik
+pub stack-bad-plans-one : (κs : _) (a : _) (r t : _) (s u : _) → stack-bad-plans.Learnt κs a r s → stack-bad-plans.Learnt κs a t u → r ≡ t
+stack-bad-plans-one κs a r t s u = agree
+
+pub recorder-note-other-one : (κs : _) (a : _) (r t : _) (s u : _) → recorder-note-other.Learnt κs a r s → recorder-note-other.Learnt κs a t u → r ≡ t
+recorder-note-other-one κs a r t s u = agree
+
+pub adomvik-note-other-one : (κs : _) (a : _) (r t : _) (s u : _) → adomvik-note-other.Learnt κs a r s → adomvik-note-other.Learnt κs a t u → r ≡ t
+adomvik-note-other-one κs a r t s u = agree
 
 -- ---- held
 pub held-open-held-one : (κs : _) (a : _) (r t : _) (s u : _) → held-open-held.Learnt κs a r s → held-open-held.Learnt κs a t u → r ≡ t

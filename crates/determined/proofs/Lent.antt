@@ -1,13 +1,15 @@
 -- What is determined of each public function that changes what it is lent, or walks a lent row: the result and every value at exit.
 -- Each is cited by its whole contract; that of a routine of stack or of an act for C is the form that its own crate shows it to be.
 -- Assumes nothing.
-use Prim.Native.Nat.{ℕ, _*_, _≤_}
+use Prim.Native.Nat.{ℕ, _+_, _*_, _≤_}
 use mathlib.Core.Path.{_≡_, refl, sym, _∙_}
+use mathlib.Core.Bool.{true}
 use mathlib.Core.List.{List, [], _∷_}
-use lib.ListN.{length}
+use lib.IntN.{ℤ}
+use lib.ListN.{length, take}
 use contract.Lifetimes.{Lfts}
 use denote.RattleType.{RattleType}
-use denote.Builtin.{u8, u32, usize}
+use denote.Builtin.{u8, u16, u32, i32, usize}
 use denote.Ref.{now}
 use Rattle.walks.proofs.Form.{Kind, value, shown, handed, behind, Form, Passed}
 use Rattle.walks.proofs.Callee.{on-one, on-record, on-row, of-slice}
@@ -22,6 +24,8 @@ use Rattle.stack.specs.Frame.{frameAnswer, frameRow, frameBuffer}
 use Rattle.stack.specs.List.{listAnswer, listBuffer}
 use Rattle.stack.specs.Read.{readingOf}
 use Rattle.stack.specs.Up.{upOf}
+use Rattle.format.specs.Format.{sample, frame, reading, Noted, noted, recordable}
+use Rattle.recorder.specs.Recorder.{beginRecorder, beginMemory, noteRecorder, noteMemory, answerOf, frameCan}
 use Rattle.adomvik.specs.Calls.{openNumber, countsNumber, sampleNumber, sampleOut, boardNumber, boardOut, frameNumber, listNumber, readNumber, readOut, upNumber, upOut}
 use Rattle.held.specs.Held.{framedOf, framedBuffer}
 use Rattle.acts.specs.InPlace.{actTold, actRow}
@@ -36,6 +40,7 @@ use Rattle.frame.proofs.Request as Request
 use Rattle.frame.proofs.Reply as Reply
 use Rattle.reading.proofs.Whole as Whole
 use Rattle.reading.proofs.Line as Line
+use Rattle.recorder.proofs.Recorder as Recorder
 use Rattle.held.proofs.Stack as Stack
 use Rattle.held.proofs.FramedStack as FramedStack
 use Rattle.acts.proofs.Act as Act
@@ -65,8 +70,17 @@ use Rattle.adomvik.proofs.adomvik_frame as adomvik-frame
 use Rattle.adomvik.proofs.adomvik_list as adomvik-list
 use Rattle.adomvik.proofs.adomvik_read as adomvik-read
 use Rattle.adomvik.proofs.adomvik_up as adomvik-up
+use Rattle.recorder.proofs.begin as begin
+use Rattle.recorder.proofs.note_sample as note-sample
+use Rattle.recorder.proofs.note_frame as note-frame
+use Rattle.recorder.proofs.note_reading as note-reading
+use Rattle.adomvik.proofs.adomvik_begin as adomvik-begin
+use Rattle.adomvik.proofs.adomvik_note_sample as adomvik-note-sample
+use Rattle.adomvik.proofs.adomvik_note_frame as adomvik-note-frame
+use Rattle.adomvik.proofs.adomvik_note_reading as adomvik-note-reading
 use Rattle.held.proofs.frame_held as frame-held
 use Rattle.acts.proofs.act_row as act-row
+use Rattle.puts.proofs.put_bytes as put-bytes
 use Rattle.text.proofs.put_told as put-told
 
 -- ---- equations determine
@@ -135,7 +149,93 @@ adomvik-read-one = record { cited = λ M. adomvik.read-says {M = M}; one = by-eq
 pub adomvik-up-one : Determined adomvik.upForm (λ M. adomvik-up.spec {M = M})
 adomvik-up-one = record { cited = λ M. adomvik.up-says {M = M}; one = by-equations (adomvik.upForm .params) u8 (λ row out. upNumber row) (λ row out. (upOut row out, tt)) }
 
+-- ---- a recording, by the library and for C: the recorder, and the memory
+
+abbrev beginForm : Form
+beginForm = gives {n = 2} (handed 0 tt u8 ∷ shown 1 tt u32 ∷ []) Recorder.the-row (λ memory plans. beginRecorder plans (length memory)) (λ memory plans. (beginMemory plans memory, tt))
+
+pub begin-one : Determined beginForm (λ M. begin.spec {M = M})
+begin-one = record { cited = λ M 𝓤 H A mem run. refl; one = by-equations (beginForm .params) Recorder.the-row (λ memory plans. beginRecorder plans (length memory)) (λ memory plans. (beginMemory plans memory, tt)) }
+
+pub adomvik-begin-one : Determined beginForm (λ M. adomvik-begin.spec {M = M})
+adomvik-begin-one = record { cited = λ M 𝓤 H A mem run. refl; one = begin-one .one }
+
+abbrev sampleNoted : ℕ → ℕ → ℕ → ℕ → ℤ → List ℕ → ℕ → ℕ → ℕ → Noted
+sampleNoted board elapsed load thermistor shunt cells number status bled = noted (sample board elapsed load thermistor shunt cells) (answerOf number (status ∷ bled ∷ []))
+
+abbrev noteSampleForm : Form
+noteSampleForm = gives {n = 2}
+    (value Recorder.the-row ∷ handed 0 tt u8 ∷ value u32 ∷ value u32 ∷ value u32 ∷ value u32 ∷ value i32 ∷ shown 1 tt u32 ∷ value u8 ∷ value u8 ∷ value u16 ∷ []) Recorder.the-row
+    (λ r memory board elapsed load thermistor shunt cells number status bled. noteRecorder r (recordable (sample board elapsed load thermistor shunt cells)) (sampleNoted board elapsed load thermistor shunt cells number status bled) (length memory))
+    (λ r memory board elapsed load thermistor shunt cells number status bled. (noteMemory r (recordable (sample board elapsed load thermistor shunt cells)) (sampleNoted board elapsed load thermistor shunt cells number status bled) memory, tt))
+
+pub note-sample-one : Determined noteSampleForm (λ M. note-sample.spec {M = M})
+note-sample-one = record {
+  cited = λ M 𝓤 H A mem run. refl;
+  one = by-equations (noteSampleForm .params) Recorder.the-row
+      (λ r memory board elapsed load thermistor shunt cells number status bled. noteRecorder r (recordable (sample board elapsed load thermistor shunt cells)) (sampleNoted board elapsed load thermistor shunt cells number status bled) (length memory))
+      (λ r memory board elapsed load thermistor shunt cells number status bled. (noteMemory r (recordable (sample board elapsed load thermistor shunt cells)) (sampleNoted board elapsed load thermistor shunt cells number status bled) memory, tt));
+}
+
+abbrev readingsForm : Form
+readingsForm = gives {n = 2}
+    (value Recorder.the-row ∷ handed 0 tt u8 ∷ value u32 ∷ value Readings.the-row ∷ shown 1 tt u32 ∷ value u8 ∷ value u8 ∷ value u16 ∷ []) Recorder.the-row
+    (λ r memory board x cells number status bled. noteRecorder r (recordable (sample board (x .elapsed) (x .load) (x .thermistor) (x .shunt) cells)) (sampleNoted board (x .elapsed) (x .load) (x .thermistor) (x .shunt) cells number status bled) (length memory))
+    (λ r memory board x cells number status bled. (noteMemory r (recordable (sample board (x .elapsed) (x .load) (x .thermistor) (x .shunt) cells)) (sampleNoted board (x .elapsed) (x .load) (x .thermistor) (x .shunt) cells number status bled) memory, tt))
+
+pub adomvik-note-sample-one : Determined readingsForm (λ M. adomvik-note-sample.spec {M = M})
+adomvik-note-sample-one = record {
+  cited = λ M 𝓤 H A mem run. refl;
+  one = by-equations (readingsForm .params) Recorder.the-row
+      (λ r memory board x cells number status bled. noteRecorder r (recordable (sample board (x .elapsed) (x .load) (x .thermistor) (x .shunt) cells)) (sampleNoted board (x .elapsed) (x .load) (x .thermistor) (x .shunt) cells number status bled) (length memory))
+      (λ r memory board x cells number status bled. (noteMemory r (recordable (sample board (x .elapsed) (x .load) (x .thermistor) (x .shunt) cells)) (sampleNoted board (x .elapsed) (x .load) (x .thermistor) (x .shunt) cells number status bled) memory, tt));
+}
+
+abbrev noteFrameForm : Form
+noteFrameForm = gives {n = 3} (value Recorder.the-row ∷ handed 0 tt u8 ∷ shown 1 tt u8 ∷ shown 2 tt u8 ∷ value u8 ∷ []) Recorder.the-row
+    (λ r memory bytes reply number. noteRecorder r (frameCan bytes reply) (noted (frame bytes) (answerOf number (take 4 reply))) (length memory))
+    (λ r memory bytes reply number. (noteMemory r (frameCan bytes reply) (noted (frame bytes) (answerOf number (take 4 reply))) memory, tt))
+
+pub note-frame-one : Determined noteFrameForm (λ M. note-frame.spec {M = M})
+note-frame-one = record {
+  cited = λ M 𝓤 H A mem run. refl;
+  one = by-equations (noteFrameForm .params) Recorder.the-row
+      (λ r memory bytes reply number. noteRecorder r (frameCan bytes reply) (noted (frame bytes) (answerOf number (take 4 reply))) (length memory))
+      (λ r memory bytes reply number. (noteMemory r (frameCan bytes reply) (noted (frame bytes) (answerOf number (take 4 reply))) memory, tt));
+}
+
+pub adomvik-note-frame-one : Determined noteFrameForm (λ M. adomvik-note-frame.spec {M = M})
+adomvik-note-frame-one = record { cited = λ M 𝓤 H A mem run. refl; one = note-frame-one .one }
+
+abbrev noteReadingForm : Form
+noteReadingForm = gives {n = 1} (value Recorder.the-row ∷ handed 0 tt u8 ∷ value u8 ∷ value u8 ∷ value u8 ∷ value u8 ∷ value u8 ∷ value u8 ∷ []) Recorder.the-row
+    (λ r memory number line chg dsg board cell. noteRecorder r true (noted reading (answerOf number (line ∷ chg ∷ dsg ∷ board ∷ cell ∷ []))) (length memory))
+    (λ r memory number line chg dsg board cell. (noteMemory r true (noted reading (answerOf number (line ∷ chg ∷ dsg ∷ board ∷ cell ∷ []))) memory, tt))
+
+pub note-reading-one : Determined noteReadingForm (λ M. note-reading.spec {M = M})
+note-reading-one = record {
+  cited = λ M 𝓤 H A mem run. refl;
+  one = by-equations (noteReadingForm .params) Recorder.the-row
+      (λ r memory number line chg dsg board cell. noteRecorder r true (noted reading (answerOf number (line ∷ chg ∷ dsg ∷ board ∷ cell ∷ []))) (length memory))
+      (λ r memory number line chg dsg board cell. (noteMemory r true (noted reading (answerOf number (line ∷ chg ∷ dsg ∷ board ∷ cell ∷ []))) memory, tt));
+}
+
+pub adomvik-note-reading-one : Determined noteReadingForm (λ M. adomvik-note-reading.spec {M = M})
+adomvik-note-reading-one = record { cited = λ M 𝓤 H A mem run. refl; one = note-reading-one .one }
+
 -- ---- below and beside the library
+
+-- the place after what is put, and the buffer, which has room for it
+abbrev putBytesForm : Form
+putBytesForm = record {
+  lifetimes = 2;
+  params = handed 0 tt u8 ∷ value usize ∷ shown 1 tt u8 ∷ [];
+  result = usize;
+  says-of = λ κs a r e. Put (a .1 .0) (now (a .1 .1 .0)) (now (a .0)) (now (e .0)) r;
+}
+
+pub put-bytes-one : DeterminedIf putBytesForm (λ κs a. a .1 .0 + length (now (a .1 .1 .0)) ≤ length (now (a .0))) (λ M. put-bytes.spec {M = M})
+put-bytes-one = record { cited = λ M 𝓤 H A mem run. refl; one = λ κs a r t e u p q. (agree (p .after) (q .after), λ i. (agree (p .whole) (q .whole) i, tt)) }
 
 -- the reply, and the buffer, which has room for it
 abbrev putForm : Form
