@@ -43,15 +43,15 @@ fn put_two(memory: &mut [u8], at: usize, n: u16) -> usize
     at + 2
 }
 
-fn put_four(memory: &mut [u8], at: usize, n: u32) -> usize
+fn put_four(memory: &mut [u8], at: usize, number: u32) -> usize
     requires { ⌜ at + 4 ≤ length (now memory) ⌝ }
-    ensures { λ r. ⌜ Put at (little 4 n) (now (memory .entry)) (now (memory .exit)) r ⌝ }
+    ensures { λ r. ⌜ Put at (little 4 number) (now (memory .entry)) (now (memory .exit)) r ⌝ }
     ensures { λ r. ⌜ r ≡ at + 4 ⌝ }
 {
-    memory[at] = (n % 256) as u8;
-    memory[at + 1] = (n / 256 % 256) as u8;
-    memory[at + 2] = (n / 65536 % 256) as u8;
-    memory[at + 3] = (n / 16777216 % 256) as u8;
+    memory[at] = (number % 256) as u8;
+    memory[at + 1] = (number / 256 % 256) as u8;
+    memory[at + 2] = (number / 65536 % 256) as u8;
+    memory[at + 3] = (number / 16777216 % 256) as u8;
     at + 4
 }
 
