@@ -3,17 +3,19 @@
  * A stack is one row of board records, southernmost first, that the caller owns. Every act is lent the row, or one record,
  * and changes it where it lies. The library keeps nothing of its own, calls nothing and allocates nothing.
  *
- * Results. Every function returns 0 where the act was accepted, and else the number of the refusal (enum below). A refused
- * act has changed nothing: not the row, not the reply buffer or the entry buffer, not the place for the answer. adomvik_list alone
- * returns something else; call adomvik_listing, which stands in front of it.
+ * Results. Every act returns 0 where it was accepted, and else the number of the refusal (enum below). A refused act has
+ * changed nothing: not the row, not the reply buffer or the entry buffer, not the place for the answer. adomvik_list alone
+ * returns something else; call adomvik_listing, which stands in front of it. What records acts, adomvik_begin and the notes at the
+ * end, is no act: it returns a recorder, with a verdict in it.
  *
  * What the proofs assume of a call, and no function can look at:
  *   - each pointer is not NULL and points to as many elements as its length says (a length may be 0), and they are aligned
- *     and can be read; the row, a record, a reply buffer, an entry buffer and the place for an answer can be written too;
+ *     and can be read; the row, a record, a reply buffer, an entry buffer, a recording's memory and the place for an answer can
+ *     be written too;
  *   - what can be written overlaps nothing else that is passed;
  *   - nobody else touches any of it during the call (an interrupt, another thread).
- * Of what the bytes hold nothing is assumed. Every field of a record is a number, so every pattern of bytes is a record, and
- * acts on one that came from no opening are answered too.
+ * Of what the bytes hold nothing is assumed. Every field of a record and of a recorder is a number, so every pattern of bytes is
+ * one, and acts on a record that came from no opening, and notes by a recorder that no beginning gave, are answered too.
  */
 #ifndef ADOMVIK_H
 #define ADOMVIK_H
@@ -39,10 +41,11 @@ enum {
     ADOMVIK_TRIGGER_MIN = 1,
     ADOMVIK_TRIGGER_MAX = 255,
     ADOMVIK_FRAME_BYTES = 4,
-    ADOMVIK_JOURNAL_MAX = 128 /* entries of a board's journal */
+    ADOMVIK_JOURNAL_MAX = 128,    /* entries of a board's journal */
+    ADOMVIK_RECORDING_MAX = 65535 /* bytes of a recording: of more memory the rest is not used */
 };
 
-/* What an act returns; the table's 12 is a program's own and never comes from here. */
+/* What an act returns, and a recorder's verdict; the table's 12 is a program's own and never comes from here. */
 enum {
     ADOMVIK_OK = 0,
     ADOMVIK_BAD_ROW = 1,      /* not 1 to 16 boards, or one of no kind below, or of cells, a row or a trigger that its kind has not */
@@ -57,7 +60,10 @@ enum {
     ADOMVIK_BAD_VALUE = 10,   /* a read with a value, or a write of one that the register does not take */
     ADOMVIK_NO_CYCLE = 11,    /* programming staged settings unlike the working ones, three cycles already spent */
     ADOMVIK_CROSSED = 13,     /* programming staged settings whose SCD level is not above their OCD level */
-    ADOMVIK_LIST_ROOM = 14    /* the lent entry buffer is too short for the listing */
+    ADOMVIK_LIST_ROOM = 14,   /* the lent entry buffer is too short for the listing */
+    /* of a recorder alone, and the act itself stands */
+    ADOMVIK_NOT_RECORDABLE = 15, /* a garden board, another kind of act, a field too large, a body over 255 bytes, a reply buffer under 4 */
+    ADOMVIK_RECORDING_ROOM = 16  /* no room in the memory for the header or the act, now or at an earlier act */
 };
 
 /* Register 0, the status byte of a sample: the latched faults and the switches. */
@@ -248,6 +254,23 @@ typedef struct adomvik_latching {
     uint32_t number; /* of the board's accepted sample that latched it, from 1; held at 4,294,967,295 */
 } adomvik_latching;
 
+/* How far the recording of a day has come in the memory that is lent for it. It is passed and returned by value: hand on the one
+ * that was returned last, with the same memory.
+ *
+ * A recording is a header, the list of boards, and the acts from the opening on, each with its answer; numbers of more than one
+ * byte have the lowest byte first. The header has the edition, 1, in two bytes, the number of boards in two, the number of acts in
+ * four; a board has its kind and its cell count, a byte each. An act has a byte for its kind, a byte for the length of its body, the
+ * body, and the answer. A sample, 1, has as its body the board in one byte, elapsed in four, load in one, thermistor in two, shunt
+ * in four as two's complement, and each cell in two; a frame, 2, has its bytes; a reading, 3, has none. The answer is the refusal's
+ * number in one byte and, where that is 0, status and bled cells in one byte and two, the four bytes of the reply, or the five
+ * numbers of the reading, a byte each. */
+typedef struct adomvik_recorder {
+    uint32_t used;   /* bytes of the memory that hold the recording, header first; 0 where nothing is recorded */
+    uint16_t acts;   /* acts in it */
+    uint8_t stopped; /* 0 while it goes on, 16 where there was no room once, 15 where nothing is recordable, as at any other value */
+    uint8_t verdict; /* of the header, or of the act noted last: 0 where it stands in memory, else 15 or 16, or 1 of a beginning */
+} adomvik_recorder;
+
 ADOMVIK_ASSERT(sizeof(adomvik_plan) == 4 && ADOMVIK_ALIGN(adomvik_plan) == 4, "a plan is a number of 4 bytes");
 ADOMVIK_ASSERT(sizeof(adomvik_board) == 780 && ADOMVIK_ALIGN(adomvik_board) == 4, "a board's record is 780 bytes, aligned to 4");
 ADOMVIK_ASSERT(offsetof(adomvik_board, count) == 0 && offsetof(adomvik_board, latches) == 1 && offsetof(adomvik_board, cycles) == 2
@@ -276,6 +299,9 @@ ADOMVIK_ASSERT(sizeof(adomvik_reading) == 5, "a reading is 5 bytes");
 ADOMVIK_ASSERT(sizeof(adomvik_line) == 2 && offsetof(adomvik_line, line) == 0 && offsetof(adomvik_line, looked) == 1, "a fault line is 2 bytes");
 ADOMVIK_ASSERT(sizeof(adomvik_latching) == 12 && ADOMVIK_ALIGN(adomvik_latching) == 4 && offsetof(adomvik_latching, cause) == 0
         && offsetof(adomvik_latching, cell) == 4 && offsetof(adomvik_latching, number) == 8, "an entry is three numbers of 4 bytes");
+ADOMVIK_ASSERT(sizeof(adomvik_recorder) == 8 && ADOMVIK_ALIGN(adomvik_recorder) == 4 && offsetof(adomvik_recorder, used) == 0
+        && offsetof(adomvik_recorder, acts) == 4 && offsetof(adomvik_recorder, stopped) == 6 && offsetof(adomvik_recorder, verdict) == 7,
+    "a recorder is 8 bytes, aligned to 4");
 
 /* Opens a stack of stand-alone boards: counts[i] is the cell count of board i + 1, one for each record of the row. Every record
  * of the row is made anew, whatever it held. Refusal 1 also where the two lengths differ. */
@@ -319,6 +345,32 @@ static inline uint8_t adomvik_listing(const adomvik_board *row, size_t boards, u
     *count = told;
     return ADOMVIK_OK;
 }
+
+/* Begins the recording of a stack that these plans open, before its first act: writes the header and the list of boards. Verdict 1
+ * where the plans open no stack, else 15 where one is of a garden board, else 16 where the memory has no room for it. Then the memory
+ * is as it was and nothing is recorded: every act that is noted gets 15, or after a 16 what it would get after an earlier 16. */
+adomvik_recorder adomvik_begin(uint8_t *memory, size_t length, const adomvik_plan *plans, size_t count);
+
+/* Notes an act behind the recording: what was asked, the number that was returned, and the answer, which is not looked at where the
+ * number is not 0. Refused acts are noted too. Where the verdict is 0 the act stands in memory and the header counts it; what lies
+ * behind is never written. Else the memory is as it was: at 15, which is given first, the recording goes on without the act; from the
+ * first 16 on, every act that could be recorded gets 16. A recorder that no beginning gave has no room where it could not be one:
+ * with less than 8 bytes used, or with 65,535 acts.
+ *
+ * A sample: 15 where the board or the load is over 255, the thermistor or a cell over 65,535, or there are more than 121 cells. */
+adomvik_recorder adomvik_note_sample(adomvik_recorder recorder, uint8_t *memory, size_t length, uint32_t board, adomvik_readings readings,
+    const uint32_t *cells, size_t count, uint8_t number, uint8_t status, uint16_t bled);
+
+/* A frame, with the reply buffer as it is afterwards: 15 where the frame has more than 255 bytes, or the buffer less than 4. */
+adomvik_recorder adomvik_note_frame(adomvik_recorder recorder, uint8_t *memory, size_t length, const uint8_t *frame, size_t bytes,
+    const uint8_t *reply, size_t room, uint8_t number);
+
+/* A whole-stack reading. */
+adomvik_recorder adomvik_note_reading(adomvik_recorder recorder, uint8_t *memory, size_t length, uint8_t number, uint8_t line, uint8_t chg,
+    uint8_t dsg, uint8_t board, uint8_t cell);
+
+/* A listing, or a look for the fault line: 15. */
+adomvik_recorder adomvik_note_other(adomvik_recorder recorder);
 
 #ifdef __cplusplus
 }

@@ -6,6 +6,10 @@ export const RECORD_BYTES: 780;
 export const BOARDS_MAX: 16;
 /** The most entries of a board's journal: room for so many is always enough for its listing. */
 export const JOURNAL_MAX: 128;
+/** The most bytes of a recording: of more memory the rest is not used. */
+export const RECORDING_MAX: 65535;
+/** The bytes of a recorder's state. */
+export const RECORDER_BYTES: 8;
 /** Register 1 of a host board: a write that takes this bit from 1 to 0 clears the faults that are over on the last sample. */
 export const CONTROL_CLEAR: 1;
 /** Register 1 of a host board: DSG may be on. A fault that latches and forbids the switch clears the bit. */
@@ -29,11 +33,11 @@ export const CAUSE_UV: 3;
 /** Overtemperature. */
 export const CAUSE_HOT: 4;
 
-/** Why an act was refused, with the paper's number. */
+/** Why an act was refused, or a recording could not begin, with the paper's number. */
 export class Refusal extends Error {
   constructor(number: number);
   readonly name: "Refusal";
-  /** 1 to 11, 13 or 14; 12 is a program's own. */
+  /** 1 to 11, or 13 to 16; 12 is a program's own, 15 and 16 are a recorder's. */
   readonly number: number;
 }
 
@@ -140,6 +144,42 @@ export class Row {
   setRecord(place: number, bytes: ArrayLike<number> & Iterable<number>): void;
 }
 
+/** Of a recorder: 0 where the act stands in the recording, 15 where it is not recordable, 16 where there is no room for it. */
+export type Verdict = 0 | 15 | 16;
+
+/**
+ * The recorder of a day, with the memory that its recording is written into; include/adomvik.h says what its bytes are. An act is
+ * noted after it was made, with what it returned or the Refusal that it threw. Where it could not be recorded it stands all the same,
+ * and the memory is as it was: after 15 the recording goes on without the act; from the first 16 on, every act that could be recorded
+ * gets 16.
+ */
+export class Recorder {
+  private constructor();
+  /**
+   * Begins the recording of a stack that these plans open, before its first act, in the first `room` bytes of the memory. Throws a
+   * Refusal where nothing can be recorded: 1 where the plans open no stack, else 15 where one is of a garden board, else 16.
+   */
+  begin(plans: readonly Plan[], room?: number): void;
+  /** Notes a sample: 15 where the board or the load is over 255, the thermistor or a cell over 65,535, or there are over 121 cells. */
+  noteSample(board: number, readings: Readings, cells: readonly number[], answer: Sampled | Refusal): Verdict;
+  /** Notes a frame, with its reply buffer as it is afterwards: 15 where the frame is over 255 bytes, or the buffer under 4. */
+  noteFrame(frame: ArrayLike<number> & Iterable<number>, reply: Uint8Array, refusal?: Refusal): Verdict;
+  /** Notes a whole-stack reading. */
+  noteReading(answer: Reading | Refusal): Verdict;
+  /** Notes a listing or a look for the fault line: 15. */
+  noteOther(): Verdict;
+  /** Of the act noted last, or of the beginning. */
+  readonly verdict: number;
+  /** The recording so far; empty where nothing is recorded. */
+  recording(): Uint8Array;
+  /** The recorder's own bytes, to be kept. */
+  state(): Uint8Array;
+  /** The whole memory, to be kept beside them. */
+  memory(): Uint8Array;
+  /** Kept bytes back into the recorder and its memory, of which it has the first `room`: any bytes are a recorder. */
+  restore(state: ArrayLike<number> & Iterable<number>, memory: ArrayLike<number> & Iterable<number>, room?: number): void;
+}
+
 /** The library. */
 export class Adomvik {
   constructor(module: WebAssembly.Module);
@@ -149,6 +189,8 @@ export class Adomvik {
   openPlans(plans: readonly Plan[]): Row;
   /** A row of so many records that no opening has made yet, in a memory of its own. */
   row(boards: number): Row;
+  /** A recorder with so many bytes for a recording, in a memory of its own; nothing is recorded before it begins. */
+  recorder(bytes: number): Recorder;
 }
 
 /** Compiles the bytes of adomvik.wasm. */

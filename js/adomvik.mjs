@@ -9,6 +9,10 @@ export const RECORD_BYTES = 780;
 export const BOARDS_MAX = 16;
 /** The most entries of a board's journal: room for so many is always enough for its listing. */
 export const JOURNAL_MAX = 128;
+/** The most bytes of a recording: of more memory the rest is not used. */
+export const RECORDING_MAX = 65535;
+/** The bytes of a recorder's state. */
+export const RECORDER_BYTES = 8;
 
 /** Register 1 of a host board: a write that takes this bit from 1 to 0 clears the faults that are over on the last sample. */
 export const CONTROL_CLEAR = 1;
@@ -43,6 +47,8 @@ const FRAME_BYTES = 4;
 const ENTRY_WORDS = 3; // cause, cell, number
 const LISTING_REFUSED = 256; // and the refusal's number; less is how many entries were listed
 const RECORDS_MAX = 256; // of a row in memory; the library itself takes 16 at most
+const MEMORY_MAX = 1 << 20; // of a recorder; the library itself uses 65,535 bytes at most
+const NOT_RECORDABLE = 15;
 const PAGE = 65536;
 const LARGEST = 0xffffffff;
 
@@ -61,9 +67,11 @@ const WHY = {
   11: "programming staged settings unlike the working ones, three cycles already spent",
   13: "programming staged settings whose SCD level is not above their OCD level",
   14: "the lent entry buffer is too short for the listing",
+  15: "a garden board, another kind of act, a field too large, a body over 255 bytes, or a reply buffer under 4: not recordable",
+  16: "no room in the memory for the header or the act, now or at an earlier act",
 };
 
-/** Why an act was refused, with the paper's number. */
+/** Why an act was refused, or a recording could not begin, with the paper's number. */
 export class Refusal extends Error {
   constructor(number) {
     super(`refusal ${number}: ${WHY[number]}`);
@@ -96,6 +104,44 @@ function checkBytes(bytes) {
 function reach(memory, end) {
   const lacking = end - memory.buffer.byteLength;
   if (lacking > 0) memory.grow(Math.ceil(lacking / PAGE));
+}
+
+// What is free of a memory from a place on, for the lists of a call.
+class Free {
+  #memory;
+  #at;
+
+  constructor(memory, at) {
+    this.#memory = memory;
+    this.#at = at;
+  }
+
+  // A block for a call, so many bytes behind the place.
+  place(from, bytes) {
+    const at = this.#at + from;
+    reach(this.#memory, at + bytes);
+    return at;
+  }
+
+  words(from, numbers) {
+    const at = this.place(from, 4 * numbers.length);
+    const view = new Uint32Array(this.#memory.buffer, at, numbers.length);
+    for (let i = 0; i < numbers.length; i++) view[i] = natural(numbers[i]);
+    return at;
+  }
+
+  bytes(from, bytes) {
+    const at = this.place(from, bytes.length);
+    new Uint8Array(this.#memory.buffer, at, bytes.length).set(bytes);
+    return at;
+  }
+
+  // The readings, passed by value in C: on this target by an address.
+  readings(from, { elapsed, shunt, thermistor, load }) {
+    const at = this.words(from, [elapsed, 0, thermistor, load]);
+    new Int32Array(this.#memory.buffer, at + 4, 1)[0] = signed(shunt);
+    return at;
+  }
 }
 
 // A plan as the library takes it; a TypeError where it is none.
@@ -139,15 +185,15 @@ export class Row {
   #memory;
   #at;
   #boards;
-  #behind;
+  #free;
 
-  /** `at` is where the records lie in the memory, `behind` what is free for the lists of a call. */
-  constructor(acts, at, boards, behind) {
+  /** `at` is where the records lie in the memory, `free` what is free for the lists of a call. */
+  constructor(acts, at, boards, free) {
     this.#acts = acts;
     this.#memory = acts.memory;
     this.#at = at;
     this.#boards = boards;
-    this.#behind = behind;
+    this.#free = free;
   }
 
   /** How many records there are. */
@@ -158,47 +204,26 @@ export class Row {
   /** The row of the first so many of these records. */
   first(boards) {
     if (!Number.isInteger(boards) || boards < 0 || boards > this.#boards) throw new RangeError(`no row of ${boards} records here`);
-    return new Row(this.#acts, this.#at, boards, this.#behind);
-  }
-
-  // A block for a call, so many bytes behind the records.
-  #place(from, bytes) {
-    const at = this.#behind + from;
-    reach(this.#memory, at + bytes);
-    return at;
-  }
-
-  #words(from, numbers) {
-    const at = this.#place(from, 4 * numbers.length);
-    const view = new Uint32Array(this.#memory.buffer, at, numbers.length);
-    for (let i = 0; i < numbers.length; i++) view[i] = natural(numbers[i]);
-    return at;
-  }
-
-  // The readings, passed by value in C: on this target by an address.
-  #readings({ elapsed, shunt, thermistor, load }) {
-    const at = this.#words(0, [elapsed, 0, thermistor, load]);
-    new Int32Array(this.#memory.buffer, at + 4, 1)[0] = signed(shunt);
-    return at;
+    return new Row(this.#acts, this.#at, boards, this.#free);
   }
 
   #sampled(act, readings, cells) {
-    const cellsAt = this.#words(24, cells);
-    const out = this.#place(16, 4);
-    accepted(act(this.#readings(readings), cellsAt, cells.length, out));
+    const cellsAt = this.#free.words(24, cells);
+    const out = this.#free.place(16, 4);
+    accepted(act(this.#free.readings(0, readings), cellsAt, cells.length, out));
     const view = new DataView(this.#memory.buffer, out, 4);
     return { status: view.getUint8(0), bled: view.getUint16(2, true) };
   }
 
   /** Opens the row as stand-alone boards: a cell count for each record, southernmost first. */
   open(counts) {
-    accepted(this.#acts.adomvik_open(this.#at, this.#boards, this.#words(0, counts), counts.length));
+    accepted(this.#acts.adomvik_open(this.#at, this.#boards, this.#free.words(0, counts), counts.length));
   }
 
   /** Opens the row: a plan for each record, southernmost first. */
   openPlans(plans) {
     const numbers = plans.map(numberOf);
-    accepted(this.#acts.adomvik_open_plans(this.#at, this.#boards, this.#words(0, numbers), numbers.length));
+    accepted(this.#acts.adomvik_open_plans(this.#at, this.#boards, this.#free.words(0, numbers), numbers.length));
   }
 
   /** A sample of one board, counted from 1. */
@@ -215,10 +240,8 @@ export class Row {
   /** A frame from the host; its reply takes the first four bytes of `reply`, and later ones stay. */
   frameInto(frame, reply) {
     checkBytes(frame);
-    const sent = this.#place(0, frame.length);
-    const room = this.#place(frame.length, reply.length);
-    new Uint8Array(this.#memory.buffer, sent, frame.length).set(frame);
-    new Uint8Array(this.#memory.buffer, room, reply.length).set(reply);
+    const sent = this.#free.bytes(0, frame);
+    const room = this.#free.bytes(frame.length, reply);
     const number = this.#acts.adomvik_frame(this.#at, this.#boards, sent, frame.length, room, reply.length);
     reply.set(new Uint8Array(this.#memory.buffer, room, reply.length));
     accepted(number);
@@ -233,7 +256,7 @@ export class Row {
 
   /** The whole-stack reading. */
   read() {
-    const out = this.#place(0, 5);
+    const out = this.#free.place(0, 5);
     accepted(this.#acts.adomvik_read(this.#at, this.#boards, out));
     const [line, chg, dsg, board, cell] = new Uint8Array(this.#memory.buffer, out, 5);
     return { line: line === 1, chg: chg === 1, dsg: dsg === 1, board, cell };
@@ -241,7 +264,7 @@ export class Row {
 
   /** Is anything up? The line of the reading alone, by a search that stops at the first board with a latch. */
   up() {
-    const out = this.#place(0, 2);
+    const out = this.#free.place(0, 2);
     accepted(this.#acts.adomvik_up(this.#at, this.#boards, out));
     const [line, looked] = new Uint8Array(this.#memory.buffer, out, 2);
     return { line: line === 1, looked };
@@ -254,7 +277,7 @@ export class Row {
   listingInto(board, words) {
     if (!(words instanceof Uint32Array)) throw new TypeError("entries go into a Uint32Array");
     const many = Math.min(words.length, ENTRY_WORDS * JOURNAL_MAX);
-    const at = this.#words(0, words.subarray(0, many));
+    const at = this.#free.words(0, words.subarray(0, many));
     const told = this.#acts.adomvik_list(this.#at, this.#boards, natural(board), at, many);
     words.set(new Uint32Array(this.#memory.buffer, at, many));
     if (told >= LISTING_REFUSED) throw new Refusal(told - LISTING_REFUSED);
@@ -289,6 +312,117 @@ export class Row {
   }
 }
 
+// What an act came to, as a number: 0, or the refusal that it threw.
+function returned(answer) {
+  return answer instanceof Refusal ? answer.number : 0;
+}
+
+/** The recorder of a day, with the memory that its recording is written into; made by `Adomvik.recorder`. */
+export class Recorder {
+  #acts;
+  #memory;
+  #state;
+  #at;
+  #bytes;
+  #room;
+  #free;
+
+  /** `state` is where the recorder lies in the memory: itself, a place for the next one, and what the recording is written into. */
+  constructor(acts, state, bytes) {
+    this.#acts = acts;
+    this.#memory = acts.memory;
+    this.#state = state;
+    this.#at = state + 2 * RECORDER_BYTES;
+    this.#bytes = bytes;
+    this.#room = bytes;
+    this.#free = new Free(acts.memory, (this.#at + bytes + 7) & ~7);
+    reach(acts.memory, this.#at + bytes);
+  }
+
+  // Calls what returns a recorder, on this target into an address, and keeps that one; its verdict.
+  #call(name, ...words) {
+    const next = this.#state + RECORDER_BYTES;
+    this.#acts[name](next, ...words);
+    new Uint8Array(this.#memory.buffer).copyWithin(this.#state, next, next + RECORDER_BYTES);
+    return this.verdict;
+  }
+
+  #lend(room) {
+    if (!Number.isInteger(room) || room < 0 || room > this.#bytes) throw new RangeError(`no room of ${room} bytes here`);
+    this.#room = room;
+  }
+
+  /**
+   * Begins the recording of a stack that these plans open, before its first act, in the first `room` bytes of the memory. Throws
+   * where nothing can be recorded.
+   */
+  begin(plans, room = this.#bytes) {
+    const numbers = plans.map(numberOf);
+    this.#lend(room);
+    accepted(this.#call("adomvik_begin", this.#at, room, this.#free.words(0, numbers), numbers.length));
+  }
+
+  /** Notes a sample, with what it returned or the Refusal that it threw; the verdict. */
+  noteSample(board, readings, cells, answer) {
+    const { status, bled } = answer;
+    const cellsAt = this.#free.words(16, cells);
+    const x = this.#free.readings(0, readings);
+    return this.#call("adomvik_note_sample", this.#state, this.#at, this.#room, natural(board), x, cellsAt, cells.length, returned(answer),
+      status & 0xff, bled & 0xffff);
+  }
+
+  /** Notes a frame, with its reply buffer as it is afterwards, and the Refusal that it threw if it did; the verdict. */
+  noteFrame(frame, reply, refusal) {
+    checkBytes(frame);
+    const sent = this.#free.bytes(0, frame);
+    const room = this.#free.bytes(frame.length, reply);
+    return this.#call("adomvik_note_frame", this.#state, this.#at, this.#room, sent, frame.length, room, reply.length, returned(refusal));
+  }
+
+  /** Notes a whole-stack reading, with what it returned or the Refusal that it threw; the verdict. */
+  noteReading(answer) {
+    const numbers = [answer.line, answer.chg, answer.dsg, answer.board, answer.cell].map((n) => n & 0xff);
+    return this.#call("adomvik_note_reading", this.#state, this.#at, this.#room, returned(answer), ...numbers);
+  }
+
+  /** Notes a listing or a look for the fault line, which no recording has; the verdict. */
+  noteOther() {
+    return this.#call("adomvik_note_other", this.#state);
+  }
+
+  /** Of the act noted last, or of the beginning: 0 where it stands in the recording, else 15 or 16, or 1 of a beginning. */
+  get verdict() {
+    return this.state()[7];
+  }
+
+  /** The recording so far; empty where nothing is recorded. */
+  recording() {
+    const used = new DataView(this.#memory.buffer, this.#state, RECORDER_BYTES).getUint32(0, true);
+    return this.memory().subarray(0, used);
+  }
+
+  /** The recorder's own bytes, to be kept. */
+  state() {
+    return new Uint8Array(this.#memory.buffer, this.#state, RECORDER_BYTES).slice();
+  }
+
+  /** The whole memory, to be kept beside them. */
+  memory() {
+    return new Uint8Array(this.#memory.buffer, this.#at, this.#bytes).slice();
+  }
+
+  /** Kept bytes back into the recorder and its memory, of which it has the first `room`: any bytes are a recorder. */
+  restore(state, memory, room = this.#bytes) {
+    if (state.length !== RECORDER_BYTES) throw new RangeError(`a recorder has ${RECORDER_BYTES} bytes`);
+    if (memory.length !== this.#bytes) throw new RangeError(`the memory has ${this.#bytes} bytes`);
+    checkBytes(state);
+    checkBytes(memory);
+    this.#lend(room);
+    new Uint8Array(this.#memory.buffer, this.#state, RECORDER_BYTES).set(state);
+    new Uint8Array(this.#memory.buffer, this.#at, this.#bytes).set(memory);
+  }
+}
+
 /** The library. */
 export class Adomvik {
   #module;
@@ -314,11 +448,24 @@ export class Adomvik {
   /** A row of so many records that no opening has made yet, in a memory of its own. */
   row(boards) {
     if (!Number.isInteger(boards) || boards < 0 || boards > RECORDS_MAX) throw new RangeError(`no row of ${boards} records`);
-    const acts = new WebAssembly.Instance(this.#module, {}).exports;
-    const at = (acts.__heap_base.value + 7) & ~7;
+    const [acts, at] = this.#instance();
     const behind = at + RECORD_BYTES * boards;
     reach(acts.memory, behind);
-    return new Row(acts, at, boards, behind);
+    return new Row(acts, at, boards, new Free(acts.memory, behind));
+  }
+
+  /** A recorder with so many bytes for a recording, in a memory of its own; nothing is recorded before it begins. */
+  recorder(bytes) {
+    if (!Number.isInteger(bytes) || bytes < 0 || bytes > MEMORY_MAX) throw new RangeError(`no memory of ${bytes} bytes`);
+    const recorder = new Recorder(...this.#instance(), bytes);
+    recorder.restore([0, 0, 0, 0, 0, 0, NOT_RECORDABLE, NOT_RECORDABLE], new Uint8Array(bytes));
+    return recorder;
+  }
+
+  // The acts over a memory of their own, and where that is free.
+  #instance() {
+    const acts = new WebAssembly.Instance(this.#module, {}).exports;
+    return [acts, (acts.__heap_base.value + 7) & ~7];
   }
 }
 

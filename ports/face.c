@@ -1,7 +1,7 @@
 /* The acts of include/adomvik.h on a processor that rt does not compile for. The proved module has them as rt wrote it for
- * x86-64: lengths of 64 bits, the readings as two words of 64 bits, and a result of 8 bits, a listing's of 32. This file gives
- * them the header's own signatures by the target's calling convention; clang links the module in and inlines it. Nothing here is
- * proved: tests/ports holds it on every target.
+ * x86-64: lengths of 64 bits, the readings as two words of 64 bits, a recorder as one, and a result of 8 bits, a listing's of 32.
+ * This file gives them the header's own signatures by the target's calling convention; clang links the module in and inlines it.
+ * Nothing here is proved: tests/ports holds it on every target.
  */
 #include "adomvik.h"
 
@@ -13,11 +13,27 @@ uint8_t proved_frame(adomvik_board *row, uint64_t boards, const uint8_t *frame, 
 uint8_t proved_read(const adomvik_board *row, uint64_t boards, adomvik_reading *out);
 uint8_t proved_up(const adomvik_board *row, uint64_t boards, adomvik_line *out);
 uint32_t proved_list(const adomvik_board *row, uint64_t boards, uint32_t board, uint32_t *words, uint64_t many);
+uint64_t proved_begin(uint8_t *memory, uint64_t length, const adomvik_plan *plans, uint64_t count);
+uint64_t proved_note_sample(uint64_t recorder, uint8_t *memory, uint64_t length, uint32_t board, uint64_t first, uint64_t second, const uint32_t *cells, uint64_t count, uint8_t number, uint8_t status, uint16_t bled);
+uint64_t proved_note_frame(uint64_t recorder, uint8_t *memory, uint64_t length, const uint8_t *frame, uint64_t bytes, const uint8_t *reply, uint64_t room, uint8_t number);
+uint64_t proved_note_reading(uint64_t recorder, uint8_t *memory, uint64_t length, uint8_t number, uint8_t line, uint8_t chg, uint8_t dsg, uint8_t board, uint8_t cell);
+uint64_t proved_note_other(uint64_t recorder);
 
 /* Two fields of the readings that lie side by side, the lower one first. */
 static inline uint64_t word(uint32_t low, uint32_t high)
 {
     return (uint64_t)high << 32 | low;
+}
+
+/* A recorder as one word, its first field lowest, and back. */
+static inline uint64_t packed(adomvik_recorder r)
+{
+    return word(r.used, (uint32_t)r.verdict << 24 | (uint32_t)r.stopped << 16 | r.acts);
+}
+
+static inline adomvik_recorder unpacked(uint64_t r)
+{
+    return (adomvik_recorder){(uint32_t)r, (uint16_t)(r >> 32), (uint8_t)(r >> 48), (uint8_t)(r >> 56)};
 }
 
 uint8_t adomvik_open(adomvik_board *row, size_t boards, const uint32_t *counts, size_t count)
@@ -58,6 +74,31 @@ uint8_t adomvik_up(const adomvik_board *row, size_t boards, adomvik_line *out)
 uint32_t adomvik_list(const adomvik_board *row, size_t boards, uint32_t board, uint32_t *words, size_t many)
 {
     return proved_list(row, boards, board, words, many);
+}
+
+adomvik_recorder adomvik_begin(uint8_t *memory, size_t length, const adomvik_plan *plans, size_t count)
+{
+    return unpacked(proved_begin(memory, length, plans, count));
+}
+
+adomvik_recorder adomvik_note_sample(adomvik_recorder r, uint8_t *memory, size_t length, uint32_t board, adomvik_readings x, const uint32_t *cells, size_t count, uint8_t number, uint8_t status, uint16_t bled)
+{
+    return unpacked(proved_note_sample(packed(r), memory, length, board, word(x.elapsed, (uint32_t)x.shunt), word(x.thermistor, x.load), cells, count, number, status, bled));
+}
+
+adomvik_recorder adomvik_note_frame(adomvik_recorder r, uint8_t *memory, size_t length, const uint8_t *frame, size_t bytes, const uint8_t *reply, size_t room, uint8_t number)
+{
+    return unpacked(proved_note_frame(packed(r), memory, length, frame, bytes, reply, room, number));
+}
+
+adomvik_recorder adomvik_note_reading(adomvik_recorder r, uint8_t *memory, size_t length, uint8_t number, uint8_t line, uint8_t chg, uint8_t dsg, uint8_t board, uint8_t cell)
+{
+    return unpacked(proved_note_reading(packed(r), memory, length, number, line, chg, dsg, board, cell));
+}
+
+adomvik_recorder adomvik_note_other(adomvik_recorder r)
+{
+    return unpacked(proved_note_other(packed(r)));
 }
 
 /* ---- what the compiler may call for a copy, a fill or a product, each target's under its own names, so that the archive calls nothing */

@@ -112,6 +112,8 @@ fn short(refused: Refusal) -> &'static str {
         Refusal::NoCycle => "no programming cycle is left",
         Refusal::LevelsCrossed => "the staged levels are crossed",
         Refusal::ListRoom => "no room for the listing",
+        Refusal::NotRecordable => "not recordable",
+        Refusal::RecordingRoom => "no room in the recording",
     }
 }
 

@@ -80,6 +80,23 @@
 //! assert_eq!(row.up()?, Line { line: true, looked: 2 });
 //! # Ok::<(), adomvik::Refusal>(())
 //! ```
+//!
+//! A day of a stack is recorded into lent memory by a [`Recorder`] beside it, act by act with the answer that each got:
+//!
+//! ```
+//! use adomvik::{Plan, Recorder, Refusal, Row};
+//!
+//! let plans = [Plan::stand_alone(5), Plan::host(6)];
+//! let mut memory = [0; 20];
+//! let mut row = Row::open_plans(plans)?;
+//! let mut recorder = Recorder::begin(&mut memory, &plans);
+//! recorder.verdict()?;
+//! recorder.note_reading(&mut memory, row.read())?;
+//! assert_eq!(recorder.recording(&memory), [1, 0, 2, 0, 1, 0, 0, 0, 0, 5, 1, 6, 3, 0, 0, 0, 0, 0, 0, 0]);
+//! // another reading would pass the end of the memory: it stands, and is not recorded
+//! assert_eq!(recorder.note_reading(&mut memory, row.read()), Err(Refusal::RecordingRoom));
+//! # Ok::<(), adomvik::Refusal>(())
+//! ```
 #![no_std]
 #![warn(missing_docs)]
 
@@ -94,6 +111,10 @@ pub const RECORD_BYTES: usize = 780;
 pub const FRAME_BYTES: usize = 4;
 /// The most entries of a board's journal: room for so many is always enough for its listing.
 pub const JOURNAL_MAX: usize = 128;
+/// The most bytes of a recording: of more memory the rest is not used.
+pub const RECORDING_MAX: usize = 65_535;
+/// The bytes of a recorder.
+pub const RECORDER_BYTES: usize = 8;
 
 /// Register 1 of a host board: a write that takes this bit from 1 to 0 clears the faults that are over on the last sample.
 pub const CONTROL_CLEAR: u8 = 1;
@@ -120,7 +141,7 @@ pub const CAUSE_UV: u32 = 3;
 /// Overtemperature.
 pub const CAUSE_HOT: u32 = 4;
 
-/// Why an act was refused, with the paper's number.
+/// Why an act was refused, or not recorded, with the paper's number.
 #[derive(Clone, Copy, Debug, PartialEq, Eq)]
 #[repr(u8)]
 pub enum Refusal {
@@ -150,6 +171,11 @@ pub enum Refusal {
     LevelsCrossed = 13,
     /// The lent entry buffer is too short for the listing.
     ListRoom = 14,
+    /// Of a recorder alone: a garden board in the stack, another kind of act, a field too large, a body over 255 bytes, or a frame
+    /// whose reply buffer is under 4 bytes.
+    NotRecordable = 15,
+    /// Of a recorder alone: no room in the memory for the header or the act, now or at an earlier act.
+    RecordingRoom = 16,
 }
 
 impl Refusal {
@@ -167,23 +193,31 @@ impl Refusal {
         }
     }
 
-    /// By their contracts the library's functions return no number but these, 12 never, so the last arm is that of 14 alone; a table
-    /// looked up by the number would put a bounds panic into every image.
+    /// By their contracts the library's functions return no number that is none of these.
     fn of(number: u8) -> Refusal {
+        Refusal::from_number(number).unwrap_or(Refusal::RecordingRoom)
+    }
+
+    /// The refusal of a number, as a recording has it; 12 is a program's own and none of the library's. A table looked up by the
+    /// number would put a bounds panic into every image.
+    pub fn from_number(number: u8) -> Option<Refusal> {
         match number {
-            1 => Refusal::BadRow,
-            2 => Refusal::NoBoard,
-            3 => Refusal::CellList,
-            4 => Refusal::Elapsed,
-            5 => Refusal::OutOfRange,
-            6 => Refusal::FrameLength,
-            7 => Refusal::ReplyRoom,
-            8 => Refusal::CheckByte,
-            9 => Refusal::NoRegister,
-            10 => Refusal::BadValue,
-            11 => Refusal::NoCycle,
-            13 => Refusal::LevelsCrossed,
-            _ => Refusal::ListRoom,
+            1 => Some(Refusal::BadRow),
+            2 => Some(Refusal::NoBoard),
+            3 => Some(Refusal::CellList),
+            4 => Some(Refusal::Elapsed),
+            5 => Some(Refusal::OutOfRange),
+            6 => Some(Refusal::FrameLength),
+            7 => Some(Refusal::ReplyRoom),
+            8 => Some(Refusal::CheckByte),
+            9 => Some(Refusal::NoRegister),
+            10 => Some(Refusal::BadValue),
+            11 => Some(Refusal::NoCycle),
+            13 => Some(Refusal::LevelsCrossed),
+            14 => Some(Refusal::ListRoom),
+            15 => Some(Refusal::NotRecordable),
+            16 => Some(Refusal::RecordingRoom),
+            _ => None,
         }
     }
 }
@@ -404,6 +438,23 @@ pub struct Latching {
 
 const _: () = assert!(size_of::<Latching>() == 12 && align_of::<Latching>() == 4);
 
+/// How far the recording of a day has come in the memory that is lent for it. It borrows nothing: every call is lent the memory, and
+/// it should be the same one each time. `include/adomvik.h` says what the bytes of a recording are.
+///
+/// An act is noted after it was made, accepted or refused. Where it could not be recorded it stands all the same, and the memory is
+/// as it was: at [`Refusal::NotRecordable`] the recording goes on without the act; from the first [`Refusal::RecordingRoom`] on,
+/// every act that could be recorded gets that.
+#[derive(Clone, Copy, Debug, PartialEq, Eq)]
+#[repr(C)]
+pub struct Recorder {
+    used: u32,
+    acts: u16,
+    stopped: u8,
+    verdict: u8,
+}
+
+const _: () = assert!(size_of::<Recorder>() == RECORDER_BYTES && align_of::<Recorder>() == 4);
+
 // The header include/adomvik.h in Rust. A slice is passed as a pointer and a length, a record by reference.
 extern "C" {
     fn adomvik_open(row: *mut Board, boards: usize, counts: *const u32, count: usize) -> u8;
@@ -414,6 +465,41 @@ extern "C" {
     fn adomvik_read(row: *const Board, boards: usize, out: &mut RawReading) -> u8;
     fn adomvik_up(row: *const Board, boards: usize, out: &mut RawLine) -> u8;
     fn adomvik_list(row: *const Board, boards: usize, board: u32, words: *mut u32, many: usize) -> u32;
+    fn adomvik_begin(memory: *mut u8, length: usize, plans: *const Plan, count: usize) -> Recorder;
+    fn adomvik_note_sample(
+        recorder: Recorder,
+        memory: *mut u8,
+        length: usize,
+        board: u32,
+        readings: Readings,
+        cells: *const u32,
+        count: usize,
+        number: u8,
+        status: u8,
+        bled: u16,
+    ) -> Recorder;
+    fn adomvik_note_frame(
+        recorder: Recorder,
+        memory: *mut u8,
+        length: usize,
+        frame: *const u8,
+        bytes: usize,
+        reply: *const u8,
+        room: usize,
+        number: u8,
+    ) -> Recorder;
+    fn adomvik_note_reading(
+        recorder: Recorder,
+        memory: *mut u8,
+        length: usize,
+        number: u8,
+        line: u8,
+        chg: u8,
+        dsg: u8,
+        board: u8,
+        cell: u8,
+    ) -> Recorder;
+    fn adomvik_note_other(recorder: Recorder) -> Recorder;
 }
 
 /// What `adomvik_list` returns of a refusal is its number and this; less is how many entries were listed.
@@ -567,6 +653,107 @@ pub fn listing(row: &[Board], board: u32, entries: &mut [Latching]) -> Result<us
         Ok(told as usize)
     } else {
         Err(Refusal::of((told - LISTING_REFUSED) as u8))
+    }
+}
+
+/// What an act returned as a number, 0 for accepted.
+fn returned<T>(answer: &Result<T, Refusal>) -> u8 {
+    answer.as_ref().map_or_else(|why| why.number(), |_| 0)
+}
+
+impl Recorder {
+    /// Begins the recording of a stack that these plans open, before its first act: writes the header and the list of boards. Where
+    /// [`verdict`](Recorder::verdict) is a refusal nothing is recorded: [`Refusal::BadRow`] where the plans open no stack, else
+    /// [`Refusal::NotRecordable`] where one is of a garden board, else [`Refusal::RecordingRoom`].
+    #[must_use]
+    pub fn begin(memory: &mut [u8], plans: &[Plan]) -> Recorder {
+        // SAFETY: an exclusive and a shared slice, each with its own length.
+        unsafe { adomvik_begin(memory.as_mut_ptr(), memory.len(), plans.as_ptr(), plans.len()) }
+    }
+
+    /// Notes a sample: what was asked, and what it was answered. Not recordable where the board or the load is over 255, the
+    /// thermistor or a cell over 65,535, or there are more than 121 cells.
+    pub fn note_sample(
+        &mut self,
+        memory: &mut [u8],
+        board: u32,
+        readings: Readings,
+        cells: &[u32],
+        answer: Result<Sampled, Refusal>,
+    ) -> Result<(), Refusal> {
+        let number = returned(&answer);
+        let Sampled { status, bled } = answer.unwrap_or(Sampled { status: 0, bled: 0 });
+        let (at, length) = (memory.as_mut_ptr(), memory.len());
+        // SAFETY: an exclusive and a shared slice, each with its own length.
+        *self = unsafe {
+            adomvik_note_sample(*self, at, length, board, readings, cells.as_ptr(), cells.len(), number, status, bled)
+        };
+        self.verdict()
+    }
+
+    /// Notes a frame: its bytes, the reply buffer as it is afterwards, and what was answered. Not recordable where the frame has more
+    /// than 255 bytes, or the buffer less than four.
+    pub fn note_frame(
+        &mut self,
+        memory: &mut [u8],
+        frame: &[u8],
+        reply: &[u8],
+        answer: Result<(), Refusal>,
+    ) -> Result<(), Refusal> {
+        let (at, length) = (memory.as_mut_ptr(), memory.len());
+        // SAFETY: an exclusive slice and two shared ones, each with its own length.
+        *self = unsafe {
+            adomvik_note_frame(*self, at, length, frame.as_ptr(), frame.len(), reply.as_ptr(), reply.len(), returned(&answer))
+        };
+        self.verdict()
+    }
+
+    /// Notes a whole-stack reading.
+    pub fn note_reading(&mut self, memory: &mut [u8], answer: Result<Reading, Refusal>) -> Result<(), Refusal> {
+        let number = returned(&answer);
+        let Reading { line, chg, dsg, flagged } =
+            answer.unwrap_or(Reading { line: false, chg: false, dsg: false, flagged: None });
+        let (board, cell) = flagged.unwrap_or((0, 0));
+        let (at, length) = (memory.as_mut_ptr(), memory.len());
+        // SAFETY: an exclusive slice with its length.
+        *self = unsafe {
+            adomvik_note_reading(*self, at, length, number, line.into(), chg.into(), dsg.into(), board, cell)
+        };
+        self.verdict()
+    }
+
+    /// Notes a listing or a look for the fault line, which no recording has.
+    pub fn note_other(&mut self) -> Result<(), Refusal> {
+        // SAFETY: a value goes in and one comes out.
+        *self = unsafe { adomvik_note_other(*self) };
+        self.verdict()
+    }
+
+    /// Of the header, or of the act noted last: whether it stands in memory, and else why not.
+    pub fn verdict(&self) -> Result<(), Refusal> {
+        Refusal::check(self.verdict)
+    }
+
+    /// How many acts are recorded.
+    pub fn acts(&self) -> u16 {
+        self.acts
+    }
+
+    /// The bytes of the memory that hold the recording, header first; none where nothing is recorded.
+    pub fn recording<'m>(&self, memory: &'m [u8]) -> &'m [u8] {
+        memory.get(..self.used as usize).unwrap_or_default()
+    }
+
+    /// The recorder as bytes, to be kept beside its memory.
+    pub fn to_bytes(&self) -> [u8; RECORDER_BYTES] {
+        let ([a, b, c, d], [e, f]) = (self.used.to_le_bytes(), self.acts.to_le_bytes());
+        [a, b, c, d, e, f, self.stopped, self.verdict]
+    }
+
+    /// The recorder of kept bytes, whatever they are.
+    pub fn from_bytes(bytes: &[u8; RECORDER_BYTES]) -> Recorder {
+        let [a, b, c, d, e, f, stopped, verdict] = *bytes;
+        Recorder { used: u32::from_le_bytes([a, b, c, d]), acts: u16::from_le_bytes([e, f]), stopped, verdict }
     }
 }
 
