@@ -273,19 +273,24 @@ impl Cutter {
         Cutter { kept: Vec::with_capacity(LONGEST_LINE + 1) }
     }
 
-    /// Hands on each line that ends in this block, without its newline.
-    pub fn feed(&mut self, mut block: &[u8], mut each: impl FnMut(&[u8])) {
+    /// Hands on each line that ends in this block, without its newline, as long as more are wanted; what is left of the block.
+    pub fn feed<'b>(&mut self, mut block: &'b [u8], mut each: impl FnMut(&[u8]) -> bool) -> &'b [u8] {
         while let Some((line, behind)) = first_line(block) {
-            if self.kept.is_empty() {
-                each(line);
+            let more = if self.kept.is_empty() {
+                each(line)
             } else {
                 self.keep(line);
-                each(&self.kept);
+                let more = each(&self.kept);
                 self.kept.clear();
-            }
+                more
+            };
             block = behind;
+            if !more {
+                return block;
+            }
         }
         self.keep(block);
+        &[]
     }
 
     /// Hands on a last line that lacks its newline; nothing follows the last newline.

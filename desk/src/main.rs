@@ -12,10 +12,8 @@ use session::{Reader, Session};
 use std::env;
 use std::io::{self, Read, Write};
 
-/// The bytes that are read at once, and of answers that wait to be given out.
+/// The bytes that are read at once.
 const BLOCK: usize = 65_536;
-/// The bytes of a block that are answered before anything is given out: a listing is far longer than the line that asks for it.
-const PIECE: usize = 4_096;
 
 /// Gives out what was said so far.
 fn give(out: &mut impl Write, text: &mut Text) -> io::Result<()> {
@@ -40,11 +38,10 @@ fn run(reader: Reader) -> io::Result<()> {
         match input.read(&mut block) {
             Ok(0) => break Ok(()),
             Ok(taken) => {
-                for piece in block.get(..taken).unwrap_or_default().chunks(PIECE) {
-                    session.feed(piece, &mut text);
-                    if text.len() > BLOCK {
-                        give(&mut out, &mut text)?;
-                    }
+                let mut left = block.get(..taken).unwrap_or_default();
+                while !left.is_empty() {
+                    left = session.feed(left, &mut text);
+                    give(&mut out, &mut text)?;
                 }
             }
             Err(why) if why.kind() == io::ErrorKind::Interrupted => {}

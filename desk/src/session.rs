@@ -6,6 +6,8 @@ use crate::words;
 
 /// The number of a malformed line. It is the program's own: the library never sees such a line.
 const MALFORMED: u8 = 12;
+/// So many bytes of text are given out before more lines are answered: an answer is far longer than the line that asks for it.
+const ENOUGH: usize = 65_536;
 
 /// Who reads the answers.
 #[derive(Clone, Copy, PartialEq, Eq)]
@@ -27,10 +29,13 @@ impl Session {
         Session { cutter: Cutter::new(), answers: Answers { lent: Lent::new(), desk: Desk::new(), reader } }
     }
 
-    /// Answers the lines that end in this block.
-    pub fn feed(&mut self, block: &[u8], text: &mut Text) {
+    /// Answers the lines that end in this block, until there is enough text; what is left of the block.
+    pub fn feed<'b>(&mut self, block: &'b [u8], text: &mut Text) -> &'b [u8] {
         let answers = &mut self.answers;
-        self.cutter.feed(block, |line| answers.line(line, text));
+        self.cutter.feed(block, |line| {
+            answers.line(line, text);
+            text.len() < ENOUGH
+        })
     }
 
     /// Answers a last line that lacks its newline.

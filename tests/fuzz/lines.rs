@@ -18,8 +18,10 @@ use session::{Reader, Session};
 /// The text of the answers, with the input cut into pieces of so many bytes.
 fn answers(reader: Reader, input: &[u8], piece: usize) -> Vec<u8> {
     let (mut session, mut text) = (Session::new(reader), Vec::new());
-    for block in input.chunks(piece) {
-        session.feed(block, &mut text);
+    for mut left in input.chunks(piece) {
+        while !left.is_empty() {
+            left = session.feed(left, &mut text);
+        }
     }
     session.finish(&mut text);
     text
