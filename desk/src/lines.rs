@@ -44,6 +44,20 @@ pub enum Line<'a> {
     Listing { board: u32, room: usize },
     /// `U`: is anything up?
     Up,
+    /// `W`: a recording starts, into so many lent bytes.
+    Recording { room: usize },
+    /// `D`: the recording is shown.
+    Shown,
+}
+
+impl Line<'_> {
+    /// Whether it is an act: a day consists of these, and a recording has a verdict on each.
+    pub fn is_act(&self) -> bool {
+        match self {
+            Line::Sample { .. } | Line::Frame { .. } | Line::Reading | Line::Listing { .. } | Line::Up => true,
+            Line::Opening { .. } | Line::Recording { .. } | Line::Shown => false,
+        }
+    }
 }
 
 /// Why a line is malformed, and how many of its bytes were read before that showed.
@@ -108,6 +122,11 @@ fn asked<'a>(fields: &mut Fields, lent: &'a mut Lent) -> Result<Line<'a>, What> 
             fields.nothing_more(Line::Listing { board, room })
         }
         b'U' => fields.nothing_more(Line::Up),
+        b'W' => {
+            let room = fields.number()? as usize;
+            fields.nothing_more(Line::Recording { room })
+        }
+        b'D' => fields.nothing_more(Line::Shown),
         _ => Err(What::NoLetter),
     }
 }

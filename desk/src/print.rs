@@ -1,6 +1,6 @@
 //! Printing: an answer as the page has it, without its newline.
 use crate::acts::Answer;
-use adomvik::Reading;
+use adomvik::{Reading, Refusal};
 
 /// The bytes that go out.
 pub type Text = Vec<u8>;
@@ -36,6 +36,21 @@ pub fn answer(text: &mut Text, answer: &Answer) {
             field(text, told.line.into());
             field(text, told.looked.into());
         }
+        Answer::Recording(told) => verdict(text, *told),
+        Answer::Shown(recording) => {
+            words(text, "hex ");
+            for byte in *recording {
+                text.extend_from_slice(&[hex_digit(byte / 16), hex_digit(byte % 16)]);
+            }
+        }
+    }
+}
+
+fn hex_digit(n: u8) -> u8 {
+    if n < 10 {
+        b'0' + n
+    } else {
+        b'a' + n - 10
     }
 }
 
@@ -50,6 +65,12 @@ fn reading(text: &mut Text, told: &Reading) {
     words(text, " at");
     field(text, board.into());
     field(text, cell.into());
+}
+
+/// What the recorder says of an act, or of a recording that starts.
+pub fn verdict(text: &mut Text, told: Result<(), Refusal>) {
+    words(text, "rec ");
+    number(text, told.map_or_else(|refused| refused.number().into(), |()| 0));
 }
 
 /// A refusal's number.

@@ -1,6 +1,6 @@
 //! A session: blocks of input in, the text of the answers out.
-use crate::acts::Desk;
-use crate::lines::{take_apart, Cutter, Lent};
+use crate::acts::{Answer, Desk};
+use crate::lines::{take_apart, Cutter, Lent, Line};
 use crate::print::{self, Text};
 use crate::words;
 
@@ -14,8 +14,8 @@ const ENOUGH: usize = 65_536;
 pub enum Reader {
     /// Another program: the page's answers to the letter.
     Program,
-    /// A person at the desk: each refusal in words behind its number, each listing and each fault line in words, and a word on
-    /// `help`.
+    /// A person at the desk: each refusal in words behind its number, each listing, fault line and recording in words, and a word
+    /// on `help`.
     Person,
 }
 
@@ -60,25 +60,47 @@ impl Answers {
         match take_apart(line, &mut self.lent) {
             Err(flaw) => {
                 print::refusal(text, MALFORMED);
-                if told {
-                    words::flaw(text, line, &flaw);
-                }
+                end(text, told.then(|| words::flaw(line, &flaw)));
             }
-            Ok(asked) => match self.desk.act(&asked) {
-                Ok(answer) => {
-                    print::answer(text, &answer);
-                    if told {
-                        words::answer(text, &answer);
-                    }
-                }
-                Err(refused) => {
-                    print::refusal(text, refused.number());
-                    if told {
-                        words::refusal(text, refused, &asked, &self.desk);
-                    }
-                }
-            },
+            Ok(asked) => {
+                answer(&mut self.desk, &asked, told, text);
+                verdict(&self.desk, &asked, told, text);
+            }
         }
-        text.push(b'\n');
     }
+}
+
+/// Does what a line asks, and answers it.
+fn answer(desk: &mut Desk, asked: &Line, told: bool, text: &mut Text) {
+    let words = match desk.act(asked) {
+        Ok(answer) => {
+            print::answer(text, &answer);
+            match answer {
+                Answer::Recording(Err(refused)) if told => Some(words::unrecorded(refused, asked, desk)),
+                answer if told => words::answer(&answer),
+                _ => None,
+            }
+        }
+        Err(refused) => {
+            print::refusal(text, refused.number());
+            told.then(|| words::refusal(refused, asked, desk))
+        }
+    };
+    end(text, words);
+}
+
+/// A line of its own on an act that was to be recorded.
+fn verdict(desk: &Desk, asked: &Line, told: bool, text: &mut Text) {
+    let Some(verdict) = desk.noted(asked) else { return };
+    print::verdict(text, verdict);
+    end(text, verdict.err().filter(|_| told).map(|refused| words::unrecorded(refused, asked, desk)));
+}
+
+/// Words for a person, if there are any, and the line's end.
+fn end(text: &mut Text, words: Option<String>) {
+    if let Some(words) = words {
+        print::words(text, "  ");
+        print::words(text, &words);
+    }
+    text.push(b'\n');
 }

@@ -1,10 +1,19 @@
-//! Words for a person at the desk: what stands behind a refusal's number, and behind the numbers of a listing or of the fault line.
-//! Nothing here decides anything.
+//! Words for a person at the desk: what stands behind a refusal's number, behind the numbers of a listing or of the fault line, and
+//! why an act was not recorded. Nothing here decides anything.
 use crate::acts::{Answer, Desk};
 use crate::lines::{Flaw, Kind, Line, Wanted, What, LARGEST, LONGEST_LINE};
-use crate::print::{self, Text};
 use adomvik::{Latching, Readings, Refusal, BOARDS_MAX, FRAME_BYTES};
 use adomvik::{CAUSE_HOT, CAUSE_OCD, CAUSE_OV, CAUSE_SCD, CAUSE_UV};
+use std::fmt::Display;
+
+/// What a recording begins with, and what it has room for: a body's bytes, the cells of a sample, and the largest numbers of one byte
+/// and of two.
+const HEADER_BYTES: usize = 8;
+const BOARD_BYTES: usize = 2;
+const BODY_MOST: usize = 255;
+const CELLS_MOST: usize = 121;
+const BYTE_MOST: u32 = 255;
+const TWO_BYTES_MOST: u32 = 65_535;
 
 pub const PROMPT: &str = "workshop> ";
 pub const GREETING: &str = "The workshop. O 5 opens a board of five cells; help shows the lines; Ctrl-D ends.\n";
@@ -15,13 +24,8 @@ pub fn asks_help(line: &[u8]) -> bool {
     line == b"help"
 }
 
-fn said(text: &mut Text, why: &str) {
-    print::words(text, "  ");
-    print::words(text, why);
-}
-
 /// Why a line is malformed.
-pub fn flaw(text: &mut Text, line: &[u8], flaw: &Flaw) {
+pub fn flaw(line: &[u8], flaw: &Flaw) -> String {
     let (place, found) = (flaw.at + 1, byte_at(line, flaw.at));
     let why = match flaw.what {
         What::TooLong => format!("a line has at most {LONGEST_LINE} bytes"),
@@ -38,7 +42,7 @@ pub fn flaw(text: &mut Text, line: &[u8], flaw: &Flaw) {
         What::NoBoard => format!("{found} at byte {place}, where a board such as s5, h5 or g3/0/2 should be"),
         What::NoSlash => format!("{found} at byte {place}, where a slash and a number of the garden board should be"),
     };
-    said(text, &format!("no line of the workshop: {why}"));
+    format!("no line of the workshop: {why}")
 }
 
 /// A byte of a line, as a person would name it.
@@ -51,16 +55,23 @@ fn byte_at(line: &[u8], at: usize) -> String {
     }
 }
 
-/// What an answer's numbers say: those of a listing, entry by entry, and those of the fault line.
-pub fn answer(text: &mut Text, answer: &Answer) {
+/// What an answer's numbers say: those of a listing, entry by entry, those of the fault line, and those of a recording.
+pub fn answer(answer: &Answer) -> Option<String> {
     match answer {
-        Answer::Listed([]) => said(text, "nothing has latched since the opening"),
-        Answer::Listed(entries) => said(text, &entries.iter().map(latching).collect::<Vec<_>>().join("; ")),
-        Answer::Up(adomvik::Line { line: true, looked }) => said(text, &format!("board {looked} has a latch")),
-        Answer::Up(adomvik::Line { looked: 1, .. }) => said(text, "nothing is up on 1 board"),
-        Answer::Up(adomvik::Line { looked, .. }) => said(text, &format!("nothing is up on {looked} boards")),
-        _ => {}
+        Answer::Listed([]) => Some("nothing has latched since the opening".to_string()),
+        Answer::Listed(entries) => Some(entries.iter().map(latching).collect::<Vec<_>>().join("; ")),
+        Answer::Up(adomvik::Line { line: true, looked }) => Some(format!("board {looked} has a latch")),
+        Answer::Up(adomvik::Line { looked, .. }) => Some(format!("nothing is up on {}", counted(*looked, "board"))),
+        Answer::Recording(Ok(())) => Some("what follows is recorded".to_string()),
+        Answer::Shown(recording) => Some(counted(recording.len(), "byte")),
+        _ => None,
     }
+}
+
+/// So many of something.
+pub fn counted<N: Display + PartialEq + From<u8>>(n: N, what: &str) -> String {
+    let s = if n == N::from(1) { "" } else { "s" };
+    format!("{n} {what}{s}")
 }
 
 fn latching(entry: &Latching) -> String {
@@ -81,23 +92,21 @@ fn latching(entry: &Latching) -> String {
 }
 
 /// Why the library refused what a line asked.
-pub fn refusal(text: &mut Text, refused: Refusal, line: &Line, desk: &Desk) {
-    said(text, short(refused));
+pub fn refusal(refused: Refusal, line: &Line, desk: &Desk) -> String {
     let particulars = match (refused, line) {
         (Refusal::BadRow, Line::Opening { boards }) => opening(boards),
         (Refusal::BadRow, _) => Some("none is open, and O 5 opens one".to_string()),
         (_, Line::Sample { board, readings, cells }) => sample(refused, *board, readings, cells, desk),
         (_, Line::Frame { bytes, room }) => frame(refused, bytes, *room, desk),
         (_, Line::Listing { board, room }) => listing(refused, *board, *room, desk),
+        (_, Line::Shown) => Some("there is no recording, and W 65535 right after an opening starts one".to_string()),
         _ => None,
     };
-    if let Some(particulars) = particulars {
-        print::words(text, ": ");
-        print::words(text, &particulars);
-    }
+    let short = short(refused);
+    particulars.map_or(short.to_string(), |particulars| format!("{short}: {particulars}"))
 }
 
-fn short(refused: Refusal) -> &'static str {
+pub fn short(refused: Refusal) -> &'static str {
     match refused {
         Refusal::BadRow => "no such stack",
         Refusal::NoBoard => "no such board",
@@ -115,6 +124,47 @@ fn short(refused: Refusal) -> &'static str {
         Refusal::NotRecordable => "not recordable",
         Refusal::RecordingRoom => "no room in the recording",
     }
+}
+
+/// Why a recording does not start, or does not have an act.
+pub fn unrecorded(refused: Refusal, line: &Line, desk: &Desk) -> String {
+    let particulars = if refused == Refusal::RecordingRoom { no_room(line, desk) } else { not_recordable(line, desk) };
+    format!("{}: {particulars}", short(refused))
+}
+
+fn not_recordable(line: &Line, desk: &Desk) -> String {
+    if let Some((number, _)) = (1..).zip(desk.stack()).find(|(_, board)| matches!(board.kind, Kind::Garden { .. })) {
+        return format!("board {number} is a garden board");
+    }
+    match line {
+        Line::Sample { board, readings, cells } => too_large(*board, readings, cells),
+        Line::Frame { bytes, .. } if bytes.len() > BODY_MOST => format!("{} bytes, over {BODY_MOST}", bytes.len()),
+        Line::Frame { room, .. } => format!("{room} bytes are lent for the reply, under {FRAME_BYTES}"),
+        Line::Listing { .. } => "a listing is no act of a recording".to_string(),
+        Line::Up => "a look for the fault line is no act of a recording".to_string(),
+        _ => "the stack has had an act, and a recording starts right after an opening".to_string(),
+    }
+}
+
+fn no_room(line: &Line, desk: &Desk) -> String {
+    if let Line::Recording { room } = line {
+        let boards = desk.stack().len();
+        return format!("header and boards take {} bytes, {room} are lent", HEADER_BYTES + BOARD_BYTES * boards);
+    }
+    format!("{} of {} bytes are taken", desk.recording().len(), desk.recording_room())
+}
+
+/// What of a sample a recording has no room for, by the width of its fields.
+fn too_large(board: u32, readings: &Readings, cells: &[u32]) -> String {
+    let Readings { thermistor, load, .. } = *readings;
+    let over = |what: &str, n: u32, most: u32| (n > most).then(|| format!("{what} {n}, over {most}"));
+    over("board", board, BYTE_MOST)
+        .or_else(|| over("load flag", load, BYTE_MOST))
+        .or_else(|| over("thermistor", thermistor, TWO_BYTES_MOST))
+        .or_else(|| {
+            (1..).zip(cells).find_map(|(cell, reads)| over(&format!("cell {cell} reads"), *reads, TWO_BYTES_MOST))
+        })
+        .unwrap_or_else(|| format!("{} cells, over {CELLS_MOST}", cells.len()))
 }
 
 fn opening(boards: &[Wanted]) -> Option<String> {
@@ -141,14 +191,14 @@ fn misfit(board: &Wanted) -> Option<String> {
 }
 
 fn no_board(board: u32, desk: &Desk) -> String {
-    format!("{board}, and the stack has {}", desk.counts().len())
+    format!("{board}, and the stack has {}", desk.stack().len())
 }
 
 fn sample(refused: Refusal, board: u32, readings: &Readings, cells: &[u32], desk: &Desk) -> Option<String> {
     match refused {
         Refusal::NoBoard => Some(no_board(board, desk)),
         Refusal::CellList => {
-            let (_, count) = (1..).zip(desk.counts()).find(|(number, _)| *number == board)?;
+            let (_, Wanted { cells: count, .. }) = (1..).zip(desk.stack()).find(|(number, _)| *number == board)?;
             Some(format!("board {board} has {count} cells, {} are given", cells.len()))
         }
         Refusal::Elapsed => Some(format!("{} us, not 1 to 100000", readings.elapsed)),
