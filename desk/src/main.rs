@@ -1,15 +1,19 @@
-//! The mechanic's desk: lines from standard input, their answers on standard output. `./workshop` starts it.
+//! The mechanic's desk: lines from standard input, their answers on standard output; or a day recorded from a file, or a recording
+//! shown. `./workshop` starts it.
 #![forbid(unsafe_code)]
 
 mod acts;
 mod lines;
 mod print;
+mod record;
 mod session;
+mod show;
 mod words;
 
 use print::Text;
 use session::{Reader, Session};
 use std::env;
+use std::ffi::OsString;
 use std::io::{self, Read, Write};
 
 /// The bytes that are read at once.
@@ -54,9 +58,18 @@ fn run(reader: Reader) -> io::Result<()> {
 }
 
 /// `--desk` says that a person sits at a terminal.
+fn asked(words: &[OsString]) -> io::Result<()> {
+    match words {
+        [] => run(Reader::Program),
+        [desk] if desk == "--desk" => run(Reader::Person),
+        [record, day, recording] if record == "record" => record::record(day.as_ref(), recording.as_ref()),
+        [show, recording] if show == "show" => show::show(recording.as_ref()),
+        _ => Err(io::Error::other("use: workshop [--desk | record DAY.txt DAY.rec | show DAY.rec]")),
+    }
+}
+
 fn main() {
-    let reader = if env::args_os().any(|word| word == "--desk") { Reader::Person } else { Reader::Program };
-    if let Err(why) = run(reader) {
+    if let Err(why) = asked(&env::args_os().skip(1).collect::<Vec<_>>()) {
         // that nobody hears any more is nothing to speak of, and perhaps nobody hears this either
         if why.kind() != io::ErrorKind::BrokenPipe {
             let _ = writeln!(io::stderr(), "workshop: {why}");

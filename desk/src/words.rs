@@ -5,6 +5,8 @@ use crate::lines::{Flaw, Kind, Line, Wanted, What, LARGEST, LONGEST_LINE};
 use adomvik::{Latching, Readings, Refusal, BOARDS_MAX, FRAME_BYTES};
 use adomvik::{CAUSE_HOT, CAUSE_OCD, CAUSE_OV, CAUSE_SCD, CAUSE_UV};
 use std::fmt::Display;
+use std::io;
+use std::path::Path;
 
 /// What a recording begins with, and what it has room for: a body's bytes, the cells of a sample, and the largest numbers of one byte
 /// and of two.
@@ -22,6 +24,11 @@ pub const HELP: &str = include_str!("../help.txt");
 /// Whether a line is the word for help.
 pub fn asks_help(line: &[u8]) -> bool {
     line == b"help"
+}
+
+/// What went wrong with a file, under its name.
+pub fn named(path: &Path, why: io::Error) -> io::Error {
+    io::Error::new(why.kind(), format!("{}: {why}", path.display()))
 }
 
 /// Why a line is malformed.
