@@ -1,14 +1,14 @@
 /* A firmware main loop over a stack of two boards, on a simulated board: it reads samples, drives two switch pins and answers
- * the host's frames, and at the end shows what latched on each board. What stands under "the simulated board" is what a real one
- * has as hardware; what it says goes to a console (desk/console.c, or cortex-m4/console.c on bare metal). firmware.rs is the same
- * in Rust.
+ * the host's frames, and records all of it; at the end it shows what latched on each board, and how much was recorded. What stands
+ * under "the simulated board" is what a real one has as hardware; what it says goes to a console (desk/console.c, or
+ * cortex-m4/console.c on bare metal). firmware.rs is the same in Rust.
  */
 #include <stdbool.h>
 
 #include "adomvik.h"
 #include "console.h"
 
-enum { BOARDS = 2, TICKS = 16, TICK_US = 100000 };
+enum { BOARDS = 2, TICKS = 16, TICK_US = 100000, RECORDING_BYTES = 1024 };
 
 static const uint32_t cell_counts[BOARDS] = {5, 6};
 
@@ -76,27 +76,51 @@ static void send(const uint8_t *reply)
 
 static adomvik_board stack[BOARDS];
 
+/* The recording lies where it can be fetched at the end of the day, by the host or from a flash. */
+static uint8_t recording[RECORDING_BYTES];
+static adomvik_recorder recorder;
+
+/* The recorder behind an act, which stands whatever its verdict is; that the memory is full is said once. */
+static void noted(adomvik_recorder next)
+{
+    if (next.stopped != recorder.stopped)
+        say_tick(": the recording is full\n");
+    recorder = next;
+}
+
 /* Every board sampled; false where one was refused, and then nothing is known of it. */
 static bool sample_all(void)
 {
     bool good = true;
     for (uint32_t board = 1; board <= BOARDS; board++) {
         uint32_t cells[ADOMVIK_CELLS_MAX];
-        adomvik_sampled answer;
+        adomvik_sampled answer = {0};
+        const size_t count = cell_counts[board - 1];
         const adomvik_readings x = read_sensors(board, cells);
-        good &= adomvik_sample(stack, BOARDS, board, x, cells, cell_counts[board - 1], &answer) == ADOMVIK_OK;
+        const uint8_t refusal = adomvik_sample(stack, BOARDS, board, x, cells, count, &answer);
+        noted(adomvik_note_sample(recorder, recording, sizeof recording, board, x, cells, count, refusal, answer.status, answer.bled));
+        good &= refusal == ADOMVIK_OK;
     }
     return good;
+}
+
+/* The stack as a whole; false where that was refused. */
+static bool read_stack(adomvik_reading *pack)
+{
+    const uint8_t refusal = adomvik_read(stack, BOARDS, pack);
+    noted(adomvik_note_reading(recorder, recording, sizeof recording, refusal, pack->line, pack->chg, pack->dsg, pack->board, pack->cell));
+    return refusal == ADOMVIK_OK;
 }
 
 /* A refused frame gets no reply: the host asks again. */
 static void answer_host(void)
 {
-    uint8_t frame[ADOMVIK_FRAME_BYTES], reply[ADOMVIK_FRAME_BYTES];
+    uint8_t frame[ADOMVIK_FRAME_BYTES], reply[ADOMVIK_FRAME_BYTES] = {0};
     const size_t length = receive(frame);
     if (length == 0)
         return;
     const uint8_t refusal = adomvik_frame(stack, BOARDS, frame, length, reply, sizeof reply);
+    noted(adomvik_note_frame(recorder, recording, sizeof recording, frame, length, reply, sizeof reply, refusal));
     if (refusal == ADOMVIK_OK) {
         send(reply);
         return;
@@ -140,14 +164,35 @@ static void show_journal(uint32_t board)
     }
 }
 
+static void show_recording(void)
+{
+    say("recorded ");
+    say_number(recorder.acts);
+    say(" acts in ");
+    say_number(recorder.used);
+    say(" bytes\n");
+}
+
+/* The stack opened, and its recording begun; false where either cannot be. */
+static bool begin(void)
+{
+    adomvik_plan plans[BOARDS];
+    for (size_t i = 0; i < BOARDS; i++)
+        plans[i] = adomvik_stand_alone(cell_counts[i]);
+    if (adomvik_open_plans(stack, BOARDS, plans, BOARDS) != ADOMVIK_OK)
+        return false;
+    recorder = adomvik_begin(recording, sizeof recording, plans, BOARDS);
+    return recorder.verdict == ADOMVIK_OK;
+}
+
 int main(void)
 {
-    if (adomvik_open(stack, BOARDS, cell_counts, BOARDS) != ADOMVIK_OK)
+    if (!begin())
         return 1;
     for (tick = 0; tick < TICKS; tick++) {
         adomvik_reading pack = {0};
         /* both switches off where anything is refused */
-        if (!sample_all() || adomvik_read(stack, BOARDS, &pack) != ADOMVIK_OK)
+        if (!sample_all() || !read_stack(&pack))
             drive_pins(false, false);
         else
             drive_pins(pack.chg, pack.dsg);
@@ -155,5 +200,6 @@ int main(void)
     }
     for (uint32_t board = 1; board <= BOARDS; board++)
         show_journal(board);
+    show_recording();
     return 0;
 }

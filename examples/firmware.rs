@@ -1,10 +1,11 @@
 //! A firmware main loop over a stack of two boards, on a simulated board: it reads samples, drives two switch pins and answers
-//! the host's frames, and at the end shows what latched on each board. What stands in `sim` is what a real board has as hardware.
-//! firmware.c is the same in C.
-use adomvik::{Latching, Reading, Readings, Refusal, Row, CAUSE_OCD, CAUSE_OV, CAUSE_SCD, CAUSE_UV, JOURNAL_MAX};
+//! the host's frames, and records all of it; at the end it shows what latched on each board, and how much was recorded. What stands
+//! in `sim` is what a real board has as hardware. firmware.c is the same in C.
+use adomvik::{Latching, Plan, Reading, Readings, Recorder, Refusal, Row, CAUSE_OCD, CAUSE_OV, CAUSE_SCD, CAUSE_UV, JOURNAL_MAX};
 
 const CELLS: [u32; 2] = [5, 6];
 const TICKS: u32 = 16;
+const RECORDING_BYTES: usize = 1024;
 
 /// The simulated board.
 mod sim {
@@ -53,15 +54,58 @@ mod sim {
     }
 }
 
-/// Every board sampled, and then the stack as a whole.
-fn sample_all(stack: &mut Row<2>, tick: u32) -> Result<Reading, Refusal> {
-    for (board, &count) in (1..).zip(&CELLS) {
-        let mut cells = [0; 10];
-        let cells = &mut cells[..count as usize];
-        let readings: Readings = sim::read_sensors(tick, board, cells);
-        stack.sample(board, readings, cells)?;
+/// The stack with a recorder beside it. The recording lies where it can be fetched at the end of the day.
+struct Pack {
+    stack: Row<2>,
+    recorder: Recorder,
+    recording: [u8; RECORDING_BYTES],
+    full: bool,
+}
+
+impl Pack {
+    fn open() -> Result<Pack, Refusal> {
+        let (plans, mut recording) = (CELLS.map(Plan::stand_alone), [0; RECORDING_BYTES]);
+        let stack = Row::open_plans(plans)?;
+        let recorder = Recorder::begin(&mut recording, &plans);
+        recorder.verdict()?;
+        Ok(Pack { stack, recorder, recording, full: false })
     }
-    stack.read()
+
+    /// Every board sampled, and then the stack as a whole.
+    fn sample_all(&mut self, tick: u32) -> Result<Reading, Refusal> {
+        let mut refused = None;
+        for (board, &count) in (1..).zip(&CELLS) {
+            let mut cells = [0; 10];
+            let cells = &mut cells[..count as usize];
+            let readings: Readings = sim::read_sensors(tick, board, cells);
+            let answer = self.stack.sample(board, readings, cells);
+            let verdict = self.recorder.note_sample(&mut self.recording, board, readings, cells, answer);
+            self.noted(tick, verdict);
+            refused = refused.or(answer.err());
+        }
+        refused.map_or(Ok(()), Err)?;
+        let answer = self.stack.read();
+        let verdict = self.recorder.note_reading(&mut self.recording, answer);
+        self.noted(tick, verdict);
+        answer
+    }
+
+    fn frame(&mut self, tick: u32, frame: [u8; 4]) -> Result<[u8; 4], Refusal> {
+        let answer = self.stack.frame(&frame);
+        let reply = answer.unwrap_or_default();
+        let verdict = self.recorder.note_frame(&mut self.recording, &frame, &reply, answer.map(|_| ()));
+        self.noted(tick, verdict);
+        answer
+    }
+
+    /// An act stands whatever the recorder's verdict is; that the memory is full is said once.
+    fn noted(&mut self, tick: u32, verdict: Result<(), Refusal>) {
+        let full = verdict == Err(Refusal::RecordingRoom);
+        if full && !self.full {
+            println!("tick {tick}: the recording is full");
+        }
+        self.full |= full;
+    }
 }
 
 fn name(cause: u32) -> &'static str {
@@ -86,21 +130,22 @@ fn show_journal(stack: &Row<2>, board: u32) -> Result<(), Refusal> {
 }
 
 fn main() -> Result<(), Refusal> {
-    let mut stack = Row::open(CELLS)?;
+    let mut pack = Pack::open()?;
     let mut pins = sim::Pins::new();
     for tick in 0..TICKS {
         // both switches off where anything is refused
-        let (chg, dsg) = sample_all(&mut stack, tick).map_or((false, false), |pack| (pack.chg, pack.dsg));
+        let (chg, dsg) = pack.sample_all(tick).map_or((false, false), |whole| (whole.chg, whole.dsg));
         pins.drive(tick, chg, dsg);
         // a refused frame gets no reply: the host asks again
-        match sim::receive(tick).map(|frame| stack.frame(&frame)) {
+        match sim::receive(tick).map(|frame| pack.frame(tick, frame)) {
             Some(Ok(reply)) => sim::send(tick, reply),
             Some(Err(why)) => println!("tick {tick}: frame refused, {}", why.number()),
             None => (),
         }
     }
     for (board, _) in (1..).zip(&CELLS) {
-        show_journal(&stack, board)?;
+        show_journal(&pack.stack, board)?;
     }
+    println!("recorded {} acts in {} bytes", pack.recorder.acts(), pack.recorder.recording(&pack.recording).len());
     Ok(())
 }
