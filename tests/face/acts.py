@@ -3,6 +3,9 @@
 Acts on opened rows are the workshop's sessions of tests/differential, answered
 by the reference from each board's history; the record model must agree. Acts
 on garbage, and on records that are set, are answered by the record model alone.
+About half of the opened rows are recorded, each act with the answer that it
+got; recorders of any fields note acts of any numbers. Both are answered by the
+recorder's model.
 """
 
 import random
@@ -10,6 +13,7 @@ import struct
 
 from desk_sessions import DeskMaker
 from record import BLANK, JOURNAL, LAYOUT, MOST_SAMPLES, RECORDS, Record, Rows
+from recorder import ACTS_MOST, NO_ROOM, NOT_RECORDABLE, Tape, USED_MOST
 from reference import (DEVICES, GARDEN, HOST, Plan, Refusal, STAND_ALONE, Sample, Settings, Stack, TALLIES, crc8, split_lines,
                        stand_alone)
 from sessions import make_session
@@ -17,6 +21,9 @@ from workshop import Workshop
 
 LONGEST_LIST = 100      # that the drivers are told
 LARGEST_ROOM = JOURNAL + 2      # of a listing's buffer, in entries
+LARGEST_MEMORY = 4096   # of a recording, on a driver with little RAM
+MEMORIES = 0, 7, 8, 9, 10, 40, 100, 300, 300, 600, 600, 600     # lengths of a memory
+LARGE_MEMORIES = USED_MOST - 1, USED_MOST, *(USED_MOST + 1, USED_MOST + 300) * 2   # and about where a recording ends at the latest
 ELAPSED = 1, 1000, 100_000      # of samples on garbage, mostly
 BESIDE_TALLIES = 15, 21, 23, 29     # registers that no board has
 
@@ -27,6 +34,8 @@ class Script:
     def __init__(self, seed):
         self.rng = random.Random(seed)
         self.rows = Rows()
+        self.tape = Tape(0)
+        self.recording = False      # are acts noted?
         self.lines = []
         self.answers = []
 
@@ -86,6 +95,51 @@ class Script:
         self.rows.overwrite(place, data)
         self.lines.append(" ".join(["W", str(place)] + [str(b) for b in data]))
 
+    def begin(self, length, plans):
+        """A recording begun in a memory of so many bytes."""
+        self.tape = Tape(length)
+        self.put("M", [length] + [number for plan in plans for number in plan], self.tape.begin(plans))
+
+    def recorder(self, length, used, acts, stopped, verdict):
+        """Any recorder, with a memory of so many bytes: no note, and no answer."""
+        self.tape = Tape(length, used, acts, stopped, verdict)
+        self.lines.append(" ".join(["G"] + [str(n) for n in (length, used, acts, stopped, verdict)]))
+
+    def note_sample(self, board, fields, number, answer):
+        """A sample noted, with its refusal's number or 0, and status and bled cells."""
+        numbers = [board, *fields[:4], number, *answer, *fields[4]]
+        self.put("s", numbers, self.tape.sample(board, fields, number, answer))
+
+    def note_frame(self, data, reply, number):
+        """A frame noted, with its reply buffer as it is afterwards."""
+        self.put("f", [number, len(reply), *reply, *data], self.tape.frame(data, reply, number))
+
+    def note_reading(self, number, answer):
+        """A reading noted, with its five numbers."""
+        self.put("r", [number, *answer], self.tape.reading(number, answer))
+
+    def note_other(self):
+        """A listing or a look for the fault line noted."""
+        self.put("o", [], self.tape.other())
+
+    def memory(self):
+        """Every byte of the recording's memory, and of the guards beside it."""
+        self.put("D", [], self.tape.whole())
+
+    def noted(self):
+        """The last act noted, with the answer that it should have got, and what the places held where it was refused."""
+        letter, *numbers = self.lines[-1].split(" ")
+        numbers, told = [int(n) for n in numbers], self.answers[-1].split(" ")[:-1]
+        if letter in "SB":
+            board, *fields = numbers[1:] if letter == "S" else [numbers[0] + 1, *numbers[1:]]
+            self.note_sample(board, (*fields[:4], fields[4:]), int(told[0]), [int(n) for n in told[1:]])
+        elif letter == "F":
+            self.note_frame(numbers[2:], bytes.fromhex("".join(told[1:])), int(told[0]))
+        elif letter == "R":
+            self.note_reading(int(told[0]), [int(n) for n in told[1:]])
+        else:
+            self.note_other()
+
 
 # ------------------------------------------------- sessions on opened rows
 
@@ -116,9 +170,11 @@ class Told:
 
 
 def agree(told, script):
-    """The last answer begins with what the reference says."""
+    """The last answer begins with what the reference says. An act is noted where its row is recorded."""
     if script.answers[-1].rsplit(" ", 1)[0] != told:
         raise Disagreement(f"{script.lines[-1]}: reference {told}, record model {script.answers[-1]}")
+    if script.recording and script.lines[-1][0] not in "OP":
+        script.noted()
 
 
 def frame_told(told, data, room):
@@ -162,13 +218,29 @@ def opened(script, told, plans, by_counts):
         script.opening_plans(len(plans), plans)
     answer = told.opening(plans)
     agree(answer, script)
+    if answer == "0":
+        recorded(script, plans)
     return answer == "0"
+
+
+def recorded(script, plans):
+    """The end of a recording by a good opening, and perhaps another one, with room enough, little, or none. A row with a garden board
+    is recorded seldom, since nothing of it is."""
+    if script.recording:
+        script.memory()
+    script.recording = script.rng.random() < (0.1 if any(plan.kind == GARDEN for plan in plans) else 0.8)
+    if script.recording:
+        header = 8 + 2 * len(plans)
+        script.begin(script.rng.choice((LARGEST_MEMORY,) * 5 + (400, header + 8, header, header - 1)), plans)
 
 
 def session(script, seed):
     """The acts of one session of tests/differential --workshop, but for malformed lines and lists too long for a driver."""
     told, boards = Told(), 0
+    script.recording = False
     for line in split_lines(make_session(seed, DeskMaker).data):
+        if line[:1] in (b"W", b"D"):    # the script's own recordings are begun at openings
+            continue
         try:
             act, fields = Workshop().take_apart(line)
         except Refusal:
@@ -460,3 +532,83 @@ def fault_lines(script):
     script.overwrite(16, script.rows.records[0].whole())
     for boards in (0, 17, 16):
         script.up(boards)
+
+
+# ------------------------------------------------------------ recorders
+
+# what an act returns, as Rust can say it
+RETURNED = 0, *range(1, 12), *range(13, 17)
+
+
+def any_sample(rng):
+    """What a note of a sample is handed; at times one thing of it is too large for a recording, or just not."""
+    board, load, thermistor = rng.choice((0, 1, 16, 255)), rng.choice((0, 1, 255)), rng.choice((2000, 65_535))
+    cells = [rng.choice((3900, rng.randrange(65_536))) for _ in range(rng.choice((5, 10, rng.choice((0, 1, 16, 120, 121)))))]
+    spoilt = rng.random()
+    if spoilt < 0.06:
+        board = rng.choice((256, 2**32 - 1))
+    elif spoilt < 0.12:
+        load = rng.choice((256, 2**32 - 1))
+    elif spoilt < 0.18:
+        thermistor = rng.choice((65_536, 2**32 - 1))
+    elif spoilt < 0.24:
+        cells = [3900] * rng.choice((122, 123, 200))
+    elif spoilt < 0.36 and cells:
+        cells[rng.randrange(len(cells))] = rng.choice((65_535, 65_536, 2**32 - 1))
+    return board, (rng.randrange(2**32), rng.randint(-2**31, 2**31 - 1), thermistor, load, cells)
+
+
+def any_act(rng):
+    """What a note is handed of an act that need never have been made: the name of the note, and the rest."""
+    kind, number = rng.random(), rng.choice((0, 0, rng.choice(RETURNED)))
+    if kind < 0.4:
+        return "sample", (*any_sample(rng), number, (rng.randrange(256), rng.randrange(65_536)))
+    if kind < 0.7:
+        data = rng.randbytes(rng.choice((4, 4, 4, rng.choice((0, 1, 3, 5, 16, 254, 255, 256, 257, 300)))))
+        return "frame", (data, rng.randbytes(rng.choice((4, 4, 4, 4, 5, 8, 3, 0))), number)
+    if kind < 0.95:
+        switches, place = [rng.randint(0, 1) for _ in range(3)], rng.choice(((0, 0), (rng.randint(1, 255), rng.randrange(256))))
+        return "reading", (number, [*switches, *place])
+    return "other", ()
+
+
+def size_of(act):
+    """The bytes that an act takes of a recording; 0 where it is not recordable."""
+    name, handed = act
+    tape = Tape(1000, used=8, stopped=0)
+    getattr(tape, name)(*handed)
+    return tape.used - 8
+
+
+def any_recorder(script, length, act):
+    """A recorder with a memory of that length: mostly one that goes on, and that the act fills up, or fails to by a byte."""
+    rng, end = script.rng, min(length, USED_MOST)
+    near = max(0, end - size_of(act) + rng.choice((-1, 0, 0, 1, 1)))
+    used = rng.choice((near, near, near, rng.randint(8, max(8, end)), rng.choice((0, 7, end, length, length + 1, 2**32 - 3, 2**32 - 1))))
+    acts = rng.choice((0, 1, 255, 256, 300, rng.choice((ACTS_MOST - 1, ACTS_MOST, rng.randrange(ACTS_MOST)))))
+    stopped = rng.choice((0,) * 7 + (NO_ROOM, NOT_RECORDABLE, rng.choice((1, 14, 17, 255))))
+    script.recorder(length, used, acts, stopped, rng.choice((0, NOT_RECORDABLE, NO_ROOM, rng.randrange(256))))
+
+
+def any_beginning(script):
+    """A beginning by plans of any kind and number, with about as much memory as it takes."""
+    rng = script.rng
+    boards = rng.choice((1, 1, 2, 3, 15, 16, 16, rng.choice((0, 17, 18))))
+    plans = [Plan(rng.choice((STAND_ALONE, HOST)), rng.randint(5, 10)) for _ in range(boards)]
+    if boards and rng.random() < 0.4:
+        plans[rng.randrange(boards)] = plan_of(rng, rng.choice((5, 10, 4, 11, 256 + 5, 2**32 - 1)))
+    script.begin(max(0, 8 + 2 * boards + rng.choice((-1, 0, 0, 1, 40, 300, -8, -9))), plans)
+
+
+def recorders(script, count, lengths):
+    """Recorders of any fields and beginnings of any plans, each with a few notes behind it, and then every byte of its memory."""
+    rng = script.rng
+    for _ in range(count):
+        acts = [any_act(rng) for _ in range(rng.choice((1, 1, 2, 4)))]
+        if rng.random() < 0.25:
+            any_beginning(script)
+        else:
+            any_recorder(script, rng.choice(lengths), acts[0])
+        for name, handed in acts:
+            getattr(script, "note_" + name)(*handed)
+        script.memory()

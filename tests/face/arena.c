@@ -4,7 +4,13 @@
 
 #include "platform.h"
 
-enum { ARENA = 20480, ALIGN = 8 }; /* 18 records, and a listing's buffer by entries and by words */
+/* 18 records, a recording's memory, and a listing's buffer by entries and by words; a Cortex-M has no RAM for the largest recording */
+#ifdef __ARM_EABI__
+enum { ARENA = 24576 };
+#else
+enum { ARENA = 98304 };
+#endif
+enum { ALIGN = 8 };
 
 static _Alignas(ALIGN) unsigned char arena[ARENA];
 static size_t used;

@@ -10,17 +10,28 @@
  *     U boards                                           the fault line alone
  *     L boards board room                                a listing, with a buffer of so many entries
  *     W place bytes..                                    780 bytes over the record at a place, and no act
+ *     M length and kind cells row trigger of each        a recording begun by plans, in a memory of so many bytes
+ *     s board elapsed shunt thermistor load number status bled cells..   a sample noted
+ *     f number room reply.. bytes..                      a frame noted, with a reply buffer of so many bytes
+ *     r number line chg dsg board cell                   a reading noted
+ *     o                                                  a listing or a look noted
+ *     D                                                  the bytes of the recording's memory and of the guards beside it
+ *     G length used acts stopped verdict                 any recorder, with a memory of so many bytes, and no note
  *     K tries                                            the check byte of every frame of 2^17, that many bytes tried (here alone)
  *     T latchings                                        a tally and the journal after each of so many latchings (here alone)
  *
- * An answer: the act's number, what stands in the place for the answer or in the buffer, and a checksum of all records.
- * Before an act these places hold PATTERN, so that what a refusal wrote would show. Every list is lent in a block of just its
- * size. Nothing of a C library is used, nor a division, so that the same driver runs on the smallest processor (platform.h).
+ * An answer: the act's number, what stands in the place for the answer or in the buffer, and a checksum of all records; of a note
+ * the verdict, the recorder's other fields, and a checksum of its memory and the guards. Before an act these places hold PATTERN,
+ * so that what a refusal wrote would show. Every list is lent in a block of just its size. Nothing of a C library is used, nor a
+ * division, so that the same driver runs on the smallest processor (platform.h).
  */
 #include "adomvik.h"
 #include "platform.h"
 
 enum { RECORDS = 18, NUMBERS = 784, LINE = 3200, BUFFER = 1024, PATTERN = 0xa5 };
+
+/* Bytes in front of a recording's memory and behind it; they have it lie at any address. */
+enum { GUARD = 13 };
 
 /* A record's padding: one byte in front of the tallies, and what lies behind the journal. */
 enum { PADDING = offsetof(adomvik_board, garden) + sizeof(adomvik_filter) };
@@ -107,10 +118,10 @@ static uint32_t *words(size_t from)
     return list;
 }
 
-static uint8_t *bytes(size_t from)
+static uint8_t *bytes(size_t from, size_t to)
 {
-    uint8_t *list = block(numbers - from);
-    for (size_t i = from; i < numbers; i++)
+    uint8_t *list = block(to - from);
+    for (size_t i = from; i < to; i++)
         list[i - from] = (uint8_t)number[i];
     return list;
 }
@@ -150,23 +161,27 @@ static adomvik_readings readings(size_t from)
 
 /* ---- answers */
 
-/* CRC-32 of the records, as zlib has it, but for the padding in each; by half bytes. */
-static uint32_t checksum(void)
+/* CRC-32, as zlib has it, gone on with by one byte; by half bytes. */
+static uint32_t crc_next(uint32_t crc, uint8_t byte)
 {
     static const uint32_t halves[16] = {
         0x00000000, 0x1db71064, 0x3b6e20c8, 0x26d930ac, 0x76dc4190, 0x6b6b51f4, 0x4db26158, 0x5005713c,
         0xedb88320, 0xf00f9344, 0xd6d6a3e8, 0xcb61b38c, 0x9b64c2b0, 0x86d3d2d4, 0xa00ae278, 0xbdbdf21c,
     };
+    crc ^= byte;
+    crc = crc >> 4 ^ halves[crc & 15];
+    return crc >> 4 ^ halves[crc & 15];
+}
+
+/* Of the records, but for the padding in each. */
+static uint32_t checksum(void)
+{
     const unsigned char *p = (const unsigned char *)row;
     uint32_t crc = 0xffffffff;
     for (size_t n = 0; n < RECORDS; n++, p += sizeof *row)
-        for (size_t i = 0; i < RECORD_END; i++) {
-            if (i == PADDING)
-                continue;
-            crc ^= p[i];
-            crc = crc >> 4 ^ halves[crc & 15];
-            crc = crc >> 4 ^ halves[crc & 15];
-        }
+        for (size_t i = 0; i < RECORD_END; i++)
+            if (i != PADDING)
+                crc = crc_next(crc, p[i]);
     return ~crc;
 }
 
@@ -230,7 +245,7 @@ static void sample_one(void)
 static void frame(void)
 {
     const size_t room = number[1];
-    uint8_t *sent = bytes(2), *reply = blank(room);
+    uint8_t *sent = bytes(2, numbers), *reply = blank(room);
     put_number(adomvik_frame(row, number[0], sent, numbers - 2, reply, room));
     for (size_t i = 0; i < room; i++) {
         if (i == 0)
@@ -316,6 +331,88 @@ static void overwrite(void)
 {
     for (size_t i = 0; i < sizeof *row; i++)
         ((uint8_t *)&row[number[0]])[i] = (uint8_t)number[1 + i];
+}
+
+/* ---- recordings */
+
+static adomvik_recorder recorder;
+static uint8_t *tape; /* guards and memory */
+static size_t length; /* of the memory */
+
+/* Another memory, and no recording in it. */
+static void new_tape(size_t bytes)
+{
+    if (tape)
+        release(tape);
+    tape = blank(bytes + 2 * GUARD);
+    length = bytes;
+}
+
+static void told_recorder(adomvik_recorder next)
+{
+    uint32_t crc = 0xffffffff;
+    for (size_t i = 0; i < length + 2 * GUARD; i++)
+        crc = crc_next(crc, tape[i]);
+    recorder = next;
+    put_number(recorder.verdict);
+    put_next(recorder.used);
+    put_next(recorder.acts);
+    put_next(recorder.stopped);
+    put_char(' ');
+    put_hex(~crc, 8);
+    put_char('\n');
+}
+
+static void begin(void)
+{
+    new_tape(number[0]);
+    adomvik_plan *list = plans(1);
+    told_recorder(adomvik_begin(tape + GUARD, length, list, (numbers - 1) / 4));
+    release(list);
+}
+
+static void any_recorder(void)
+{
+    new_tape(number[0]);
+    recorder = (adomvik_recorder){number[1], (uint16_t)number[2], (uint8_t)number[3], (uint8_t)number[4]};
+}
+
+static void note_sample(void)
+{
+    uint32_t *cells = words(8);
+    told_recorder(adomvik_note_sample(recorder, tape + GUARD, length, number[0], readings(1), cells, numbers - 8, (uint8_t)number[5],
+        (uint8_t)number[6], (uint16_t)number[7]));
+    release(cells);
+}
+
+static void note_frame(void)
+{
+    const size_t room = number[1], from = 2 + room;
+    uint8_t *reply = bytes(2, from), *sent = bytes(from, numbers);
+    told_recorder(adomvik_note_frame(recorder, tape + GUARD, length, sent, numbers - from, reply, room, (uint8_t)number[0]));
+    release(sent);
+    release(reply);
+}
+
+static void note_reading(void)
+{
+    const uint32_t *n = number;
+    told_recorder(adomvik_note_reading(recorder, tape + GUARD, length, (uint8_t)n[0], (uint8_t)n[1], (uint8_t)n[2], (uint8_t)n[3],
+        (uint8_t)n[4], (uint8_t)n[5]));
+}
+
+static void note_other(void)
+{
+    told_recorder(adomvik_note_other(recorder));
+}
+
+static void show_memory(void)
+{
+    put_number(0);
+    put_char(' ');
+    for (size_t i = 0; i < length + 2 * GUARD; i++)
+        put_hex(tape[i], 2);
+    put_char('\n');
 }
 
 /* ---- the check byte */
@@ -445,12 +542,21 @@ int main(void)
         case 'U': fault_line(); break;
         case 'L': listing(); break;
         case 'W': overwrite(); break;
+        case 'M': begin(); break;
+        case 's': note_sample(); break;
+        case 'f': note_frame(); break;
+        case 'r': note_reading(); break;
+        case 'o': note_other(); break;
+        case 'D': show_memory(); break;
+        case 'G': any_recorder(); break;
         case 'K': check_bytes(); break;
         case 'T': latch_often(); break;
         default: return 2;
         }
     }
     give(answers, answered);
+    if (tape)
+        release(tape);
     release(row);
     return 0;
 }

@@ -11,8 +11,14 @@ const BLANK = 0xa5a5a5a5; // a number in a place that nothing was put into, as d
 // A record's padding: one byte in front of the tallies, and two at its end.
 const PADDING = 121;
 const RECORD_END = 778;
+// Bytes in front of a recording's memory and behind it, as drive.c has them, and the most between.
+const GUARD = 13;
+const MEMORY = 66000;
 
-const row = (await load(readFileSync(`${folder}/adomvik.wasm`))).row(RECORDS);
+const adomvik = await load(readFileSync(`${folder}/adomvik.wasm`));
+const row = adomvik.row(RECORDS);
+const recorder = adomvik.recorder(MEMORY + GUARD);
+let length = 0; // of the memory that is lent
 
 // The answer's words, or the refusal's number and what the places hold that nothing was put into.
 function told(act, blank) {
@@ -30,6 +36,8 @@ const TABLE = Uint32Array.from({ length: 256 }, (_, crc) => {
   return crc;
 });
 
+const shown = (crc) => (~crc >>> 0).toString(16).padStart(8, "0");
+
 // CRC-32 of the records, but for the padding in each.
 function checksum() {
   let crc = 0xffffffff;
@@ -39,8 +47,29 @@ function checksum() {
       if (at !== PADDING) crc = crc >>> 8 ^ TABLE[(crc ^ bytes[at]) & 255];
     }
   }
-  return (~crc >>> 0).toString(16).padStart(8, "0");
+  return shown(crc);
 }
+
+// The memory that is lent and the guards; the one in front is not in the recorder's memory.
+function tape() {
+  return [...Array(GUARD).fill(PATTERN), ...recorder.memory().subarray(0, length + GUARD)];
+}
+
+// Another memory, with any recorder.
+function setTape(lent, state) {
+  length = lent;
+  recorder.restore(state, new Uint8Array(MEMORY + GUARD).fill(PATTERN), lent);
+}
+
+// The recorder's fields behind its verdict, and the checksum of its memory.
+function toldRecorder() {
+  const fields = new DataView(recorder.state().buffer);
+  const crc = tape().reduce((so, byte) => so >>> 8 ^ TABLE[(so ^ byte) & 255], 0xffffffff);
+  return [recorder.verdict, fields.getUint32(0, true), fields.getUint16(4, true), fields.getUint8(6), shown(crc)];
+}
+
+// What an act returned, from its number.
+const result = (number, answer) => number === 0 ? answer : new Refusal(number);
 
 // A plan for every four numbers: kind, cells, row, trigger.
 const KINDS = [Plan.standAlone, Plan.host, Plan.garden];
@@ -82,10 +111,47 @@ const acts = {
   },
 };
 
+const notes = {
+  M: ([lent, ...fours]) => {
+    setTape(lent, Array(8).fill(0));
+    told(() => { recorder.begin(plans(fours), lent); return []; }, []);
+    return toldRecorder();
+  },
+  s: ([board, elapsed, shunt, thermistor, load, number, status, bled, ...cells]) => {
+    recorder.noteSample(board, { elapsed, shunt, thermistor, load }, cells, result(number, { status, bled }));
+    return toldRecorder();
+  },
+  f: ([number, room, ...bytes]) => {
+    recorder.noteFrame(bytes.slice(room), Uint8Array.from(bytes.slice(0, room)), result(number));
+    return toldRecorder();
+  },
+  r: ([number, line, chg, dsg, board, cell]) => {
+    recorder.noteReading(result(number, { line: line === 1, chg: chg === 1, dsg: dsg === 1, board, cell }));
+    return toldRecorder();
+  },
+  o: () => {
+    recorder.noteOther();
+    return toldRecorder();
+  },
+  D: () => [0, Buffer.from(tape()).toString("hex")],
+};
+
+// A recorder's four fields as it has them.
+function stateOf([used, acts, stopped, verdict]) {
+  const state = new DataView(new ArrayBuffer(8));
+  state.setUint32(0, used, true);
+  state.setUint16(4, acts, true);
+  state.setUint8(6, stopped);
+  state.setUint8(7, verdict);
+  return new Uint8Array(state.buffer);
+}
+
 const answers = [];
 for (const line of readFileSync(0, "latin1").split("\n").slice(0, -1)) {
   const numbers = line.split(" ").slice(1).map(Number);
   if (line[0] === "W") row.setRecord(numbers[0], numbers.slice(1));
+  else if (line[0] === "G") setTape(numbers[0], stateOf(numbers.slice(1)));
+  else if (line[0] in notes) answers.push(notes[line[0]](numbers).join(" "));
   else answers.push([...acts[line[0]](numbers), checksum()].join(" "));
 }
 const text = Buffer.from(answers.concat("").join("\n"));

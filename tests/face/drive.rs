@@ -1,5 +1,5 @@
 //! The Rust face under test: reads and writes what drive.c does.
-use adomvik::{Board, Latching, Plan, Readings, Refusal, RECORD_BYTES};
+use adomvik::{Board, Latching, Plan, Reading, Readings, Recorder, Refusal, Sampled, RECORDER_BYTES, RECORD_BYTES};
 use std::io::{self, BufRead, BufWriter, Write};
 
 const RECORDS: usize = 18;
@@ -9,6 +9,8 @@ const BLANK: u32 = u32::from_le_bytes([PATTERN; 4]);
 /// A record's padding: one byte in front of the tallies, and two at its end.
 const PADDING: usize = 121;
 const RECORD_END: usize = RECORD_BYTES - 2;
+/// Bytes in front of a recording's memory and behind it, as drive.c has them.
+const GUARD: usize = 13;
 
 /// What each byte comes to in CRC-32.
 const TABLE: [u32; 256] = {
@@ -27,16 +29,17 @@ const TABLE: [u32; 256] = {
     table
 };
 
-/// CRC-32 of the records, as zlib has it, but for the padding in each.
+/// CRC-32, as zlib has it, gone on with.
+fn crc<'a>(crc: u32, bytes: impl IntoIterator<Item = &'a u8>) -> u32 {
+    bytes.into_iter().fold(crc, |crc, byte| crc >> 8 ^ TABLE[usize::from(crc as u8 ^ byte)])
+}
+
+/// Of the records, but for the padding in each.
 fn checksum(row: &[Board]) -> u32 {
-    let mut crc = u32::MAX;
-    for board in row {
+    !row.iter().fold(u32::MAX, |so_far, board| {
         let bytes = board.to_bytes();
-        for byte in bytes[..PADDING].iter().chain(&bytes[PADDING + 1..RECORD_END]) {
-            crc = crc >> 8 ^ TABLE[usize::from(crc as u8 ^ byte)];
-        }
-    }
-    !crc
+        crc(so_far, bytes[..PADDING].iter().chain(&bytes[PADDING + 1..RECORD_END]))
+    })
 }
 
 fn readings(x: &[i64]) -> Readings {
@@ -103,6 +106,83 @@ fn told_listing(row: &[Board], board: u32, room: usize) -> String {
     format!("{} {count}{words}", number(&result))
 }
 
+/// What an act returned, from its number.
+fn result<T>(number: i64, answer: T) -> Result<T, Refusal> {
+    match number {
+        0 => Ok(answer),
+        _ => Err(Refusal::from_number(number as u8).expect("a refusal's number")),
+    }
+}
+
+fn reading(x: &[i64]) -> Reading {
+    let flagged = if x[3] == 0 { None } else { Some((x[3] as u8, x[4] as u8)) };
+    Reading { line: x[0] == 1, chg: x[1] == 1, dsg: x[2] == 1, flagged }
+}
+
+/// A recorder, and between two guards the memory that it is lent.
+struct Tape {
+    recorder: Recorder,
+    bytes: Vec<u8>,
+}
+
+impl Tape {
+    fn new(length: i64) -> Tape {
+        Tape { recorder: Recorder::from_bytes(&[0; RECORDER_BYTES]), bytes: vec![PATTERN; length as usize + 2 * GUARD] }
+    }
+
+    /// Any recorder: its length of memory and its fields.
+    fn any(x: &[i64]) -> Tape {
+        let mut fields = [0; RECORDER_BYTES];
+        fields[..4].copy_from_slice(&(x[1] as u32).to_le_bytes());
+        fields[4..6].copy_from_slice(&(x[2] as u16).to_le_bytes());
+        (fields[6], fields[7]) = (x[3] as u8, x[4] as u8);
+        Tape { recorder: Recorder::from_bytes(&fields), ..Tape::new(x[0]) }
+    }
+
+    fn begin(&mut self, plans: &[Plan]) -> String {
+        let length = self.bytes.len() - 2 * GUARD;
+        self.recorder = Recorder::begin(&mut self.bytes[GUARD..][..length], plans);
+        self.told()
+    }
+
+    /// Has an act noted; what is returned must be the verdict that is kept.
+    fn note(&mut self, noted: impl FnOnce(&mut Recorder, &mut [u8]) -> Result<(), Refusal>) -> String {
+        let length = self.bytes.len() - 2 * GUARD;
+        let verdict = noted(&mut self.recorder, &mut self.bytes[GUARD..][..length]);
+        assert_eq!(verdict, self.recorder.verdict());
+        self.told()
+    }
+
+    fn told(&self) -> String {
+        let [a, b, c, d, e, f, stopped, verdict] = self.recorder.to_bytes();
+        assert_eq!(u16::from_le_bytes([e, f]), self.recorder.acts());
+        let (used, crc) = (u32::from_le_bytes([a, b, c, d]), !crc(u32::MAX, &self.bytes));
+        format!("{verdict} {used} {} {stopped} {crc:08x}", self.recorder.acts())
+    }
+
+    /// A beginning, a note, or the memory; None where the letter is another's.
+    fn act(&mut self, letter: u8, x: &[i64]) -> Option<String> {
+        Some(match letter {
+            b'M' => {
+                *self = Tape::new(x[0]);
+                self.begin(&plans(&x[1..]))
+            }
+            b's' => {
+                let answer = result(x[5], Sampled { status: x[6] as u8, bled: x[7] as u16 });
+                self.note(|recorder, memory| recorder.note_sample(memory, x[0] as u32, readings(&x[1..5]), &words(&x[8..]), answer))
+            }
+            b'f' => {
+                let (reply, frame) = x[2..].split_at(x[1] as usize);
+                self.note(|recorder, memory| recorder.note_frame(memory, &bytes(frame), &bytes(reply), result(x[0], ())))
+            }
+            b'r' => self.note(|recorder, memory| recorder.note_reading(memory, result(x[0], reading(&x[1..])))),
+            b'o' => self.note(|recorder, _| recorder.note_other()),
+            b'D' => format!("0 {}", self.bytes.iter().map(|b| format!("{b:02x}")).collect::<String>()),
+            _ => return None,
+        })
+    }
+}
+
 fn act(row: &mut [Board], letter: u8, x: &[i64]) -> Option<String> {
     Some(match letter {
         b'O' => number(&adomvik::open(&mut row[..x[0] as usize], &words(&x[1..]))).to_string(),
@@ -130,11 +210,17 @@ fn act(row: &mut [Board], letter: u8, x: &[i64]) -> Option<String> {
 
 fn main() -> io::Result<()> {
     let mut row = [Board::from_bytes(&[0; RECORD_BYTES]); RECORDS];
+    let mut tape = Tape::new(0);
     let mut out = BufWriter::new(io::stdout().lock());
     for line in io::stdin().lock().lines() {
         let line = line?;
-        let numbers: Vec<i64> = line[1..].split_whitespace().map(|word| word.parse().expect("a number")).collect();
-        if let Some(answer) = act(&mut row, line.as_bytes()[0], &numbers) {
+        let (letter, numbers) = (line.as_bytes()[0], line[1..].split_whitespace().map(|word| word.parse().expect("a number")));
+        let numbers: Vec<i64> = numbers.collect();
+        if letter == b'G' {
+            tape = Tape::any(&numbers);
+        } else if let Some(answer) = tape.act(letter, &numbers) {
+            writeln!(out, "{answer}")?;
+        } else if let Some(answer) = act(&mut row, letter, &numbers) {
             writeln!(out, "{answer} {:08x}", checksum(&row))?;
         }
     }

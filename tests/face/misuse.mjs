@@ -160,4 +160,67 @@ assert.equal(garden.frame([2, 18, 0, 171])[2], 1);
 assert.deepEqual(garden.listing(1), [{ cause: 2, cell: 2, number: 4 }]);
 assert.deepEqual(garden.listing(2), []);
 assert.equal(garden.sample(2, quiet, five).status, 68);
+
+// a recording: the page's day, in memory that is just enough for it
+const plans = [Plan.standAlone(5)];
+const day = adomvik.openPlans(plans);
+const recorder = adomvik.recorder(46);
+const hex = (bytes) => Buffer.from(bytes).toString("hex");
+const four = [4000, 4000, 4000, 4000, 4000];
+assert.equal(recorder.verdict, 15);
+assert.equal(recorder.noteReading(day.read()), 15);
+assert.equal(recorder.recording().length, 0);
+recorder.begin(plans);
+assert.equal(recorder.noteSample(1, quiet, four, day.sample(1, quiet, four)), 0);
+assert.equal(recorder.noteOther(), 15);
+assert.equal(recorder.noteReading(day.read()), 0);
+const page = "01000100020000000005011601e803000000d00700000000a00fa00fa00fa00fa00f00c000000300000001010000";
+assert.equal(hex(recorder.recording()), page);
+assert.equal(recorder.noteReading(day.read()), 16);
+assert.equal(recorder.noteFrame([], new Uint8Array(3), new Refusal(6)), 15);
+assert.equal(recorder.noteFrame([], new Uint8Array(4), new Refusal(6)), 16);
+assert.equal(hex(recorder.memory()), page);
+
+// where it cannot begin, or not go on
+refused(16, () => recorder.begin(plans, 9));
+assert.equal(recorder.noteReading(day.read()), 16);
+refused(15, () => recorder.begin([Plan.garden(3, BQ7791500, 1)]));
+assert.equal(recorder.noteReading(day.read()), 15);
+refused(1, () => recorder.begin([]));
+refused(1, () => recorder.begin(Array(17).fill(Plan.host(5))));
+refused(1, () => recorder.begin([Plan.garden(3, BQ7791500, 1), new Plan()]));
+assert.equal(recorder.recording().length, 0);
+assert.equal(hex(recorder.memory()), page);
+for (const none of [5, undefined, {}]) assert.throws(() => recorder.begin([none]), TypeError);
+for (const room of [-1, 47, 0.5, NaN]) assert.throws(() => recorder.begin(plans, room), RangeError);
+for (const bytes of [-1, 2 ** 20 + 1, 0.5, NaN, undefined]) assert.throws(() => adomvik.recorder(bytes), RangeError);
+refused(16, () => adomvik.recorder(0).begin(plans));
+
+// numbers that fit no field
+recorder.begin(plans);
+for (const n of [256, 2 ** 32, -1, 0.5, NaN, undefined]) {
+  assert.equal(recorder.noteSample(n, quiet, four, new Refusal(2)), 15);
+  assert.equal(recorder.noteSample(1, { ...quiet, load: n }, four, new Refusal(5)), 15);
+  assert.throws(() => recorder.noteFrame([n], new Uint8Array(4)), RangeError);
+}
+for (const n of [65536, 2 ** 32, -1, 0.5, NaN, undefined]) {
+  assert.equal(recorder.noteSample(1, { ...quiet, thermistor: n }, four, new Refusal(5)), 15);
+  assert.equal(recorder.noteSample(1, quiet, [n], new Refusal(3)), 15);
+}
+assert.equal(recorder.noteSample(1, quiet, Array(100000).fill(1), new Refusal(3)), 15);
+assert.equal(hex(recorder.recording()), "01000100000000000005");
+
+// it is kept and given back, and goes on
+const long = adomvik.recorder(65540);
+long.begin(plans);
+for (let acts = 0; acts < 8190; acts++) assert.equal(long.noteReading(day.read()), 0);
+const again = adomvik.recorder(65540);
+again.restore(long.state(), long.memory());
+assert.equal(again.noteReading(new Refusal(1)), 0);
+assert.equal(again.recording().length, 10 + 8 * 8190 + 3);
+assert.equal(again.noteReading(new Refusal(1)), 16);
+assert.deepEqual([...again.memory().subarray(65533)], [0, 0, 0, 0, 0, 0, 0]);
+assert.throws(() => again.restore(five, long.memory()), RangeError);
+assert.throws(() => again.restore(long.state(), five), RangeError);
+assert.throws(() => again.restore(Array(8).fill(256), long.memory()), RangeError);
 console.log("no difference");

@@ -2,7 +2,7 @@
 //! if no panic can be reached.
 #![no_std]
 #![no_main]
-use adomvik::{Board, Latching, Plan, Readings, Row, RECORD_BYTES};
+use adomvik::{Board, Latching, Plan, Readings, Recorder, Row, RECORDER_BYTES, RECORD_BYTES};
 use core::hint::black_box;
 
 extern "C" {
@@ -35,6 +35,13 @@ pub extern "C" fn _start() -> ! {
     let mut board = Board::from_bytes(black_box(&[0; RECORD_BYTES]));
     let _ = black_box(board.sample(readings, black_box(&[])));
     let mut reply = [0; 3];
-    let _ = black_box(adomvik::frame(black_box(&mut []), &[], &mut reply));
+    let answer = black_box(adomvik::frame(black_box(&mut []), &[], &mut reply));
+    let mut memory = [0; 99];
+    let mut recorder = Recorder::begin(black_box(&mut memory), &plans);
+    let _ = black_box(recorder.note_sample(black_box(&mut memory), black_box(1), readings, &[], board.sample(readings, black_box(&[]))));
+    let _ = black_box(recorder.note_frame(black_box(&mut memory), black_box(&[]), &reply, answer));
+    let _ = black_box(recorder.note_reading(black_box(&mut memory), adomvik::read(black_box(&[]))));
+    recorder = Recorder::from_bytes(black_box(&[0; RECORDER_BYTES]));
+    let _ = black_box((recorder.note_other(), recorder.acts(), recorder.recording(black_box(&memory)), recorder.to_bytes()));
     loop {}
 }
