@@ -5,7 +5,8 @@
  * sanitizer sees a byte too far. No rule of the paper stands here but what the header says of every act: which numbers an
  * entry may return, which rows are refused, that a refused act has changed nothing, that a sample and a frame change one
  * record, which of its fields, and the ranges of what they answer; of a journal, what is entered where, and what a listing of any
- * record gives; of the fault line, that it is the reading's, and how many boards were looked at for it.
+ * record gives; of the fault line, that it is the reading's, and how many boards were looked at for it; of a recorder of any fields,
+ * its verdict on any act, the bytes that it puts, and that no other byte of its memory moves.
  */
 #include <stdlib.h>
 #include <string.h>
@@ -653,6 +654,225 @@ static void listing(void)
     free(words);
 }
 
+/* ---- recordings: a recorder, and its memory in a block of just its size */
+
+enum { HEADER = 8, ACTS_AT = 4, BODY_MOST = 255, A_SAMPLE = 1, A_FRAME = 2, A_READING = 3 };
+
+static adomvik_recorder recorder;
+static uint8_t *memory, *memory_before, *memory_other;
+static size_t length;
+
+/* What the act that is noted, or the header, should be in memory; more than a body has is not kept. */
+static uint8_t act[HEADER + 2 * LONGEST + BODY_MOST];
+static size_t size;
+
+static void put(uint32_t n, unsigned bytes)
+{
+    for (; bytes > 0; bytes--, n >>= 8)
+        if (size < sizeof act)
+            act[size++] = (uint8_t)n;
+}
+
+static void put_all(const uint8_t *from, size_t bytes)
+{
+    for (size_t i = 0; i < bytes; i++)
+        put(from[i], 1);
+}
+
+static void end_tape(void)
+{
+    free(memory_other);
+    free(memory_before);
+    free(memory);
+}
+
+static void lend_tape(size_t bytes)
+{
+    length = bytes;
+    memory = blank(length);
+    memory_before = blank(length);
+    memory_other = blank(length);
+}
+
+/* Where a recording ends at the latest. */
+static size_t last_byte(void)
+{
+    return length < ADOMVIK_RECORDING_MAX ? length : ADOMVIK_RECORDING_MAX;
+}
+
+static int same_recorder(adomvik_recorder a, adomvik_recorder b)
+{
+    return a.used == b.used && a.acts == b.acts && a.stopped == b.stopped && a.verdict == b.verdict;
+}
+
+/* A call on both memories came to the same recorder, with this verdict; where that is no 0, the memory is as it was. */
+static void judged(adomvik_recorder next, adomvik_recorder again, uint8_t verdict)
+{
+    HOLDS(same_recorder(next, again) && next.verdict == verdict && memcmp(memory, memory_other, length) == 0);
+    HOLDS(verdict == 0 || memcmp(memory, memory_before, length) == 0);
+    recorder = next;
+    memcpy(memory_before, memory, length);
+}
+
+static void begin(void)
+{
+    adomvik_plan plans[LONGEST];
+    const uint8_t how = byte();
+    const size_t count = how % 8 ? 1 + byte() % ADOMVIK_BOARDS_MAX : byte() % LONGEST, header = HEADER + 2 * count;
+    int good = count >= 1 && count <= ADOMVIK_BOARDS_MAX, garden = 0;
+    size = 0;
+    put(1, 2);
+    put((uint32_t)count, 2);
+    put(0, 4);
+    for (size_t i = 0; i < count; i++) {
+        plans[i] = how % 3 ? adomvik_host(5 + i % 6) : plan();
+        const adomvik_board board = started(plans[i]);
+        good &= good_board(&board);
+        garden |= board.kind == ADOMVIK_GARDEN;
+        put(board.kind, 1);
+        put(board.count, 1);
+    }
+    /* as much as it takes, but for one byte or none; some acts more; about where a recording ends at the latest; or little */
+    end_tape();
+    lend_tape(how < 64 ? header - how % 2 : how < 240 ? header + byte() : how < 248 ? ADOMVIK_RECORDING_MAX - 4 + how % 8 : byte());
+    adomvik_plan *list = copy_of(plans, count * sizeof *list);
+    const uint8_t verdict = !good ? ADOMVIK_BAD_ROW : garden ? ADOMVIK_NOT_RECORDABLE : header > last_byte() ? ADOMVIK_RECORDING_ROOM : 0;
+    const adomvik_recorder next = adomvik_begin(memory, length, list, count), again = adomvik_begin(memory_other, length, list, count);
+    HOLDS(next.acts == 0 && next.used == (verdict ? 0 : header));
+    HOLDS(next.stopped == (verdict == ADOMVIK_BAD_ROW ? ADOMVIK_NOT_RECORDABLE : verdict));
+    HOLDS(verdict != 0 || (memcmp(memory, act, header) == 0 && is_blank(memory + header, length - header)));
+    judged(next, again, verdict);
+    free(list);
+}
+
+/* Any recorder, mostly one that the act fills the memory with, or fails to by a byte. */
+static void any_recorder(void)
+{
+    const uint8_t how = byte();
+    if (how >= 128) /* the one that was returned last */
+        return;
+    recorder.used = how < 96 ? (uint32_t)(last_byte() - size + how % 3 - 1) : word();
+    recorder.acts = (uint16_t)(how % 8 ? byte() : 0xff00u + byte());
+    recorder.stopped = how % 4 ? 0 : how % 8 ? ADOMVIK_RECORDING_ROOM : byte();
+    recorder.verdict = byte();
+}
+
+/* The verdict on the act that was put, by a recorder that was not changed yet. */
+static uint8_t verdict_on(int recordable)
+{
+    if ((recorder.stopped != 0 && recorder.stopped != ADOMVIK_RECORDING_ROOM) || !recordable)
+        return ADOMVIK_NOT_RECORDABLE;
+    if (recorder.stopped != 0 || recorder.used < HEADER || recorder.acts == UINT16_MAX || (uint64_t)recorder.used + size > last_byte())
+        return ADOMVIK_RECORDING_ROOM;
+    return 0;
+}
+
+/* What a note came to: the act stands behind the recording and is counted, and no other byte has moved; or its verdict says why not. */
+static void noted(adomvik_recorder next, adomvik_recorder again, int recordable)
+{
+    const uint8_t verdict = verdict_on(recordable);
+    const adomvik_recorder was = recorder;
+    if (verdict) {
+        HOLDS(next.used == was.used && next.acts == was.acts);
+        HOLDS(next.stopped == (verdict == ADOMVIK_RECORDING_ROOM ? ADOMVIK_RECORDING_ROOM : was.stopped));
+    } else {
+        HOLDS(next.used == was.used + size && next.acts == was.acts + 1 && next.stopped == 0);
+        memcpy(memory_before + was.used, act, size);
+        memory_before[ACTS_AT] = (uint8_t)next.acts;
+        memory_before[ACTS_AT + 1] = (uint8_t)(next.acts >> 8);
+        memory_before[ACTS_AT + 2] = memory_before[ACTS_AT + 3] = 0;
+        HOLDS(memcmp(memory, memory_before, length) == 0);
+    }
+    judged(next, again, verdict);
+}
+
+/* A number that an act may return, or any. */
+static uint8_t returned(void)
+{
+    const uint8_t how = byte();
+    return how < 128 ? 0 : how;
+}
+
+static void note_sample(void)
+{
+    uint32_t cells[LONGEST * 4];
+    const uint8_t how = byte();
+    const int many = how % 8 == 0; /* about as many as a body has room for, none of them too large */
+    const size_t count = many ? 119 + byte() % 5 : how % 4 ? 5 + how % 6 : byte() % (LONGEST * 4);
+    const uint32_t board = how % 16 ? byte() : number();
+    adomvik_readings x = readings();
+    int recordable = count <= (BODY_MOST - 12) / 2 && board <= UINT8_MAX && x.load <= UINT8_MAX && x.thermistor <= UINT16_MAX;
+    size = 0;
+    put(A_SAMPLE, 1);
+    put((uint32_t)(12 + 2 * count), 1);
+    put(board, 1);
+    put(x.elapsed, 4);
+    put(x.load, 1);
+    put(x.thermistor, 2);
+    put((uint32_t)x.shunt, 4);
+    for (size_t i = 0; i < count; i++) {
+        cells[i] = many ? 257u * byte() : number();
+        recordable &= cells[i] <= UINT16_MAX;
+        put(cells[i], 2);
+    }
+    const uint8_t refusal = returned(), status = byte();
+    const uint16_t bled = (uint16_t)(256u * byte() + byte());
+    put(refusal, 1);
+    if (refusal == 0) {
+        put(status, 1);
+        put(bled, 2);
+    }
+    any_recorder();
+    uint32_t *list = copy_of(cells, count * sizeof *list);
+    const adomvik_recorder next = adomvik_note_sample(recorder, memory, length, board, x, list, count, refusal, status, bled);
+    noted(next, adomvik_note_sample(recorder, memory_other, length, board, x, list, count, refusal, status, bled), recordable);
+    free(list);
+}
+
+static void note_frame(void)
+{
+    uint8_t sent[BODY_MOST + LONGEST], reply[LONGEST];
+    const uint8_t how = byte();
+    const size_t bytes = how % 4 ? 4 : how % 16 ? byte() % LONGEST : BODY_MOST - 1u + byte() % 4, room = how >= 64 ? 4 : byte() % LONGEST;
+    for (size_t i = 0; i < bytes; i++)
+        sent[i] = byte();
+    for (size_t i = 0; i < room; i++)
+        reply[i] = byte();
+    const uint8_t refusal = returned();
+    size = 0;
+    put(A_FRAME, 1);
+    put((uint32_t)bytes, 1);
+    put_all(sent, bytes);
+    put(refusal, 1);
+    put_all(reply, refusal == 0 && room >= 4 ? 4 : 0);
+    any_recorder();
+    uint8_t *frame = copy_of(sent, bytes), *buffer = copy_of(reply, room);
+    const adomvik_recorder next = adomvik_note_frame(recorder, memory, length, frame, bytes, buffer, room, refusal);
+    noted(next, adomvik_note_frame(recorder, memory_other, length, frame, bytes, buffer, room, refusal), bytes <= BODY_MOST && room >= 4);
+    free(buffer);
+    free(frame);
+}
+
+static void note_reading(void)
+{
+    const uint8_t refusal = returned(), n[5] = {byte(), byte(), byte(), byte(), byte()};
+    size = 0;
+    put(A_READING, 1);
+    put(0, 1);
+    put(refusal, 1);
+    put_all(n, refusal == 0 ? 5 : 0);
+    any_recorder();
+    const adomvik_recorder next = adomvik_note_reading(recorder, memory, length, refusal, n[0], n[1], n[2], n[3], n[4]);
+    noted(next, adomvik_note_reading(recorder, memory_other, length, refusal, n[0], n[1], n[2], n[3], n[4]), 1);
+}
+
+static void note_other(void)
+{
+    size = 0;
+    any_recorder();
+    noted(adomvik_note_other(recorder), adomvik_note_other(recorder), 0);
+}
+
 /* The kind and the cells of a board that there can be, and its row and trigger. */
 static void make_good(adomvik_board *board, uint8_t how)
 {
@@ -712,15 +932,19 @@ static void make_row(void)
 
 int LLVMFuzzerTestOneInput(const uint8_t *data, size_t size)
 {
-    static void (*const acts[])(void) = {sample_row, frame, sample_row, frame, reading, sample_one, open_row, overwrite, open_plans, listing, fault_line};
+    static void (*const acts[])(void) = {sample_row, frame, sample_row, frame, reading, sample_one, open_row, overwrite, open_plans, listing, fault_line,
+                                         begin, note_sample, note_frame, note_reading, note_other};
     at = data;
     end = data + size;
     make_row();
+    lend_tape(0);
+    recorder = (adomvik_recorder){0};
     while (at < end) {
-        const uint8_t act = byte();
+        const uint8_t which = byte();
         look_again();
-        acts[act % (sizeof acts / sizeof *acts)]();
+        acts[which % (sizeof acts / sizeof *acts)]();
     }
+    end_tape();
     free(other);
     free(before);
     free(row);

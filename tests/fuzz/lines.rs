@@ -1,5 +1,6 @@
-//! The workshop's lines under a fuzzer: any bytes as a session. It has one answer for each line, each answer is of a form of
-//! the page, the pieces that the input comes in make no difference, and a person is told the same and more.
+//! The workshop's lines under a fuzzer: any bytes as a session. It has one answer for each line, and a second for each act of a
+//! recording; each is of a form of the page, a recording that is shown can be told in words, the pieces that the input comes in make
+//! no difference, and a person is told the same and more. The same bytes are no recording, mostly, and telling them ends.
 #![allow(dead_code)]
 
 #[path = "../../desk/src/acts.rs"]
@@ -10,10 +11,13 @@ mod lines;
 mod print;
 #[path = "../../desk/src/session.rs"]
 mod session;
+#[path = "../../desk/src/show.rs"]
+mod show;
 #[path = "../../desk/src/words.rs"]
 mod words;
 
 use session::{Reader, Session};
+use show::Recording;
 
 /// The text of the answers, with the input cut into pieces of so many bytes.
 fn answers(reader: Reader, input: &[u8], piece: usize) -> Vec<u8> {
@@ -62,11 +66,25 @@ fn is_listing(numbers: &[u32]) -> bool {
         && entries.windows(2).all(|pair| place(&pair[0]) < place(&pair[1]))
 }
 
+/// The bytes of a recording in hex: pairs of lower-case digits that can be told in words to the end.
+fn is_recording(digits: &[u8]) -> bool {
+    let digit = |digit: &u8| b"0123456789abcdef".iter().position(|other| digit == other);
+    let values: Option<Vec<_>> = digits.iter().map(digit).collect();
+    values.is_some_and(|values| {
+        let bytes: Vec<_> = values.chunks(2).map(|pair| (16 * pair[0] + pair[1]) as u8).collect();
+        Recording::new(&bytes[..]).all(|line| line.is_ok())
+    })
+}
+
 fn is_answer(answer: &[u8]) -> bool {
+    if let Some(digits) = answer.strip_prefix(b"hex ") {
+        return digits.len() % 2 == 0 && is_recording(digits);
+    }
     let (words, numbers) = shape(answer);
     match words.as_str() {
         "ok" => true,
-        "no #" => (1..=14).contains(&numbers[0]),
+        "no #" => (1..=15).contains(&numbers[0]),
+        "rec #" => [0, 15, 16].contains(&numbers[0]),
         "st # bal #" => numbers[0] <= 255 && numbers[0] & 32 == 0 && numbers[1] < 1024,
         "re # # # #" => numbers.iter().all(|byte| *byte <= 255),
         listing if listing.starts_with("ls #") && listing.len() == 2 + 2 * numbers.len() => is_listing(&numbers),
@@ -74,6 +92,24 @@ fn is_answer(answer: &[u8]) -> bool {
         "ln # chg # dsg # at # #" => numbers[..3].iter().all(|flag| *flag <= 1) && numbers[3] <= 16 && numbers[4] <= 10,
         _ => false,
     }
+}
+
+/// Whether each line has its answers: an act a second one from a `W` on that was answered before the stack's first act.
+fn all_answered(asked: &[&[u8]], told: &[&[u8]]) -> bool {
+    let (mut told, mut acted, mut recorded) = (told.iter(), false, false);
+    let verdict = |answer: &&[u8]| answer.starts_with(b"rec ");
+    for line in asked {
+        let Some(answer) = told.next() else { return false };
+        let act = line.first().map_or(false, |letter| b"SFRLU".contains(letter)) && *answer != b"no 12";
+        if verdict(answer) != (line.starts_with(b"W") && !answer.starts_with(b"no ")) {
+            return false;
+        }
+        (acted, recorded) = if *answer == b"ok" { (false, false) } else { (acted || act, recorded || verdict(answer) && !acted) };
+        if act && recorded && !told.next().map_or(false, verdict) {
+            return false;
+        }
+    }
+    told.next().is_none()
 }
 
 #[no_mangle]
@@ -84,8 +120,9 @@ pub extern "C" fn LLVMFuzzerTestOneInput(data: *const u8, size: usize) -> i32 {
     let whole = answers(Reader::Program, data, size + 1);
     assert_eq!(whole, answers(Reader::Program, data, piece));
     let (asked, told) = (lines_of(data), lines_of(&whole));
-    assert_eq!(asked.len(), told.len());
+    assert!(all_answered(&asked, &told));
     assert!(told.iter().all(|answer| is_answer(answer)));
+    assert!(Recording::new(data).filter(|line| line.is_err()).count() <= 1);
     if !asked.contains(&&b"help"[..]) {
         let spoken = answers(Reader::Person, data, size + 1);
         let spoken = lines_of(&spoken);
