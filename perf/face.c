@@ -157,9 +157,91 @@ static void same_opening(void)
         near_the_stop();
 }
 
+/* ---- the same recordings: in memory of any length up to this */
+
+enum { MEMORY = 600 };
+
+static uint8_t one_memory[MEMORY], other_memory[MEMORY];
+static size_t length;
+
+static void same_recorder(adomvik_recorder a, adomvik_recorder b)
+{
+    if (a.used != b.used || a.acts != b.acts || a.stopped != b.stopped || a.verdict != b.verdict || memcmp(one_memory, other_memory, MEMORY) != 0)
+        fail("a recorder is answered otherwise by the peer");
+    our_recorder = a;
+}
+
+static void same_beginning(void)
+{
+    adomvik_plan plans[BOARDS + 1];
+    const size_t count = random_below(8) ? 1 + random_below(3) : random_below(BOARDS + 2);
+    for (size_t i = 0; i < count; i++)
+        plans[i] = random_below(20) ? adomvik_host(usually(5, 6)) : plan_with(usually(5, 6));
+    length = random_below(8) ? MEMORY - random_below(40) : random_below(60);
+    same_recorder(adomvik_begin(one_memory, length, plans, count), peer_begin(other_memory, length, plans, count));
+}
+
+/* Mostly what a field of a recording has room for. */
+static uint32_t fits(uint32_t below)
+{
+    return random_below(40) ? random_below(below) : below + random_below(2);
+}
+
+static void same_noted_sample(void)
+{
+    uint32_t mv[124];
+    const size_t count = random_below(10) ? CELLS : 119 + random_below(5);
+    for (size_t i = 0; i < count; i++)
+        mv[i] = random_below(400) ? random_below(65536) : fits(65536);
+    const adomvik_readings x = {random_below(200000), (int32_t)random_below(1200000) - 600000, fits(65536), fits(256)};
+    const uint32_t board = fits(256);
+    const uint8_t number = (uint8_t)(random_below(3) ? 0 : random_below(256)), status = (uint8_t)random_below(256);
+    const uint16_t bled = (uint16_t)random_below(65536);
+    same_recorder(adomvik_note_sample(our_recorder, one_memory, length, board, x, mv, count, number, status, bled),
+        peer_note_sample(our_recorder, other_memory, length, board, x, mv, count, number, status, bled));
+}
+
+static void same_noted_frame(void)
+{
+    uint8_t frame[257], reply[8];
+    const size_t bytes = random_below(10) ? 4 : 254 + random_below(4), room = random_below(20) ? 4 : random_below(9);
+    for (size_t i = 0; i < bytes; i++)
+        frame[i] = (uint8_t)random_below(256);
+    for (size_t i = 0; i < room; i++)
+        reply[i] = (uint8_t)random_below(256);
+    const uint8_t number = (uint8_t)(random_below(3) ? 0 : random_below(256));
+    same_recorder(adomvik_note_frame(our_recorder, one_memory, length, frame, bytes, reply, room, number),
+        peer_note_frame(our_recorder, other_memory, length, frame, bytes, reply, room, number));
+}
+
+static void same_noted_reading(void)
+{
+    uint8_t n[6];
+    for (int i = 0; i < 6; i++)
+        n[i] = (uint8_t)(i || random_below(3) == 0 ? random_below(256) : 0);
+    same_recorder(adomvik_note_reading(our_recorder, one_memory, length, n[0], n[1], n[2], n[3], n[4], n[5]),
+        peer_note_reading(our_recorder, other_memory, length, n[0], n[1], n[2], n[3], n[4], n[5]));
+}
+
+/* By the recorder that was returned last, but now and then by another. */
+static void same_note(void)
+{
+    if (random_below(30) == 0)
+        our_recorder = (adomvik_recorder){random_below(2 * MEMORY), (uint16_t)(random_below(2) ? 65535 - random_below(3) : random_below(600)),
+            (uint8_t)(random_below(4) ? 0 : random_below(20)), 0};
+    switch (random_below(8)) {
+    case 0: same_beginning(); break;
+    case 1: same_recorder(adomvik_note_other(our_recorder), peer_note_other(our_recorder)); break;
+    case 2: same_noted_reading(); break;
+    case 3: case 4: same_noted_frame(); break;
+    default: same_noted_sample();
+    }
+}
+
 static void same_answers(void)
 {
     for (int i = 0; i < TRIALS; i++) {
+        same_note();
         if (i % 1000 == 0)
             same_opening();
         const unsigned kind = random_below(10);

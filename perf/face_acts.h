@@ -7,7 +7,7 @@
 #include "adomvik.h"
 #include "face_peer.h"
 
-enum { BOARDS = 16, CELLS = 10, GARDEN_CELLS = 5, KINDS = 8, LIST_WORDS = 3 * ADOMVIK_JOURNAL_MAX };
+enum { BOARDS = 16, CELLS = 10, GARDEN_CELLS = 5, KINDS = 8, LIST_WORDS = 3 * ADOMVIK_JOURNAL_MAX, TAPE = 4096 };
 
 typedef void act(int i);
 
@@ -120,6 +120,48 @@ static uint32_t entries[LIST_WORDS];
 
 static void ours_list(int i) { sum += adomvik_list(ours, boards, (uint32_t)(i & (int)(boards - 1)) + 1, entries, LIST_WORDS) >> 8; }
 static void theirs_list(int i) { sum += peer_list(theirs, boards, (uint32_t)(i & (int)(boards - 1)) + 1, entries, LIST_WORDS) >> 8; }
+
+/* a recording of acts that need never have been made, over again where the memory is nearly full */
+static uint8_t our_memory[TAPE], their_memory[TAPE];
+static adomvik_recorder our_recorder, their_recorder, begun;
+
+static adomvik_recorder with_room(adomvik_recorder recorder) { return recorder.used > TAPE - 64 ? begun : recorder; }
+
+static void ours_note_sample(int i)
+{
+    our_recorder = adomvik_note_sample(with_room(our_recorder), our_memory, TAPE, 1, readings, mv[i % KINDS], CELLS, 0, ADOMVIK_CHG_ON | ADOMVIK_DSG_ON, (uint16_t)i);
+    sum += our_recorder.verdict;
+}
+
+static void theirs_note_sample(int i)
+{
+    their_recorder = peer_note_sample(with_room(their_recorder), their_memory, TAPE, 1, readings, mv[i % KINDS], CELLS, 0, ADOMVIK_CHG_ON | ADOMVIK_DSG_ON, (uint16_t)i);
+    sum += their_recorder.verdict;
+}
+
+static void ours_note_frame(int i)
+{
+    our_recorder = adomvik_note_frame(with_room(our_recorder), our_memory, TAPE, frames[i % KINDS], 4, reply, 4, 0);
+    sum += our_recorder.verdict;
+}
+
+static void theirs_note_frame(int i)
+{
+    their_recorder = peer_note_frame(with_room(their_recorder), their_memory, TAPE, frames[i % KINDS], 4, reply, 4, 0);
+    sum += their_recorder.verdict;
+}
+
+static void ours_note_reading(int i)
+{
+    our_recorder = adomvik_note_reading(with_room(our_recorder), our_memory, TAPE, 0, 1, 0, 1, (uint8_t)i, 3);
+    sum += our_recorder.verdict;
+}
+
+static void theirs_note_reading(int i)
+{
+    their_recorder = peer_note_reading(with_room(their_recorder), their_memory, TAPE, 0, 1, 0, 1, (uint8_t)i, 3);
+    sum += their_recorder.verdict;
+}
 
 /* a cycle spent at each call: the count goes back, and the staged byte is another than the working one */
 static size_t addressed(int i) { return frames[i % KINDS][0] / 2 - 1u; }
@@ -335,6 +377,28 @@ static void listings_in(size_t count, const char *row)
     measure(row, "full", ours_list, theirs_list);
 }
 
+/* A recording of 16 boards, begun. */
+static void begin_both(void)
+{
+    adomvik_plan plans[BOARDS];
+    for (size_t i = 0; i < BOARDS; i++)
+        plans[i] = plan_of(ADOMVIK_HOST);
+    begun = our_recorder = adomvik_begin(our_memory, TAPE, plans, BOARDS);
+    their_recorder = peer_begin(their_memory, TAPE, plans, BOARDS);
+    if (our_recorder.verdict || their_recorder.verdict)
+        fail("a recording was refused");
+}
+
+static void notes(void)
+{
+    begin_both();
+    set_samples(0);
+    set_frames(2, 0, 0);
+    measure("recording ", "a sample of ten cells", ours_note_sample, theirs_note_sample);
+    measure("recording ", "a frame", ours_note_frame, theirs_note_frame);
+    measure("recording ", "a reading", ours_note_reading, theirs_note_reading);
+}
+
 static void all_acts(void)
 {
     samples();
@@ -346,6 +410,7 @@ static void all_acts(void)
     fault_lines();
     listings_in(1, "listing in a row of 1, ");
     listings_in(BOARDS, "listing in a row of 16, ");
+    notes();
 }
 
 /* ---- bytes of stack, by what the program that measures has for one act */
@@ -370,6 +435,8 @@ static void all_stacks(void)
     open_both(BOARDS, plan_of(ADOMVIK_GARDEN));
     set_garden_samples(GARDEN_CELLS);
     tell("stack of a sample, garden", depth(ours_garden_row) - base, depth(theirs_garden_row) - base);
+    begin_both();
+    tell("stack of recording a sample", depth(ours_note_sample) - base, depth(theirs_note_sample) - base);
 }
 
 #endif

@@ -553,3 +553,138 @@ uint32_t peer_list(const struct peer_board *row, size_t boards, uint32_t board, 
     }
     return len;
 }
+
+/* ---- recordings; every processor here has the lowest byte first, as a recording has */
+
+enum { RECORDING_MAX = 65535, HEADER = 8, ACTS_AT = 4, BODY_MAX = 255, SAMPLE_HEAD = 12, NOTED_CELLS_MAX = (BODY_MAX - SAMPLE_HEAD) / 2 };
+enum { NOTED_SAMPLE = 1, NOTED_FRAME = 2, NOTED_READING = 3 };
+enum { NOT_RECORDABLE = 15, NO_ROOM = 16 };
+
+static inline uint8_t *put2(uint8_t *to, uint32_t n)
+{
+    const uint16_t half = (uint16_t)n;
+    memcpy(to, &half, sizeof half);
+    return to + sizeof half;
+}
+
+static inline uint8_t *put4(uint8_t *to, uint32_t n)
+{
+    memcpy(to, &n, sizeof n);
+    return to + sizeof n;
+}
+
+static inline adomvik_recorder nothing_recorded(uint8_t stopped, uint8_t verdict)
+{
+    return (adomvik_recorder){.stopped = stopped, .verdict = verdict};
+}
+
+adomvik_recorder peer_begin(uint8_t *memory, size_t length, const adomvik_plan *plans, size_t count)
+{
+    if (count - 1 > 15)
+        return nothing_recorded(NOT_RECORDABLE, 1);
+    bool bad = false, garden = false;
+    for (size_t i = 0; i < count; i++) {
+        bad |= !good_plan(plans[i].number);
+        garden |= (plans[i].number >> 8 & 255) == GARDEN;
+    }
+    if (bad || garden)
+        return nothing_recorded(NOT_RECORDABLE, bad ? 1 : NOT_RECORDABLE);
+    const uint32_t used = (uint32_t)(HEADER + 2 * count);
+    if (used > length)
+        return nothing_recorded(NO_ROOM, NO_ROOM);
+    uint8_t *to = put4(put2(put2(memory, 1), (uint32_t)count), 0);
+    for (size_t i = 0; i < count; i++) {
+        *to++ = (uint8_t)(plans[i].number >> 8);
+        *to++ = (uint8_t)plans[i].number;
+    }
+    return (adomvik_recorder){.used = used};
+}
+
+static inline adomvik_recorder not_recordable(adomvik_recorder r)
+{
+    r.verdict = NOT_RECORDABLE;
+    return r;
+}
+
+/* Where an act of so many bytes goes, with its kind and the length of its body put there; NULL where it has no place. The act is
+ * counted. */
+static inline uint8_t *place(adomvik_recorder *r, uint8_t *memory, size_t length, size_t size, uint8_t kind, size_t body)
+{
+    const size_t end = length < RECORDING_MAX ? length : RECORDING_MAX;
+    if (r->stopped || r->used < HEADER || r->acts == UINT16_MAX || size > end || r->used > end - size) {
+        if (r->stopped && r->stopped != NO_ROOM)
+            r->verdict = NOT_RECORDABLE;
+        else
+            r->verdict = r->stopped = NO_ROOM;
+        return NULL;
+    }
+    uint8_t *to = memory + r->used;
+    r->used += (uint32_t)size;
+    r->acts++;
+    r->verdict = 0;
+    put4(memory + ACTS_AT, r->acts);
+    *to++ = kind;
+    *to++ = (uint8_t)body;
+    return to;
+}
+
+adomvik_recorder peer_note_sample(adomvik_recorder r, uint8_t *memory, size_t length, uint32_t board, adomvik_readings x, const uint32_t *cells, size_t count, uint8_t number, uint8_t status, uint16_t bled)
+{
+    if (board > UINT8_MAX || x.load > UINT8_MAX || x.thermistor > UINT16_MAX || count > NOTED_CELLS_MAX)
+        return not_recordable(r);
+    uint32_t bits = 0;
+    for (size_t i = 0; i < count; i++)
+        bits |= cells[i];
+    if (bits > UINT16_MAX)
+        return not_recordable(r);
+    const size_t body = SAMPLE_HEAD + 2 * count;
+    uint8_t *to = place(&r, memory, length, 2 + body + (number ? 1 : 4), NOTED_SAMPLE, body);
+    if (!to)
+        return r;
+    *to++ = (uint8_t)board;
+    to = put4(to, x.elapsed);
+    *to++ = (uint8_t)x.load;
+    to = put2(to, x.thermistor);
+    to = put4(to, (uint32_t)x.shunt);
+    for (size_t i = 0; i < count; i++)
+        to = put2(to, cells[i]);
+    *to++ = number;
+    if (number == 0) {
+        *to++ = status;
+        put2(to, bled);
+    }
+    return r;
+}
+
+adomvik_recorder peer_note_frame(adomvik_recorder r, uint8_t *memory, size_t length, const uint8_t *frame, size_t bytes, const uint8_t *reply, size_t room, uint8_t number)
+{
+    if (bytes > BODY_MAX || room < 4)
+        return not_recordable(r);
+    uint8_t *to = place(&r, memory, length, 2 + bytes + (number ? 1 : 5), NOTED_FRAME, bytes);
+    if (!to)
+        return r;
+    memcpy(to, frame, bytes);
+    to += bytes;
+    *to++ = number;
+    if (number == 0)
+        memcpy(to, reply, 4);
+    return r;
+}
+
+adomvik_recorder peer_note_reading(adomvik_recorder r, uint8_t *memory, size_t length, uint8_t number, uint8_t line, uint8_t chg, uint8_t dsg, uint8_t board, uint8_t cell)
+{
+    uint8_t *to = place(&r, memory, length, 2 + (number ? 1 : 6), NOTED_READING, 0);
+    if (!to)
+        return r;
+    *to++ = number;
+    if (number == 0) {
+        const uint8_t answer[5] = {line, chg, dsg, board, cell};
+        memcpy(to, answer, sizeof answer);
+    }
+    return r;
+}
+
+adomvik_recorder peer_note_other(adomvik_recorder r)
+{
+    return not_recordable(r);
+}

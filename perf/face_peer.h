@@ -33,4 +33,11 @@ uint8_t peer_read(const struct peer_board *row, size_t boards, adomvik_reading *
 uint8_t peer_up(const struct peer_board *row, size_t boards, adomvik_line *out);
 uint32_t peer_list(const struct peer_board *row, size_t boards, uint32_t board, uint32_t *words, size_t many);
 
+/* A recording has one form, so the recorder is the library's. */
+adomvik_recorder peer_begin(uint8_t *memory, size_t length, const adomvik_plan *plans, size_t count);
+adomvik_recorder peer_note_sample(adomvik_recorder recorder, uint8_t *memory, size_t length, uint32_t board, adomvik_readings readings, const uint32_t *cells, size_t count, uint8_t number, uint8_t status, uint16_t bled);
+adomvik_recorder peer_note_frame(adomvik_recorder recorder, uint8_t *memory, size_t length, const uint8_t *frame, size_t bytes, const uint8_t *reply, size_t room, uint8_t number);
+adomvik_recorder peer_note_reading(adomvik_recorder recorder, uint8_t *memory, size_t length, uint8_t number, uint8_t line, uint8_t chg, uint8_t dsg, uint8_t board, uint8_t cell);
+adomvik_recorder peer_note_other(adomvik_recorder recorder);
+
 #endif
