@@ -4,6 +4,7 @@
 A session is text, one act a line: `input -> answer`. A leading `5: ` repeats
 the act with the same answer. A `*` stands for a check byte, which is worked
 out here by long division, not by the reference. `{a}` names a list of cells.
+A `|` parts the lines of an answer that has several.
 """
 
 import itertools
@@ -64,7 +65,8 @@ def session(name, text, program=Bench, **cells):
         row = row.strip().format(**cells)
         times, colon, rest = row.partition(": ")
         times, rest = (int(times), rest) if colon else (1, row)
-        line, wanted = (fill_check(part.strip()) for part in rest.split("->"))
+        line, answer = rest.split("->")
+        line, wanted = fill_check(line.strip()), "\n".join(fill_check(part.strip()) for part in answer.split("|"))
         for turn in range(times):
             got = bench.answer(line.encode()).decode()
             expect(f"{name}, {line}, turn {turn + 1}", wanted, got)
@@ -938,6 +940,7 @@ RAW_LINES = (
     (b"O 99999999999999999999", 12), (b"O 4294967301", 12),
     (b"O 18446744073709551621", 12), (b"F 256", 12), (b"F -1", 12),
     (b"L", 12), (b"L 1", 12), (b"L 1 0", 12), (b"L 1 128", 12), (b"U", 12), (b"U 1", 12),
+    (b"W", 12), (b"W 0", 12), (b"W 46", 12), (b"W 65535", 12), (b"D", 12),
     (b"F 2 0 0 0214", 12), (b"F" + b" 0" * 16, 6), (b"F" + b" 0" * 17, 12),
     (b"S", 12), (b"S 1 1 0 2000", 12), (b"S 1 1 0 2000 0", 3),
     (b"S 1 1 0 2000 -0" + b" 1" * 5, 12), (b"S 1 1 0 2000 -01" + b" 1" * 5, 12),

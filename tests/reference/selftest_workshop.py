@@ -1585,12 +1585,582 @@ def page_ups():
         """, **FIVE)
 
 
+# What stands in a recording, field by field: bytes in hex, the low one first.
+# S 1 1000 0 2000 0 {calm}, 28 bytes: kind, length; board, elapsed, load, thermistor, shunt, cells; refusal, status, bled
+SAMPLED = "01 16  01 e8030000 00 d007 00000000 a00fa00fa00fa00fa00f  00 c0 0000"
+# F 2 0 0 214, 11 bytes: kind, length; the frame; refusal, the reply
+FRAMED = "02 04  020000d6  00 0200c098"
+# R, 8 bytes: kind, length; refusal, line, CHG, DSG, board, cell
+READ = "03 00  00 00 01 01 00 00"
+# F, 3 bytes: kind, length; refusal
+NONE_FRAMED = "02 00  06"
+# S 1 1000 0 2000 0, 15 bytes: no cells
+NONE_SAMPLED = "01 0c  01 e8030000 00 d007 00000000  03"
+
+
+def shown(*parts):
+    """The answer that shows these bytes."""
+    return "hex " + "".join(parts).replace(" ", "")
+
+
+def of_five(count, *acts):
+    """The same of one stand-alone board of five, with the count of acts as it stands in the header: edition, boards, acts, board."""
+    return shown("0100 0100", count, "00 05", *acts)
+
+
+def recorded_headers():
+    """02, ticket 10: edition, boards and acts, then kind and cells of each board; exactly so many bytes are needed, or more."""
+    told("one board", f"""
+        O 5 -> ok
+        W 9 -> rec 16
+        D -> no 15
+        W 10 -> rec 0
+        D -> hex 01000100000000000005
+        W 11 -> rec 0
+        D -> hex 01000100000000000005
+        W 0 -> rec 16
+        D -> no 15
+        W 2147483647 -> rec 0
+        D -> {of_five("00000000")}
+        """)
+    told("three boards of two kinds", f"""
+        X s7 h10 s5 -> ok
+        W 13 -> rec 16
+        W 14 -> rec 0
+        D -> {shown("0100 0300 00000000", "00 07", "01 0a", "00 05")}
+        W 15 -> rec 0
+        D -> {shown("0100 0300 00000000", "00 07", "01 0a", "00 05")}
+        """)
+    told("sixteen boards", f"""
+        X{" h9" * 15} s6 -> ok
+        W 39 -> rec 16
+        D -> no 15
+        W 40 -> rec 0
+        D -> {shown("0100 1000 00000000", "01 09" * 15, "00 06")}
+        W 41 -> rec 0
+        D -> {shown("0100 1000 00000000", "01 09" * 15, "00 06")}
+        """)
+
+
+def recorded_acts():
+    """02, ticket 10: each kind of act in its bytes."""
+    told("one reading", f"""
+        O 5 -> ok
+        W 100 -> rec 0
+        R -> ln 0 chg 1 dsg 1 at 0 0 | rec 0
+        D -> {of_five("01000000", READ)}
+        """)
+    told("one sample", f"""
+        O 5 -> ok
+        W 100 -> rec 0
+        S 1 1000 0 2000 0 {{calm}} -> st 192 bal 0 | rec 0
+        D -> {of_five("01000000", SAMPLED)}
+        """, **FIVE)
+    told("one frame", f"""
+        O 5 -> ok
+        W 100 -> rec 0
+        F 2 0 0 214 -> re 2 0 192 152 | rec 0
+        D -> {of_five("01000000", FRAMED)}
+        """)
+    # room beyond the four bytes is not recorded
+    told("one frame with more room", f"""
+        O 5 -> ok
+        W 100 -> rec 0
+        F@4 2 0 0 214 -> re 2 0 192 152 | rec 0
+        F@9 2 0 0 214 -> re 2 0 192 152 | rec 0
+        D -> {of_five("02000000", FRAMED, FRAMED)}
+        """)
+    # 98,765 is 0x181cd and 4,660 is 0x1234; -500,000 is 0xfff85ee0 and 500,000 is 0x7a120. 1,400 is 0x578 and not under the
+    # UV level, 255 and 256 are; SCD comes with the second. Status 136 is 0x88, and 9 without switches
+    told("both signs, and every byte of a field", f"""
+        O 5 -> ok
+        W 200 -> rec 0
+        S 1 98765 1 4660 -500000 1400 255 256 5000 0 -> st 136 bal 0 | rec 0
+        S 1 1 1 4660 500000 1400 255 256 5000 0 -> st 9 bal 0 | rec 0
+        S 1 65536 0 975 -1 1601 4049 4049 4049 4049 -> st 192 bal 0 | rec 0
+        D -> {of_five("03000000",
+                      "01 16  01 cd810100 01 3412 e05ef8ff 7805ff00000188130000  00 88 0000",
+                      "01 16  01 01000000 01 3412 20a10700 7805ff00000188130000  00 09 0000",
+                      "01 16  01 00000100 00 cf03 ffffffff 4106d10fd10fd10fd10f  00 c0 0000")}
+        """)
+    # OV of cells 1 and 10 past 500 ms at the seventh: status 4, and 1 + 512 are bled, 0x201
+    held = "01 20  01 a0860100 00 d007 00000000 3710 a00fa00fa00fa00fa00fa00fa00fa00f 3710  00"
+    told("ten cells", f"""
+        X h10 -> ok
+        W 400 -> rec 0
+        6: S 1 100000 0 2000 0 {{one}} 4000 4000 4000 4000 4151 -> st 0 bal 0 | rec 0
+        S 1 100000 0 2000 0 {{one}} 4000 4000 4000 4000 4151 -> st 4 bal 513 | rec 0
+        D -> {shown("0100 0100 07000000 01 0a", f"{held} 00 0000" * 6, f"{held} 04 0102")}
+        """, **FIVE)
+    # the same of cell 3 on board 2 of three, a host board that has its DSG bit; 100,000 is 0x186a0, and 68 with CHG off is 0x44
+    held = "01 16  02 a0860100 00 d007 00000000 a00f a00f 3710 a00f a00f  00"
+    told("a reading with every number", f"""
+        X s5 h5 s10 -> ok
+        W 400 -> rec 0
+        F 5 1 6 199 -> re 5 1 6 199 | rec 0
+        6: S 2 100000 0 2000 0 4000 4000 4151 4000 4000 -> st 192 bal 0 | rec 0
+        S 2 100000 0 2000 0 4000 4000 4151 4000 4000 -> st 68 bal 4 | rec 0
+        R -> ln 1 chg 0 dsg 1 at 2 3 | rec 0
+        D -> {shown("0100 0300 09000000 00 05 01 05 00 0a", "02 04  050106c7  00 050106c7",
+                    f"{held} c0 0000" * 6, f"{held} 44 0400", "03 00  00 01 00 01 02 03")}
+        """)
+
+
+def recorded_refusals():
+    """02, ticket 10: a refused act is recorded with its number and nothing behind it; its fields are as they were sent."""
+    # 100,001 is 0x186a1, 5,001 is 0x1389, 500,001 is 0x7a121, and -2,147,483,647 is 0x80000001
+    calm, rest = "a00fa00fa00fa00fa00f", "d007 00000000"
+    told("samples", f"""
+        O 5 -> ok
+        W 65535 -> rec 0
+        S 2 1000 0 2000 0 {{calm}} -> no 2 | rec 0
+        S 0 1000 0 2000 0 {{calm}} -> no 2 | rec 0
+        S 1 1000 0 2000 0 -> no 3 | rec 0
+        S 1 1000 0 2000 0 {{calm}} 1 -> no 3 | rec 0
+        S 1 0 0 2000 0 {{calm}} -> no 4 | rec 0
+        S 1 100001 0 2000 0 {{calm}} -> no 4 | rec 0
+        S 1 2147483647 0 2000 0 {{calm}} -> no 4 | rec 0
+        S 1 1000 2 2000 0 {{calm}} -> no 5 | rec 0
+        S 1 1000 0 5001 0 {{calm}} -> no 5 | rec 0
+        S 1 1000 0 2000 0 5001 4000 4000 4000 4000 -> no 5 | rec 0
+        S 1 1000 0 2000 500001 {{calm}} -> no 5 | rec 0
+        S 1 1000 0 2000 -2147483647 {{calm}} -> no 5 | rec 0
+        S 1 1000 0 2000 2147483647 {{calm}} -> no 5 | rec 0
+        D -> {of_five("0d000000",
+                      f"01 16  02 e8030000 00 {rest} {calm}  02", f"01 16  00 e8030000 00 {rest} {calm}  02",
+                      NONE_SAMPLED, f"01 18  01 e8030000 00 {rest} {calm} 0100  03",
+                      f"01 16  01 00000000 00 {rest} {calm}  04", f"01 16  01 a1860100 00 {rest} {calm}  04",
+                      f"01 16  01 ffffff7f 00 {rest} {calm}  04",
+                      f"01 16  01 e8030000 02 {rest} {calm}  05", f"01 16  01 e8030000 00 8913 00000000 {calm}  05",
+                      f"01 16  01 e8030000 00 {rest} 8913a00fa00fa00fa00f  05",
+                      f"01 16  01 e8030000 00 d007 21a10700 {calm}  05", f"01 16  01 e8030000 00 d007 01000080 {calm}  05",
+                      f"01 16  01 e8030000 00 d007 ffffff7f {calm}  05")}
+        """, **FIVE)
+    # 6, 8, 2, 9 and 10; the address of a service panel is none of a board here and stands as it was sent
+    told("frames", f"""
+        O 5 -> ok
+        W 65535 -> rec 0
+        F -> no 6 | rec 0
+        F 2 0 0 -> no 6 | rec 0
+        F 2 0 0 214 0 -> no 6 | rec 0
+        F 2 0 0 215 -> no 8 | rec 0
+        F 4 0 0 171 -> no 2 | rec 0
+        F 132 0 0 160 -> no 2 | rec 0
+        F 3 0 0 189 -> no 9 | rec 0
+        F 2 6 1 175 -> no 10 | rec 0
+        D -> {of_five("08000000", NONE_FRAMED, "02 03  020000  06", "02 05  020000d600  06", "02 04  020000d7  08",
+                      "02 04  040000ab  02", "02 04  840000a0  02", "02 04  030000bd  09", "02 04  020601af  0a")}
+        """)
+    # OCD 60 mV over an SCD level of 60 mV, then three cycles and no fourth: 13 is 0x0d and 11 is 0x0b
+    program = "02 04  030b41ea"
+    told("programmings", f"""
+        O 5 -> ok
+        W 65535 -> rec 0
+        F 3 9 10 54 -> re 3 9 10 54 | rec 0
+        F 3 11 65 234 -> no 13 | rec 0
+        F 3 9 0 0 -> re 3 9 0 0 | rec 0
+        F 3 6 1 196 -> re 3 6 1 196 | rec 0
+        F 3 11 65 234 -> re 3 11 1 45 | rec 0
+        F 3 6 2 205 -> re 3 6 2 205 | rec 0
+        F 3 11 65 234 -> re 3 11 2 36 | rec 0
+        F 3 6 3 202 -> re 3 6 3 202 | rec 0
+        F 3 11 65 234 -> re 3 11 3 35 | rec 0
+        F 3 6 4 223 -> re 3 6 4 223 | rec 0
+        F 3 11 65 234 -> no 11 | rec 0
+        D -> {of_five("0b000000", "02 04  03090a36  00 03090a36", f"{program}  0d", "02 04  03090000  00 03090000",
+                      "02 04  030601c4  00 030601c4", f"{program}  00 030b012d", "02 04  030602cd  00 030602cd",
+                      f"{program}  00 030b0224", "02 04  030603ca  00 030603ca", f"{program}  00 030b0323",
+                      "02 04  030604df  00 030604df", f"{program}  0b")}
+        """)
+
+
+# of one board of five: an act, its answer, its bytes and how many they are
+PIECES = (
+    ("S 1 1000 0 2000 0 {calm}", "st 192 bal 0", SAMPLED, 28),
+    ("F 2 0 0 214", "re 2 0 192 152", FRAMED, 11),
+    ("F@5 2 0 0 214", "re 2 0 192 152", FRAMED, 11),
+    ("R", "ln 0 chg 1 dsg 1 at 0 0", READ, 8),
+    ("S 1 1000 0 2000 0", "no 3", NONE_SAMPLED, 15),
+    ("F", "no 6", NONE_FRAMED, 3),
+)
+
+
+def recorded_ends():
+    """02, ticket 10: an exact fit is room; past the end the act stands, the memory does not change, and no later act gets room."""
+    for line, answer, piece, size in PIECES:
+        told(f"{line} at the end", f"""
+            O 5 -> ok
+            W {10 + size - 1} -> rec 0
+            {line} -> {answer} | rec 16
+            D -> {of_five("00000000")}
+            F -> no 6 | rec 16
+            D -> {of_five("00000000")}
+            O 5 -> ok
+            W {10 + size} -> rec 0
+            {line} -> {answer} | rec 0
+            D -> {of_five("01000000", piece)}
+            F -> no 6 | rec 16
+            D -> {of_five("01000000", piece)}
+            O 5 -> ok
+            W {10 + size + 1} -> rec 0
+            {line} -> {answer} | rec 0
+            F -> no 6 | rec 16
+            D -> {of_five("01000000", piece)}
+            """, **FIVE)
+        told(f"{line} behind a reading", f"""
+            O 5 -> ok
+            W {18 + size - 1} -> rec 0
+            R -> ln 0 chg 1 dsg 1 at 0 0 | rec 0
+            {line} -> {answer} | rec 16
+            D -> {of_five("01000000", READ)}
+            O 5 -> ok
+            W {18 + size} -> rec 0
+            R -> ln 0 chg 1 dsg 1 at 0 0 | rec 0
+            {line} -> {answer} | rec 0
+            D -> {of_five("02000000", READ, piece)}
+            """, **FIVE)
+    # the sample would need 28 of 20 bytes; what would fit gets 16 from there on, and the sample has latched all the same
+    told("small acts behind one that had no room", f"""
+        O 5 -> ok
+        W 30 -> rec 0
+        S 1 1000 0 974 0 {{calm}} -> st 16 bal 0 | rec 16
+        F -> no 6 | rec 16
+        R -> ln 1 chg 0 dsg 0 at 0 0 | rec 16
+        F 2 0 0 214 -> re 2 0 16 * | rec 16
+        S 1 1000 0 975 0 {{calm}} -> st 192 bal 0 | rec 16
+        R -> ln 0 chg 1 dsg 1 at 0 0 | rec 16
+        D -> {of_five("00000000")}
+        """, **FIVE)
+    # nothing is recorded of a day whose header had no room; 15 still goes first
+    told("a header without room", """
+        O 5 -> ok
+        W 9 -> rec 16
+        F -> no 6 | rec 16
+        R -> ln 0 chg 1 dsg 1 at 0 0 | rec 16
+        S 1 1000 0 974 0 {calm} -> st 16 bal 0 | rec 16
+        U -> up 1 1 | rec 15
+        F@3 2 0 0 214 -> no 7 | rec 15
+        S 256 1000 0 2000 0 {calm} -> no 2 | rec 15
+        F 2 0 0 214 -> re 2 0 16 * | rec 16
+        D -> no 15
+        W 100 -> rec 15
+        R -> ln 1 chg 0 dsg 0 at 0 0 | rec 16
+        """, **FIVE)
+
+
+def recorded_fields():
+    """02, ticket 10: 15 where a field or the body is too large for its bytes; the act has its own answer, and the recording goes on."""
+    told("board", f"""
+        O 5 -> ok
+        W 25 -> rec 0
+        S 256 1000 0 2000 0 -> no 2 | rec 15
+        S 257 1000 0 2000 0 {{calm}} -> no 2 | rec 15
+        S 2147483647 1000 0 2000 0 -> no 2 | rec 15
+        D -> {of_five("00000000")}
+        S 255 1000 0 2000 0 -> no 2 | rec 0
+        D -> {of_five("01000000", "01 0c  ff e8030000 00 d007 00000000  02")}
+        """, **FIVE)
+    told("load", f"""
+        O 5 -> ok
+        W 25 -> rec 0
+        S 1 1000 256 2000 0 -> no 3 | rec 15
+        S 1 1000 256 2000 0 {{calm}} -> no 5 | rec 15
+        S 1 1000 65537 2000 0 {{calm}} -> no 5 | rec 15
+        D -> {of_five("00000000")}
+        S 1 1000 255 2000 0 -> no 3 | rec 0
+        D -> {of_five("01000000", "01 0c  01 e8030000 ff d007 00000000  03")}
+        """, **FIVE)
+    # 67,536 is 2,000 past 65,536
+    told("thermistor", f"""
+        O 5 -> ok
+        W 25 -> rec 0
+        S 1 1000 0 65536 0 -> no 3 | rec 15
+        S 1 1000 0 67536 0 {{calm}} -> no 5 | rec 15
+        S 1 1000 0 2147483647 0 {{calm}} -> no 5 | rec 15
+        D -> {of_five("00000000")}
+        S 1 1000 0 65535 0 -> no 3 | rec 0
+        D -> {of_five("01000000", "01 0c  01 e8030000 00 ffff 00000000  03")}
+        """, **FIVE)
+    told("cells", f"""
+        O 5 -> ok
+        W 60 -> rec 0
+        S 1 1000 0 2000 0 65536 4000 4000 4000 4000 -> no 5 | rec 15
+        S 1 1000 0 2000 0 4000 4000 4000 4000 65536 -> no 5 | rec 15
+        S 1 1000 0 2000 0 4000 4000 69536 4000 4000 -> no 5 | rec 15
+        S 1 1000 0 2000 0 {{calm}} 2147483647 -> no 3 | rec 15
+        D -> {of_five("00000000")}
+        S 1 1000 0 2000 0 65535 4000 4000 4000 65535 -> no 5 | rec 0
+        D -> {of_five("01000000", "01 16  01 e8030000 00 d007 00000000 ffffa00fa00fa00fffff  05")}
+        """, **FIVE)
+    # 12 bytes and two for each cell: 254, and 256
+    told("many cells", f"""
+        O 5 -> ok
+        W 65535 -> rec 0
+        S 1 1000 0 2000 0{" 4000" * 122} -> no 3 | rec 15
+        S 1 1000 0 2000 0{" 4000" * 133} -> no 3 | rec 15
+        S 1 1000 0 2000 0{" 4000" * 1000} -> no 3 | rec 15
+        S 1 1000 0 2000 0{" 4000" * 121} -> no 3 | rec 0
+        D -> {of_five("01000000", "01 fe  01 e8030000 00 d007 00000000", "a00f" * 121, "03")}
+        """)
+    told("many bytes", f"""
+        O 5 -> ok
+        W 65535 -> rec 0
+        F{" 1" * 256} -> no 6 | rec 15
+        F 2 0 0 214{" 0" * 256} -> no 6 | rec 15
+        F{" 1" * 1000} -> no 6 | rec 15
+        F{" 1" * 254} -> no 6 | rec 0
+        F{" 2" * 255} -> no 6 | rec 0
+        D -> {of_five("02000000", "02 fe", "01" * 254, "06", "02 ff", "02" * 255, "06")}
+        """)
+
+
+def recorded_others():
+    """02, ticket 10: 15 for other kinds of act, for a reply without room, and for every act where a garden board is in the stack."""
+    told("listings, questions and short rooms", f"""
+        O 5 -> ok
+        W 40 -> rec 0
+        U -> up 0 1 | rec 15
+        L 1 128 -> ls 0 | rec 15
+        L 2 128 -> no 2 | rec 15
+        F@3 2 0 0 214 -> no 7 | rec 15
+        F@0 2 0 0 214 -> no 7 | rec 15
+        F@3 -> no 6 | rec 15
+        F@3 2 0 0 -> no 6 | rec 15
+        F@0{" 1" * 256} -> no 6 | rec 15
+        D -> {of_five("00000000")}
+        F@4 2 0 0 214 -> re 2 0 192 152 | rec 0
+        F@3 2 0 0 214 -> no 7 | rec 15
+        F@4 2 0 0 -> no 6 | rec 0
+        U -> up 0 1 | rec 15
+        R -> ln 0 chg 1 dsg 1 at 0 0 | rec 0
+        D -> {of_five("03000000", FRAMED, "02 03  020000  06", READ)}
+        """)
+    for row in ("g3/0/1", "g3/0/1 s5", "s5 h5 g3/0/1"):
+        told(f"a garden board in {row}", f"""
+            X {row} -> ok
+            W 65535 -> rec 15
+            D -> no 15
+            W 0 -> rec 15
+            W 7 -> rec 15
+            F -> no 6 | rec 15
+            F 2 0 0 -> no 6 | rec 15
+            S 9 1000 0 2000 0 -> no 2 | rec 15
+            S 1 1000 0 2000 0 -> no 3 | rec 15
+            L 9 0 -> no 2 | rec 15
+            D -> no 15
+            X s5 -> ok
+            W 10 -> rec 0
+            D -> {of_five("00000000")}
+            """)
+    told("acts of a garden board", """
+        X g3/0/1 -> ok
+        W 65535 -> rec 15
+        R -> ln 1 chg 0 dsg 1 at 0 0 | rec 15
+        F 2 0 0 214 -> re 2 0 68 * | rec 15
+        {calm} -> st 192 bal 0 | rec 15
+        U -> up 0 1 | rec 15
+        R -> ln 0 chg 1 dsg 1 at 0 0 | rec 15
+        D -> no 15
+        """, **THREE)
+
+
+def recorded_order():
+    """02, ticket 10: 15 goes before 16, and only 16 ends a recording."""
+    # 8 bytes are left throughout: the sample and the frame would pass the end as well
+    told("15 where there is no room either", f"""
+        O 5 -> ok
+        W 18 -> rec 0
+        S 1 1000 0 2000 0 65536 4000 4000 4000 4000 -> no 5 | rec 15
+        S 256 1000 0 2000 0 {{calm}} -> no 2 | rec 15
+        F{" 1" * 256} -> no 6 | rec 15
+        F@3 2 0 0 214 -> no 7 | rec 15
+        L 1 128 -> ls 0 | rec 15
+        U -> up 0 1 | rec 15
+        R -> ln 0 chg 1 dsg 1 at 0 0 | rec 0
+        U -> up 0 1 | rec 15
+        D -> {of_five("01000000", READ)}
+        """, **FIVE)
+    told("15 after 16", f"""
+        O 5 -> ok
+        W 18 -> rec 0
+        F 2 0 0 214 -> re 2 0 192 152 | rec 16
+        S 1 1000 0 65536 0 {{calm}} -> no 5 | rec 15
+        S 1 1000 256 2000 0 {{calm}} -> no 5 | rec 15
+        S 1 1000 0 2000 0{" 4000" * 122} -> no 3 | rec 15
+        F{" 1" * 256} -> no 6 | rec 15
+        F@3 -> no 6 | rec 15
+        L 1 128 -> ls 0 | rec 15
+        U -> up 0 1 | rec 15
+        R -> ln 0 chg 1 dsg 1 at 0 0 | rec 16
+        F -> no 6 | rec 16
+        D -> {of_five("00000000")}
+        """, **FIVE)
+
+
+def recorded_starts():
+    """The page, Recording: when `W` begins one, and what ends it."""
+    told("before an opening", """
+        W 46 -> no 1
+        D -> no 15
+        W 0 -> no 1
+        X s4 -> no 1
+        W 46 -> no 1
+        R -> no 1
+        D -> no 15
+        W 2147483648 -> no 12
+        """)
+    # acts before the opening are none of its day
+    told("after lines that are no acts", f"""
+        R -> no 1
+        O 5 -> ok
+        D -> no 15
+        Q -> no 12
+        W -> no 12
+        F 256 -> no 12
+        X s4 -> no 1
+        O -> no 1
+        X q5 -> no 12
+        C 00 -> no 12
+        V 00 00 1 -> no 12
+        W 100 -> rec 0
+        D -> {of_five("00000000")}
+        D 1 -> no 12
+        """)
+    told("anew", f"""
+        O 5 -> ok
+        W 9 -> rec 16
+        W 10 -> rec 0
+        D -> {of_five("00000000")}
+        W 9 -> rec 16
+        D -> no 15
+        D -> no 15
+        X s11 -> no 1
+        W 18 -> rec 0
+        R -> ln 0 chg 1 dsg 1 at 0 0 | rec 0
+        D -> {of_five("01000000", READ)}
+        """)
+    # the recording has its own room still, and the earlier one
+    told("after an act, in a recording", f"""
+        O 5 -> ok
+        W 26 -> rec 0
+        R -> ln 0 chg 1 dsg 1 at 0 0 | rec 0
+        W 100 -> rec 15
+        W 0 -> rec 15
+        D -> {of_five("01000000", READ)}
+        R -> ln 0 chg 1 dsg 1 at 0 0 | rec 0
+        R -> ln 0 chg 1 dsg 1 at 0 0 | rec 16
+        W 100 -> rec 15
+        F -> no 6 | rec 16
+        D -> {of_five("02000000", READ, READ)}
+        """)
+    # each kind of act, accepted or refused, also one that is not recordable; a recorder that was not asked in time says nothing
+    for line, answer in (("R", "ln 0 chg 1 dsg 1 at 0 0"), ("F 2 0 0 214", "re 2 0 192 152"), ("F", "no 6"), ("F@0", "no 6"),
+                         ("S 1 1000 0 2000 0 {calm}", "st 192 bal 0"), ("S 1 1000 0 2000 0", "no 3"), ("L 1 0", "ls 0"),
+                         ("L 2 0", "no 2"), ("U", "up 0 1")):
+        told(f"after {line}", f"""
+            O 5 -> ok
+            {line} -> {answer}
+            W 100 -> rec 15
+            D -> no 15
+            W 0 -> rec 15
+            {line} -> {answer}
+            O 4 -> no 1
+            W 100 -> rec 15
+            {line} -> {answer}
+            O 5 -> ok
+            W 100 -> rec 0
+            D -> {of_five("00000000")}
+            """, **FIVE)
+    told("openings", f"""
+        O 5 -> ok
+        W 100 -> rec 0
+        R -> ln 0 chg 1 dsg 1 at 0 0 | rec 0
+        O 4 -> no 1
+        X g3/0/0 -> no 1
+        X{" s5" * 17} -> no 1
+        X q5 -> no 12
+        D -> {of_five("01000000", READ)}
+        R -> ln 0 chg 1 dsg 1 at 0 0 | rec 0
+        D -> {of_five("02000000", READ, READ)}
+        X h6 -> ok
+        D -> no 15
+        R -> ln 0 chg 0 dsg 0 at 0 0
+        U -> up 0 1
+        W 100 -> rec 15
+        X h6 -> ok
+        W 100 -> rec 0
+        D -> {shown("0100 0100 00000000", "01 06")}
+        """)
+    told("malformed lines in a recording", f"""
+        O 5 -> ok
+        W 100 -> rec 0
+        R 1 -> no 12
+        F 256 -> no 12
+        S 1 1000 0 2000 -0 {{calm}} -> no 12
+        W 100 1 -> no 12
+        C 00 -> no 12
+        D -> {of_five("00000000")}
+        2: D -> {of_five("00000000")}
+        """, **FIVE)
+
+
+def recorded_fills():
+    """02, ticket 10: no byte past 65,535 is used, however many are lent."""
+    # 10 + 253 * 258 + 251 = 65,535, and a byte more in the last frame is one too many
+    many = f"253: F{' 7' * 255} -> no 6 | rec 0"
+    for room in (65535, 65536, 65537, 131072, 2147483647):
+        told(f"frames in {room} bytes", f"""
+            O 5 -> ok
+            W {room} -> rec 0
+            {many}
+            F{" 7" * 248} -> no 6 | rec 0
+            D -> {of_five("fe000000", ("02 ff" + "07" * 255 + "06") * 253, "02 f8" + "07" * 248 + "06")}
+            F -> no 6 | rec 16
+            D -> {of_five("fe000000", ("02 ff" + "07" * 255 + "06") * 253, "02 f8" + "07" * 248 + "06")}
+            O 5 -> ok
+            W {room} -> rec 0
+            {many}
+            F{" 7" * 249} -> no 6 | rec 16
+            D -> {of_five("fd000000", ("02 ff" + "07" * 255 + "06") * 253)}
+            """)
+    told("frames in 65534 bytes", f"""
+        O 5 -> ok
+        W 65534 -> rec 0
+        {many}
+        F{" 7" * 248} -> no 6 | rec 16
+        D -> {of_five("fd000000", ("02 ff" + "07" * 255 + "06") * 253)}
+        """)
+    # 10 + 5 + 8190 * 8 = 65,535; 8191 acts are 0x1fff
+    told("readings in 65535 bytes", f"""
+        O 5 -> ok
+        W 65535 -> rec 0
+        F 1 2 -> no 6 | rec 0
+        8190: R -> ln 0 chg 1 dsg 1 at 0 0 | rec 0
+        D -> {of_five("ff1f0000", "02 02  0102  06", READ * 8190)}
+        R -> ln 0 chg 1 dsg 1 at 0 0 | rec 16
+        U -> up 0 1 | rec 15
+        D -> {of_five("ff1f0000", "02 02  0102  06", READ * 8190)}
+        """)
+
+
+def page_recording():
+    """The page's own recording: its bytes as the page has them."""
+    told("the page's recording", """
+        D -> no 15
+        O 5 -> ok
+        W 46 -> rec 0
+        S 1 1000 0 2000 0 {calm} -> st 192 bal 0 | rec 0
+        U -> up 0 1 | rec 15
+        R -> ln 0 chg 1 dsg 1 at 0 0 | rec 0
+        R -> ln 0 chg 1 dsg 1 at 0 0 | rec 16
+        D -> hex 01000100020000000005011601e803000000d00700000000a00fa00fa00fa00fa00f00c000000300000001010000
+        """, **FIVE)
+
+
 def later_forms():
     """Before their request lands."""
     told("later forms", """
         O 5 -> ok
-        W 46 -> no 12
-        D -> no 12
         C -> no 12
         C 00 -> no 12
         V 00 00 1 -> no 12
@@ -1625,6 +2195,12 @@ RAW_LINES = (
     (b"U ", 12), (b" U", 12), (b"u", 12), (b"UU", 12), (b"U U", 12), (b"U 0", 12), (b"U 1", 12), (b"U 1 0", 12), (b"U1", 12), (b"U -1", 12),
     (b"U@4", 12), (b"U s5", 12), (b"U R", 12), (b"RU", 12), (b"UR", 12), (b"U\r", 12), (b"U\t", 12), (b"U\0", 12), (b"\0U", 12),
     (b"U\xff", 12), (b"\xef\xbb\xbfU", 12), (b"up", 12), (b"Up", 12),
+    (b"W", 12), (b"W ", 12), (b" W 46", 12), (b"W  46", 12), (b"W 46 ", 12), (b"W 46 0", 12), (b"W46", 12), (b"W046", 12), (b"W 046", 12),
+    (b"W 00", 12), (b"W -0", 12), (b"W -1", 12), (b"W +46", 12), (b"W 4.6", 12), (b"W 0x46", 12), (b"W x", 12), (b"W s5", 12),
+    (b"W@46", 12), (b"W 46@46", 12), (b"w 46", 12), (b"WW 46", 12), (b"W 46\r", 12), (b"W 46\0", 12), (b"W\t46", 12), (b"W D", 12),
+    (b"W 2147483648", 12), (b"W 4294967342", 12), (b"W 18446744073709551662", 12), (b"W " + b"9" * 5000, 12),
+    (b"D ", 12), (b" D", 12), (b"d", 12), (b"DD", 12), (b"D D", 12), (b"D 0", 12), (b"D 46", 12), (b"D0", 12), (b"D@4", 12), (b"D 00", 12),
+    (b"D\r", 12), (b"D\t", 12), (b"D\0", 12), (b"D\xff", 12), (b"WD", 12), (b"rec 0", 12), (b"hex 00", 12),
     (b"S", 12), (b"S 1 1 0 2000", 12), (b"S 1 1 0 2000 0", 3), (b"S 1 1 0 2000 -0" + b" 1" * 5, 12),
     (b"S 1 1 0 2000 -01" + b" 1" * 5, 12), (b"S 1 1 0 2000 -" + b" 1" * 5, 12), (b"S 1 1 0 2000 -2147483647" + b" 1" * 5, 5),
     (b"S 1 1 0 2000 -2147483648" + b" 1" * 5, 12), (b"S 1 1 0 2000 2147483647" + b" 1" * 5, 5),
@@ -1662,6 +2238,8 @@ def input_cases():
             (b"X s5\nR\0\nR", b"ok\nno 12\nln 0 chg 1 dsg 1 at 0 0\n"),
             (b"U", b"no 1\n"), (b"X s5\nU", b"ok\nup 0 1\n"), (b"X s5\nU\r\nU\n\n", b"ok\nno 12\nup 0 1\nno 12\n"),
             (b"X s5\nF@4 2 0 0 214", b"ok\nre 2 0 192 152\n"),
+            (b"D", b"no 15\n"), (b"W 10", b"no 1\n"), (b"X s5\nW 10\r\nW 10\nD", b"ok\nno 12\nrec 0\nhex 01000100000000000005\n"),
+            (b"X s5\nW 10\n\nR", b"ok\nrec 0\nno 12\nln 0 chg 1 dsg 1 at 0 0\nrec 16\n"),
             (b"O" + b" 5" * 150000, b"no 12\n"), (b"O" + b" 5" * 150000 + b"\nR\n", b"no 12\nno 1\n")):
         expect(f"input {data[:30]!r}", wanted, Workshop().answers(data))
     expect("lines", [b"a", b"", b"b"], split_lines(b"a\n\nb\n"))
@@ -1673,7 +2251,8 @@ def main():
                  garden_openings, garden_levels, garden_counts, garden_cells, garden_load, garden_registers, garden_rows,
                  host_tallies, garden_tallies, journal_entries, journal_cells, journal_gardens, journal_numbers, journal_clears,
                  journal_rooms, journal_floods, page_journal, ups_along_a_row, ups_of_hosts, ups_of_gardens, ups_refused, page_ups,
-                 later_forms, raw_lines, long_lengths, input_cases):
+                 recorded_headers, recorded_acts, recorded_refusals, recorded_ends, recorded_fields, recorded_others, recorded_order,
+                 recorded_starts, recorded_fills, page_recording, later_forms, raw_lines, long_lengths, input_cases):
         part()
     sys.exit(1 if FAILED else 0)
 
