@@ -2,7 +2,8 @@
 
 The sessions of sessions.py, whose stretches meet every delay and level, with
 the workshop's own line forms in between: boards by kind, lent rooms, journals,
-long lists, long lines. A form that a request brings is one more scenario here.
+recordings, long lists, long lines. A form that a request brings is one more
+scenario here.
 
 Rows have host boards among the others. Their latches stay, so that most
 scenes on them end in writes to register 1, after samples about the levels
@@ -13,21 +14,30 @@ in some sessions until a journal has lost its oldest entries. The reference is
 asked how long a journal is, so that room is lent one short or just enough, and
 which boards have a latch, so that the first one stands at any place of a row.
 Behind each question for the fault line stands a reading, which has it too.
+
+Many days are recorded. The room of a recording is chosen when its acts are
+there and the reference knows where each ends: at one of these ends or a byte
+beside it. In long days it is the last act that is made to fit, for there the
+end is fixed.
 """
+
+from itertools import accumulate
 
 from reference import DEVICES, GARDEN, HOST, STAND_ALONE, Plan, Settings, crc8
 from sessions import LARGEST, LONGEST_ELAPSED, QUICK_US, Aim, Maker
 from workshop import LONGEST_LINE, Workshop
 
 # forms of requests that are not in force: malformed, until their scenario stands in their place
-LATER = ("W 46", "W 0", "W", "D", "C", "C 0100", "C 01000100000000000005",
-         "V 00 00 1", "V 0100 0100 0")
+LATER = ("C", "C 0100", "C 01000100000000000005", "V 00 00 1", "V 0100 0100 0")
 
 # for each fault that a host board keeps: the register of its level and the mask of the level's code
 LEVELS = {"OV": (6, 0x07), "UV": (7, 0x0F), "OCD": (9, 0x0F), "SCD": (10, 0x0F)}
 FEW = 8                 # a trigger that every scene goes for
 FULL = 128              # entries of a journal
 FLOODS = 0.01           # of the scenarios
+LONG_DAYS = 0.0015      # of the scenarios
+MOST_RECORDED = 65535   # bytes
+LONGEST_BODY = 255
 
 
 def garden_settings(row, trigger):
@@ -53,6 +63,11 @@ class GardenAim(Aim):
         """Refused."""
 
 
+def header(boards):
+    """The bytes of a recording's header with its board list."""
+    return 8 + 2 * boards
+
+
 def board_word(plan):
     """A board of `X`."""
     return "shg"[plan.kind] + "/".join(str(number) for number in (plan[1:] if plan.kind == GARDEN else plan[1:2]))
@@ -67,6 +82,8 @@ class DeskMaker(Maker):
         super().__init__(seed)
         self.reference = Workshop()
         self.heard = 0          # lines of the session that the reference has been told
+        self.day = None         # the reference's last recording
+        self.begun = None       # the place of its line, as long as its room is to be chosen
 
     # -- the forms of document 01, as the workshop may write them
 
@@ -101,13 +118,16 @@ class DeskMaker(Maker):
         hosts, gardens = self.pick(0, 0.5, 0.5, 1), self.pick(0, 0, 0.4, 0.4, 1)
         self.open_row([self.plan(count, hosts, gardens) for count in counts])
 
-    def open_row(self, plans):
-        """A good opening of boards as planned."""
+    def open_row(self, plans, recorded=None):
+        """A good opening of boards as planned, and a recording as likely as is said; of garden boards it would be empty."""
+        self.settle()
         if any(plan.kind != STAND_ALONE for plan in plans) or self.chance(0.5):
             self.put(" ".join(["X"] + [board_word(plan) for plan in plans]))
         else:
             Maker.words(self, "O", [plan.cells for plan in plans])
         self.boards = [GardenAim(plan) if plan.kind == GARDEN else Aim(plan.cells, plan.kind) for plan in plans]
+        if self.chance(recorded or (0.15 if any(plan.kind == GARDEN for plan in plans) else 0.6)):
+            self.begin()
         for number, plan in enumerate(plans, 1):
             if plan.kind == HOST and self.chance(0.6):
                 self.write(number, 1, self.pick(6, 6, 7, 2, 4))
@@ -379,12 +399,16 @@ class DeskMaker(Maker):
             self.listing(number)
 
     def bare(self):
-        """Listings before an opening too."""
+        """Listings and recordings before an opening too."""
         if self.chance(0.5):
             self.put(f"L {self.pick(0, 1, 1, 2, 17)} {self.pick(0, 1, FULL, LARGEST)}")
+        if self.chance(0.5):
+            self.put(self.pick("D", "W 0", "W 46", f"W {LARGEST}"))
         super().bare()
         if self.chance(0.5):
             self.listing(self.number())
+        if self.chance(0.5):
+            self.show()
 
     # -- the fault line alone
 
@@ -457,6 +481,110 @@ class DeskMaker(Maker):
         self.write(number, 1, self.switches())
         self.put("U")
 
+    # -- recordings
+
+    def room(self):
+        """Any room for a recording, about its header above all."""
+        head = header(len(self.boards))
+        return self.pick(head - 1, head - 1, head, head, head + 1, 0, 8, 46, MOST_RECORDED, LARGEST)
+
+    def begin(self):
+        """A recording of the day just opened, at times anew after others; `settle` chooses its room."""
+        for _ in range(self.pick(0, 0, 0, 1, 2)):
+            self.words("W", [self.room()])
+            self.pick(self.show, self.refused_opening, self.odd_recording)()
+        self.begun = len(self.lines)
+        self.words("W", [self.pick(MOST_RECORDED, MOST_RECORDED + 1, LARGEST)])
+        self.known()
+        self.day = self.reference.recording
+        if self.chance(0.2):
+            self.show()
+
+    def settle(self):
+        """Show the recording that ends here. Its room is mostly cut to the end of one of its acts, an early one above all."""
+        if self.begun is None:
+            return
+        self.show()
+        self.known()
+        ends = list(accumulate(map(len, self.day.acts), initial=header(len(self.day.plans))))
+        if self.chance(0.9):
+            end = self.rng.choice(ends[:self.pick(3, 10, 30, len(ends))])
+            self.lines[self.begun] = b"W %d" % (end + self.pick(-1, -1, 0, 0, 0, 1))
+        self.begun = None
+
+    def show(self):
+        """The recording, if there is one."""
+        self.put("D")
+
+    def late(self):
+        """Mostly too late for a recording, which a refused opening does not change."""
+        if self.chance(0.3):
+            self.refused_opening()
+        self.words("W", [self.room()])
+        if self.chance(0.3):
+            self.show()
+
+    def odd_recording(self):
+        """A room that is no number or too large for one, or something beside a line."""
+        self.put(self.pick("W", "W ", " W 46", "W  46", "W 46 ", "W 46 0", "W46", "W 046", "W 00", "W -0", "W -1", "W +46", "W x", "W s5",
+                           "W@46", "w 46", "WW 46", "W 46\r", "W 46\0", f"W {LARGEST + 1}", f"W {2**32 + 46}", f"W {2**64 + 46}",
+                           "D ", " D", "d", "DD", "D D", "D 0", "D 46", "D0", "D@4", "D\r", "D\0", "WD", "rec 0", "hex 00"))
+
+    def wide(self):
+        """A sample or a frame with the last number or length that a recording has bytes for, or one past it."""
+        number, elapsed = self.number(), self.elapsed()
+        fields, what = self.calm(self.boards[number - 1]), self.rng.randrange(7)
+        if what == 0:
+            number = self.pick(255, 255, 256, 256, 256 + number)
+        elif what == 1:
+            fields["load"] = self.pick(255, 255, 256, 256, 257)
+        elif what == 2:
+            fields["thermistor"] = self.pick(65535, 65535, 65536, 65536, 67536)
+        elif what == 3:
+            fields["cells"][self.rng.randrange(len(fields["cells"]))] = self.pick(65535, 65535, 65536, 65536, 69536)
+        elif what == 4:
+            fields["cells"] = [self.pick(0, 4000, 5000)] * self.pick(120, 121, 121, 122, 122, 123, 128)
+        elif what == 5:
+            fields["shunt"] = self.pick(-LARGEST, LARGEST, -500000, 500000, -65536, -256, -1)
+        else:
+            self.long_frame(self.pick(254, 255, 255, 256, 256, 257))
+            return
+        self.sample_line(number, elapsed, fields)
+
+    def long_frame(self, size):
+        """A frame of so many bytes, which no board takes where they are four either."""
+        Maker.words(self, self.pick("F", "F", "F@4", "F@9"), ([0] + [self.rng.randrange(256) for _ in range(size)])[:size])
+
+    def short_day(self):
+        """A row opened anew, recorded from its first act on: a few acts of every kind."""
+        self.open_row([self.plan(self.rng.randint(5, 10), 0.4, 0) for _ in range(self.pick(1, 1, 2, 3, 16))], 1)
+        for _ in range(self.rng.randint(1, 12)):
+            number = self.number()
+            aim = self.boards[number - 1]
+            self.pick(lambda: self.sample(number, self.elapsed(), self.calm(aim)), lambda: self.latch(number),
+                      lambda: self.refused_sample(number), lambda: self.read(number), lambda: self.stage(number),
+                      lambda: self.program(number), lambda: self.listing(number), self.reading, self.reading, self.odd_frame,
+                      self.short_room, self.wide, self.wide, self.refused_opening, self.late, self.show)()
+
+    def left(self):
+        """How many bytes the recording could still take."""
+        self.known()
+        return MOST_RECORDED - len(self.day.memory())
+
+    def long_day(self):
+        """A row opened anew, with long acts until a recording of it is full; the last one takes what is left, or a byte more or less."""
+        self.open_row([self.plan(self.rng.randint(5, 10), 0.4, 0) for _ in range(self.pick(1, 2, 16))], 1)
+        self.begun = None           # its room stays
+        while self.left() > LONGEST_BODY + 3:
+            self.pick(self.wide, self.reading, lambda: self.long_frame(LONGEST_BODY), lambda: self.long_frame(LONGEST_BODY),
+                      lambda: self.long_frame(LONGEST_BODY), lambda: self.long_frame(LONGEST_BODY))()
+        # beside its bytes a refused frame has a kind, a length and a number
+        self.long_frame(max(0, self.left() - 3 + self.pick(-1, 0, 0, 1, 1, 1)))
+        self.show()
+        for _ in range(3):
+            self.pick(self.wide, self.reading, lambda: self.long_frame(0), self.late)()
+        self.show()
+
     # -- the workshop's own
 
     def short_room(self):
@@ -478,7 +606,7 @@ class DeskMaker(Maker):
 
     def long_list(self):
         """More cells, bytes, counts or boards than the bench would read."""
-        size = self.pick(11, 16, 17, 18, 100, 101, 256, 1000)
+        size = self.pick(11, 16, 17, 18, 100, 101, 121, 122, 255, 256, 1000)
         what = self.rng.randrange(6)
         if what == 0:
             self.put(f"S {self.number()} 1000 0 2000 0" + " 4000" * size)
@@ -532,13 +660,20 @@ class DeskMaker(Maker):
         self.rng.choices(
             (self.hosted, self.grown, self.short_room, self.odd_room, self.long_list, self.odd_boards, self.later, self.refused_opening,
              lambda: self.listing(self.number()), lambda: self.joining(self.number()), self.odd_listing, self.firsts, self.odd_question,
-             self.huge_line),
-            (14, 18, 8, 4, 6, 8, 4, 2, 12, 6, 4, 6, 3, 0.06))[0]()
+             self.short_day, self.wide, self.late, self.show, self.odd_recording, self.huge_line),
+            (14, 18, 8, 4, 6, 8, 3, 2, 12, 6, 4, 6, 3, 14, 6, 3, 4, 3, 0.06))[0]()
+
+    def play(self, length):
+        """The last recording of a session ends with it."""
+        super().play(length)
+        self.settle()
 
     def scenario(self):
         """The bench's scenarios, and the workshop's own among them."""
         if self.chance(FLOODS):
             self.flood()
+        elif self.chance(LONG_DAYS):
+            self.long_day()
         elif self.chance(0.3):
             self.desk()
         else:
