@@ -31,7 +31,7 @@ use Rattle.registers.specs.Registers.{board_after}
 use Rattle.registers.proofs.Map.{read-setting}
 use Rattle.stack.specs.Row.{good_row, place_of}
 use Rattle.stack.specs.Frame.{frame_place, frame_row}
-use Rattle.demands.specs.Paper.{sampled, History, programming, staged, working, spent, sample_of, run_of, stood_delay, places, stands, letsGo, clears, counted, Filter, count_at, trips, counting, back_at, recovers, recovering, filter, latched, latches_at, tallied}
+use Rattle.demands.specs.Paper.{sampled, History, programming, staged, working, spent, sample_of, run_of, stood_delay, places, stands, lets_go, clears, counted, Filter, count_at, trips, counting, back_at, recovers, recovering, filter, latched, latches_at, tallied}
 use Rattle.demands.specs.Acts.{Act, sample, frame, listing, reading, up, Outcome, bars, outcome, next, final}
 use Rattle.demands.specs.Demands.{Log, no_log, begun, log_at, joined, row_given, frame_entry, joins, taken, shown_given, frame_says}
 use Rattle.demands.specs.Mechanic.{Stood, bit_of, is_latched, Accepted, Answers, Mechanic}
@@ -113,7 +113,7 @@ module _ (logs : List Log) (good : good_row (row_given logs) ≡ true) (fine : (
     stood_now = stands l.plan.cells f (sampled x mv ∷ l.acts)
 
     abbrev goes_now : Bool
-    goes_now = not (holds_on l.plan.kind f) && letsGo l.plan.cells f (working l.acts) (sample_of x mv)
+    goes_now = not (holds_on l.plan.kind f) && lets_go l.plan.cells f (working l.acts) (sample_of x mv)
 
     after : is_latched f (next row (sample n x mv)) (place_of n) ≡ latched l.plan f (sampled x mv ∷ l.acts)
     after =
@@ -173,11 +173,11 @@ module _ (logs : List Log) (good : good_row (row_given logs) ≡ true) (fine : (
           (λ h. both.0 (sym (was false e) ∙ h), λ s. was false e ∙ both.1 s)
 
       lets-go-when : is_latched f row (place_of n) ≡ true → (is_latched f (next row (sample n x mv)) (place_of n) ≡ false)
-          ↔ ((holds_on l.plan.kind f ≡ false) × (letsGo l.plan.cells f (working l.acts) (sample_of x mv) ≡ true))
+          ↔ ((holds_on l.plan.kind f ≡ false) × (lets_go l.plan.cells f (working l.acts) (sample_of x mv) ≡ true))
       lets-go-when e =
           let goes = not-true goes_now in
           let holds = holds_on l.plan.kind f in
-          let freed = letsGo l.plan.cells f (working l.acts) (sample_of x mv) in (
+          let freed = lets_go l.plan.cells f (working l.acts) (sample_of x mv) in (
             λ h. let so = both (not holds) freed (goes.0 (sym (was true e) ∙ h)) in (not_yes holds so.0, so.1),
             λ (loose, free). was true e ∙ goes.1 (rw (loose, free)),
           )

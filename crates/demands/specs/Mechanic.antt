@@ -15,7 +15,7 @@ use Rattle.frame.specs.Frame.{byte, writes}
 use Rattle.frame.specs.Reply.{reply_bytes}
 use Rattle.stack.specs.Row.{place_of, board_at}
 use Rattle.stack.specs.Frame.{frame_place}
-use Rattle.demands.specs.Paper.{Entry, sampled, framed, History, programming, staged, working, spends, how_many, spent, sample_of, holds, run_of, places, letsGo, clears, counted, count_at, back_at, filter, tallied, control}
+use Rattle.demands.specs.Paper.{Entry, sampled, framed, History, programming, staged, working, spends, how_many, spent, sample_of, holds, run_of, places, lets_go, clears, counted, count_at, back_at, filter, tallied, control}
 use Rattle.demands.specs.Acts.{Act, sample, frame, reading, up, outcome, next, opened_row, final}
 use Rattle.demands.specs.Table.{lent}
 use Rattle.demands.specs.Turns.{Under, Calm}
@@ -74,7 +74,7 @@ pub record Answers (row : List Board) (logs : List Log) : Type 0 where
   pub lets_go_lem : (f : Fault) (n : ℕ) (x : Readings) (mv : List ℕ) → let l = log_at logs (place_of n) in
       is_garden l.plan.kind ≡ false → Accepted row (sample n x mv) → is_latched f row (place_of n) ≡ true
       → (is_latched f (next row (sample n x mv)) (place_of n) ≡ false)
-      ↔ ((holds_on l.plan.kind f ≡ false) × (letsGo l.plan.cells f (working l.acts) (sample_of x mv) ≡ true))
+      ↔ ((holds_on l.plan.kind f ≡ false) × (lets_go l.plan.cells f (working l.acts) (sample_of x mv) ≡ true))
   -- a garden board's OV and UV latch exactly if the count of some one cell reaches the trigger at the sample, and let go exactly if the recovery count
   -- does; no other fault of it is ever latched
   pub counts-latch : (f : Fault) (n : ℕ) (x : Readings) (mv : List ℕ) → let l = log_at logs (place_of n) in
