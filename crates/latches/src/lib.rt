@@ -112,6 +112,7 @@ pub struct Tallies {
 }
 
 // A tally that is full stays.
+#[tactic(auto, unfolding(crate::specs::Tallies::tally_next))]
 fn tally_next(up: bool, tally: u16) -> u16
     ensures { result ≡ tally_next up tally }
 {

@@ -9,6 +9,7 @@ ghost use Rattle.runs.specs.Stored.{run_next, stood};
 const RUN_CAP: u64 = 10_000_000;
 
 // The stored run after one more accepted sample.
+#[tactic(auto, unfolding(crate::specs::Stored::run_next))]
 pub fn advance(run: u32, holds: bool, elapsed: u32) -> u32
     ensures { result ≡ run_next run holds elapsed }
 {
@@ -41,6 +42,7 @@ fn stands_above(delay: u32) -> u32
 }
 
 // The condition has stood its delay.
+#[tactic(auto, unfolding(crate::specs::Stored::stood))]
 pub fn has_stood(delay: u32, run: u32) -> bool
     ensures { result ≡ stood delay run }
 {
