@@ -1,5 +1,6 @@
--- A u16 has 16 places, and none from there up.
-use Rattle.std.proofs.Common.{sym, rules}
+-- `mark_at`: a u16 has 16 places, and none from there up.
+-- Assumes nothing.
+use Rattle.std.proofs.Common.{rules, sym}
 use Rattle.lists.proofs.Marks.{marked-above}
 use Rattle.lists.proofs.mark_at.Goals as goal
 
