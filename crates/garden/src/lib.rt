@@ -65,6 +65,7 @@ fn device_of(row: u8) -> Device
 }
 
 // A count, one sample on; it stays within a byte, which no trigger passes.
+#[tactic(auto, unfolding(crate::specs::Filter::count_next))]
 fn count_next(past: bool, count: u32) -> u32
     ensures { result ≡ count_next past count }
 {
