@@ -3,4 +3,3 @@ pub mod Gathered
 pub mod Searching
 pub mod Scanned
 pub mod Lined
-pub mod Known

@@ -8,5 +8,4 @@ pub mod Kept
 pub mod Feeds
 pub mod Lasts
 pub mod Blocks
-pub mod Known
 pub mod Many
