@@ -14,7 +14,7 @@ use Rattle.lists.specs.Each.{each}
 use Rattle.lists.proofs.Each.{each-length, each-place, each_same, set_front}
 use Rattle.lists.proofs.Split.{split}
 use Rattle.journal.specs.declared.Journal.{Journal}
-use Rattle.journal.specs.Ring.{Entry, entry, latching, here, held, kept, no_entries, entered, entered_all, noted, place_at, listing, latest, words, words_over}
+use Rattle.journal.specs.Ring.{Entry, latching, here, held, kept, no_entries, entered, entered_all, noted, place_at, listing, latest, words}
 
 -- ---- lists by places: one place more at the end, and all places one further
 each-end : (f : ℕ → Entry) (i n : ℕ) → each i (suc n) f ≡ each i n f ++ (f (i + n) ∷ [])
