@@ -154,6 +154,7 @@ fn first_latches(kind: u8) -> u8
 }
 
 // A board as it starts by its plan.
+#[tactic(auto, unfolding(crate::specs::Sample::fresh))]
 pub fn fresh_board(plan: u32) -> Board
     ensures { result ≡ fresh plan }
 {
@@ -251,6 +252,7 @@ pub fn status_by(kind: u8, control: u8, latches: u8) -> u8
 }
 
 // The latches without those whose condition is over on the last accepted sample.
+#[tactic(auto, unfolding(crate::specs::Host::cleared_of))]
 pub fn cleared(s: Settings, last: Last, latches: u8) -> u8
     ensures { result ≡ latches_byte (cleared_of s last (latches_of latches)) }
 {
@@ -317,6 +319,7 @@ fn shunt_outside(shunt: i32) -> bool
     (shunt < -500000) | (500000 < shunt)
 }
 
+#[tactic(auto, unfolding(crate::specs::Sample::currents_next))]
 fn currents_next(s: Settings, runs: Currents, x: Readings) -> Currents
     ensures { result ≡ currents_next s runs x }
 {
@@ -326,6 +329,7 @@ fn currents_next(s: Settings, runs: Currents, x: Readings) -> Currents
     }
 }
 
+#[tactic(auto, unfolding(crate::specs::Way::latches_by))]
 fn latches_next(
     s: Settings,
     swept: Swept,
@@ -357,6 +361,7 @@ fn latches_next(
 }
 
 // A quiet sample. It is kept as the last one, and answered from the record.
+#[tactic(auto, unfolding(crate::specs::Way::rested_of))]
 fn rest(b: Board, x: Readings, span: Span, mv: &[u32]) -> Stepped
     ensures { result ≡ rested_of b x span }
 {
@@ -508,6 +513,7 @@ fn out_of_range(x: Readings, span: Span) -> bool
 }
 
 // A sample that finds nothing, on a board that has nothing on record: it changes nothing but the last sample and its number. The record is looked at first.
+#[tactic(auto, unfolding(crate::specs::Way::quiet_of))]
 fn quiet(b: Board, x: Readings, span: Span) -> bool
     ensures { result ≡ quiet_of b x span }
 {
