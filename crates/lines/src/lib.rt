@@ -58,6 +58,7 @@ pub struct Cutter {
 // ---- one line
 
 // The kind of line that a letter begins.
+#[tactic(auto, unfolding(crate::specs::Line::letter))]
 fn kind_of(b: u8) -> Kind
     ensures { result ≡ letter b }
 {
