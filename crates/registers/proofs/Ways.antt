@@ -5,7 +5,7 @@ use mathlib.Core.Path.{◌≡◌, refl, ap, sym}
 use mathlib.Core.Bool.{Bool, true, false, true≢false, not}
 use lib.Dec.{leb, eqb, T as Holds}
 use borrow.Author.Tests.{leb-false, lt-ltb, eqb-true}
-use Rattle.walks.proofs.Walk.{is_true, is_false}
+use Rattle.lists.proofs.Split.{is_true, is_false}
 use Rattle.settings.specs.Bytes.{same}
 use Rattle.settings.specs.Levels.{crossed}
 use Rattle.board.specs.declared.Board.{Board}

@@ -196,6 +196,7 @@ fn rest(outcome: Outcome) -> Found
 }
 
 // Programming: refused for crossed levels or for want of a cycle, or nothing for equal settings, or a cycle to be spent.
+#[tactic(auto, unfolding(crate::specs::Way::look_of))]
 fn look(b: Board) -> Found
     ensures { result ≡ look_of b }
 {
@@ -247,6 +248,7 @@ fn latches_steered(b: Board, value: u8) -> u8
 }
 
 // A write to register 1.
+#[tactic(auto, unfolding(crate::specs::Way::steered_by))]
 fn steer(b: Board, asked: Request) -> Obeyed
     ensures { result ≡ steered_by b asked }
 {
@@ -261,6 +263,7 @@ fn steer(b: Board, asked: Request) -> Obeyed
 }
 
 // A write that stages.
+#[tactic(auto, unfolding(crate::specs::Way::staged_by))]
 fn stage(b: Board, asked: Request) -> Obeyed
     ensures { result ≡ staged_by b asked }
 {
@@ -274,6 +277,7 @@ fn stage(b: Board, asked: Request) -> Obeyed
 }
 
 // Programming that spends a cycle. Every run starts over, since the levels and delays may be others now.
+#[tactic(auto, unfolding(crate::specs::Way::spent_by))]
 fn spend(b: Board, _asked: Request) -> Obeyed
     ensures { result ≡ spent_by b }
 {
@@ -319,6 +323,7 @@ fn spend_board(b: &mut Board, asked: Request) -> Outcome
 }
 
 // Programming. It is looked at first, and stores only where a cycle is spent.
+#[tactic(auto, unfolding(crate::specs::Way::programmed_by))]
 fn program_board(b: &mut Board, asked: Request) -> Outcome
     ensures { (result ≡ (programmed_by b.old).outcome) × (b.new ≡ (programmed_by b.old).board) }
 {
@@ -330,6 +335,7 @@ fn program_board(b: &mut Board, asked: Request) -> Outcome
 }
 
 // A frame that neither 9 nor 10 refuses. It copies of the record what its way needs, and stores only where it changes something.
+#[tactic(auto, unfolding(crate::specs::Way::carried_out))]
 fn carry_out(b: &mut Board, asked: Request) -> Outcome
     ensures { (result ≡ (carried_out b.old asked).outcome) × (b.new ≡ (carried_out b.old asked).board) }
 {
