@@ -12,7 +12,7 @@ use lib.Seq.{take_all, take-append-le}
 use borrow.Author.Tests.{leb-true, leb-false}
 use Rattle.lists.specs.Every.{every}
 use Rattle.lists.proofs.Split.{split}
-use Rattle.walks.proofs.Fold.{folded}
+use Rattle.reading.proofs.Along.{folded}
 use Rattle.board.specs.declared.Board.{Board}
 use Rattle.board.specs.Sample.{bad_board}
 use Rattle.reading.specs.declared.Seen.{Seen}

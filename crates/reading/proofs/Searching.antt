@@ -12,7 +12,7 @@ use lib.ListN.{length}
 use borrow.Author.Tests.{ne_eqb, lt-leb}
 use Rattle.lists.specs.Every.{every}
 use Rattle.lists.proofs.Split.{split, both}
-use Rattle.walks.proofs.Sought.{within, sought}
+use Rattle.reading.proofs.Along.{within, sought}
 use Rattle.lists.specs.Marks.{marked, marks, lowest}
 use Rattle.board.specs.declared.Board.{Board}
 use Rattle.board.specs.Sample.{plan_in, bad_board}

@@ -20,6 +20,7 @@ pub struct Summary {
 }
 
 // The summary of a board's record.
+#[tactic(auto, unfolding(crate::specs::Reading::summary_of))]
 fn summary_of(b: Board) -> Summary
     ensures { result ≡ summary_of b }
 {
@@ -82,6 +83,7 @@ fn with_board(set: u16, at: usize, is: bool) -> u16
 }
 
 // One board more, north of those seen; a row has 16 at most.
+#[tactic(auto, unfolding(crate::specs::Way::seen_with))]
 fn see(seen: Seen, at: usize, b: Board) -> Seen
     ensures { result ≡ seen_with seen at b }
 {
@@ -186,6 +188,7 @@ fn line_up(latched: u16, left: u8) -> bool
 }
 
 // The reading of the boards seen: board 1's line, pack CHG, pack DSG and the flagged cell.
+#[tactic(auto, unfolding(crate::specs::Way::whole_of))]
 fn read_all(seen: Seen, flagged: Place) -> Whole
     ensures { result ≡ whole_of seen flagged }
 {
@@ -231,6 +234,7 @@ pub struct Line {
     pub looked: u8,
 }
 
+#[tactic(auto, unfolding(crate::specs::Reading::summary_of))]
 fn has_latch(b: Board) -> bool
     ensures { result ≡ (summary_of b).latched }
 {
