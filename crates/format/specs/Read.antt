@@ -4,7 +4,7 @@ use Rattle.std.specs.Prelude.{ℕ, zero, suc, ◌+◌, ◌*◌, ◌-◌, ◌/◌
 use Rattle.lists.specs.Compare.{◌above◌, ◌below◌, outside}
 use Rattle.lists.specs.Every.{every}
 use Rattle.refusal.specs.Said.{Said, Bar, bar, first}
-use Rattle.format.specs.Format.{fits, Listed, listed, Sent, sample, frame, reading, Noted, noted, widths, recording, writable}
+use Rattle.format.specs.Format.{fits, Listed, listed, Sent, sample, frame, reading, Noted, noted, recording, writable}
 
 -- ---- numbers
 

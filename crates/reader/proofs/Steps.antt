@@ -1,17 +1,15 @@
 -- Where reading stops, test by test: the header, a board, an act, and many of them.
 -- Assumes nothing.
-use Prim.Native.Nat.{ℕ, suc, ◌+◌, ◌*◌, ◌<◌, ◌≤◌}
+use Prim.Native.Nat.{ℕ, ◌+◌, ◌<◌, ◌≤◌}
 use native.Mathlib.Omega.{arith}
-use mathlib.Core.Path.{◌≡◌, refl, ap, ◌∙◌}
-use mathlib.Core.Bool.{Bool, true, false, cond, ◌||◌}
-use mathlib.Core.List.{List, [], ◌∷◌, ◌++◌}
-use lib.Dec.{eqb, ltb}
+use mathlib.Core.Path.{◌≡◌}
+use mathlib.Core.Bool.{true, false}
+use mathlib.Core.List.{List}
 use lib.ListN.{length, drop}
 use borrow.Author.Tests.{lt-ltb, le-ltb, eq-eqb, ne_eqb}
 use Rattle.lists.specs.Compare.{outside}
-use Rattle.format.specs.Read.{number_in, board_count, board_in, kind_in, long_in, number_of, values_long, wrong_long, act_long, head_tests, board_tests, act_tests}
-use Rattle.reader.specs.declared.Step.{Step}
-use Rattle.reader.specs.Reader.{stop, stop_of, head_stop, board_step, act_step}
+use Rattle.format.specs.Read.{number_in, board_count, board_in, kind_in, long_in, values_long, wrong_long, act_long, head_tests, board_tests, act_tests}
+use Rattle.reader.specs.Reader.{stop, head_stop, board_step, act_step}
 use Rattle.reader.specs.Way.{answer_step}
 
 -- a field begins where its tests say
