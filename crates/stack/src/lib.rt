@@ -150,6 +150,7 @@ fn refused_fill() -> Progress
 }
 
 // The plans are good, one for each record of the row, or nothing is put.
+#[tactic(auto, unfolding(crate::specs::Way::start_of))]
 fn start(plans: &[u32], boards: usize) -> Progress
     ensures { result ≡ start_of plans.now boards }
 {
@@ -178,6 +179,7 @@ fn place_in(x: Progress) -> usize
     x.at
 }
 
+#[tactic(auto, unfolding(crate::specs::Way::placed_of))]
 fn put(b: Board, x: Progress, plans: &[u32]) -> Placed
     ensures { result ≡ placed_of b x plans.now }
 {
@@ -209,6 +211,7 @@ fn put_board(b: &mut Board, x: Progress, plans: &[u32]) -> Progress
     s.next
 }
 
+#[tactic(auto, unfolding(crate::specs::Way::fill_at, crate::specs::Way::fill_row_at))]
 fn put_at(row: &mut [Board], x: Progress, plans: &[u32]) -> Progress
     ensures { (result ≡ fill_at row.old x plans.now) × (row.new ≡ fill_row_at row.old x plans.now) }
 {
@@ -291,6 +294,7 @@ fn no_row_sample() -> Answer
     Answer::Refused(Refusal::BadRow)
 }
 
+#[tactic(auto, unfolding(crate::specs::Way::sample_answer_at, crate::specs::Way::sample_row_at))]
 fn sample_at(row: &mut [Board], board: u32, x: Readings, mv: &[u32]) -> Answer
     ensures { (result ≡ sample_answer_at row.old board x mv.now) × (row.new ≡ sample_row_at row.old board x mv.now) }
 {
@@ -335,6 +339,7 @@ fn no_row_reply() -> Reply
     Reply::Refused(Refusal::BadRow)
 }
 
+#[tactic(auto, unfolding(crate::specs::Way::obey_outcome_at, crate::specs::Way::obey_row_at))]
 fn obey_at(row: &mut [Board], asked: Request) -> Outcome
     ensures { (result ≡ obey_outcome_at row.old asked) × (row.new ≡ obey_row_at row.old asked) }
 {
@@ -394,6 +399,7 @@ fn list_board(b: Board, out: &mut [u32]) -> Listing
     Listing::Listed(many as u32)
 }
 
+#[tactic(auto, unfolding(crate::specs::Way::list_answer_at, crate::specs::Way::list_buffer_at))]
 fn list_at(row: &[Board], board: u32, out: &mut [u32]) -> Listing
     ensures { (result ≡ list_answer_at row.now board out.old) × (out.new ≡ list_buffer_at row.now board out.old) }
 {
