@@ -8,6 +8,7 @@ use mathlib.Core.Bool.{Bool, true, false, true≢false, or-true}
 use mathlib.Core.List.{List, [], ◌++◌}
 use lib.Dec.{ltb, eqb}
 use lib.ListN.{length, replicate, take, drop, length-map}
+use lib.Seq.{length-take-le}
 use borrow.Author.Tests.{lt-ltb, eq-eqb}
 use Rattle.lists.proofs.Split.{split}
 use Rattle.refusal.specs.declared.Refusal.{Refusal}
@@ -21,10 +22,13 @@ use Rattle.stack.specs.declared.Opening.TheVariants.{Opened, Refused}
 use Rattle.board.specs.Plan.{stand_alone}
 use Rattle.stack.specs.Open.{open_bars, opening_said, open_answer, open_row, count_plans}
 use Rattle.stack.proofs.Laws.{open_said}
-use Rattle.walks.proofs.LendArray.{first-many}
 use Rattle.held.specs.declared.Stack.{Stack}
 use Rattle.held.specs.declared.OpenedRow.{OpenedRow}
 use Rattle.held.specs.Held.{no_stack, fresh_row, start_of, open_of, opened_in}
+
+-- the first k of n are k
+first-many : {X : Type 0} (l : List X) (k n : ℕ) → length l ≡ n → k ≤ n → k ≡ length (take k l)
+first-many l k n e h = sym (length-take-le k l (omega (arith, e, h)))
 
 -- more than 16 plans are refused, whatever they are
 over-plans : (plans : List ℕ) → 16 < length plans → start_of plans ≡ record { stack = no_stack; answer = Refused BadRow }

@@ -54,6 +54,7 @@ pub struct FramedStack {
 }
 
 // How many records are the row. One of more than 16 boards is no row: then none are, and every act is refused with 1.
+#[tactic(auto, unfolding(crate::specs::Held::row_count))]
 pub fn row_count(s: Stack) -> usize
     ensures { result ≡ row_count s }
 {
@@ -65,6 +66,7 @@ pub fn row_count(s: Stack) -> usize
 }
 
 // The first n records are lent as the row; so below.
+#[tactic(auto, unfolding(crate::specs::Held::opened_in))]
 fn open_in(boards: [Board; 16], n: usize, counts: &[u32]) -> OpenedRow
     requires { n ≤ 16 }
     ensures { result ≡ opened_in boards n (count_plans counts.now) }
@@ -77,6 +79,7 @@ fn open_in(boards: [Board; 16], n: usize, counts: &[u32]) -> OpenedRow
     }
 }
 
+#[tactic(auto, unfolding(crate::specs::Held::sampled_in))]
 fn sample_in(boards: [Board; 16], n: usize, board: u32, x: Readings, mv: &[u32]) -> SampledRow
     requires { n ≤ 16 }
     ensures { result ≡ sampled_in boards n board x mv.now }
@@ -89,6 +92,7 @@ fn sample_in(boards: [Board; 16], n: usize, board: u32, x: Readings, mv: &[u32])
     }
 }
 
+#[tactic(auto, unfolding(crate::specs::Held::framed_in, crate::specs::Held::framed_reply))]
 fn frame_in(boards: [Board; 16], n: usize, bytes: &[u8], reply: &mut [u8]) -> FramedRow
     requires { n ≤ 16 }
     ensures { (result ≡ framed_in boards n bytes.now reply.old) × (reply.new ≡ framed_reply boards n bytes.now reply.old) }
@@ -101,6 +105,7 @@ fn frame_in(boards: [Board; 16], n: usize, bytes: &[u8], reply: &mut [u8]) -> Fr
     }
 }
 
+#[tactic(auto, unfolding(crate::specs::Held::read_in))]
 fn read_in(boards: [Board; 16], n: usize) -> View
     requires { n ≤ 16 }
     ensures { result ≡ read_in boards n }
