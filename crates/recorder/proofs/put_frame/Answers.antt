@@ -1,0 +1,8 @@
+use Rattle.puts.proofs.Puts.{put_then}
+use Rattle.format.specs.Format.{body_of}
+use Rattle.recorder.specs.Way.{sent_bytes}
+use Rattle.recorder.proofs.put_frame.Goals as goal
+
+pub returns-clause-put : goal.returns-clause-put
+unfolding sent_bytes body_of
+returns-clause-put c = put_then c.put_one-kind_end.ensures.put (put_then c.put_one-size_end.ensures.put c.put_bytes.ensures)
