@@ -1,7 +1,7 @@
 //! What each line does: the desk lends its stack to the library, for a frame its reply buffer too, for a listing its entries, for a
-//! recording its memory, for a check other records than the stack's, and keeps what comes.
+//! recording its memory, and keeps what comes.
 use crate::lines::{Kind, Line, Wanted};
-use adomvik::{Board, Checked, Latching, Plan, Reading, Readings, Recorder, Refusal, Sampled};
+use adomvik::{Board, Latching, Plan, Reading, Readings, Recorder, Refusal, Sampled};
 use adomvik::{BOARDS_MAX, FRAME_BYTES, JOURNAL_MAX, RECORD_BYTES};
 
 /// The most bytes that are really lent for a reply or a recording. The one takes the first four, the other 65,535 at most, so that
@@ -20,7 +20,6 @@ pub enum Answer<'a> {
     Up(adomvik::Line),
     Recording(Result<(), Refusal>),
     Shown(&'a [u8]),
-    Checked(Checked),
 }
 
 /// Hands on the plans of boards, but of no more than are too many.
@@ -64,7 +63,7 @@ impl Tape {
 }
 
 /// The desk: places for sixteen records, of which the stack has the first few, with what was asked for as it was opened and whether
-/// it has had an act since; a reply buffer, entries for a listing, a tape for a recording, and records for one that is checked.
+/// it has had an act since; a reply buffer, entries for a listing, and a tape for a recording.
 pub struct Desk {
     boards: [Board; BOARDS_MAX],
     opened: usize,
@@ -73,7 +72,6 @@ pub struct Desk {
     reply: Vec<u8>,
     entries: [Latching; JOURNAL_MAX],
     tape: Tape,
-    checked: [Board; BOARDS_MAX],
 }
 
 impl Desk {
@@ -88,7 +86,6 @@ impl Desk {
             reply: vec![0; MOST_LENT],
             entries: [Latching::default(); JOURNAL_MAX],
             tape: Tape { memory: vec![0; MOST_LENT].into(), room: 0, recorder: None },
-            checked: [none; BOARDS_MAX],
         }
     }
 
@@ -104,7 +101,6 @@ impl Desk {
             Line::Up => self.up(),
             Line::Recording { room } => self.record(*room),
             Line::Shown => self.show(),
-            Line::Check { recording } => Ok(Answer::Checked(adomvik::check(&mut self.checked, recording))),
         }
     }
 

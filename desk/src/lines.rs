@@ -48,8 +48,6 @@ pub enum Line<'a> {
     Recording { room: usize },
     /// `D`: the recording is shown.
     Shown,
-    /// `C` and hex: a recording is checked; the letter alone has an empty one.
-    Check { recording: &'a [u8] },
 }
 
 impl Line<'_> {
@@ -57,7 +55,7 @@ impl Line<'_> {
     pub fn is_act(&self) -> bool {
         match self {
             Line::Sample { .. } | Line::Frame { .. } | Line::Reading | Line::Listing { .. } | Line::Up => true,
-            Line::Opening { .. } | Line::Recording { .. } | Line::Shown | Line::Check { .. } => false,
+            Line::Opening { .. } | Line::Recording { .. } | Line::Shown => false,
         }
     }
 }
@@ -83,8 +81,6 @@ pub enum What {
     NoByte,
     NoBoard,
     NoSlash,
-    NoHex,
-    OddHex,
 }
 
 /// Memory for the lists of one line after another, lent once: it has room for the longest line.
@@ -131,7 +127,6 @@ fn asked<'a>(fields: &mut Fields, lent: &'a mut Lent) -> Result<Line<'a>, What> 
             fields.nothing_more(Line::Recording { room })
         }
         b'D' => fields.nothing_more(Line::Shown),
-        b'C' => Ok(Line::Check { recording: fields.recording(&mut lent.bytes)? }),
         _ => Err(What::NoLetter),
     }
 }
@@ -250,42 +245,6 @@ impl Fields<'_> {
         } else {
             Ok(FRAME_BYTES)
         }
-    }
-
-    /// A recording in hex, to the end of the line; none where nothing stands behind the letter.
-    fn recording<'a>(&mut self, lent: &'a mut [u8]) -> Result<&'a [u8], What> {
-        if self.at == self.line.len() {
-            return Ok(&[]);
-        }
-        self.space()?;
-        let hex = self.hex(lent)?;
-        self.nothing_more(hex)
-    }
-
-    /// Bytes in hex, one at least. The lent memory has room for half of the longest line.
-    fn hex<'a>(&mut self, lent: &'a mut [u8]) -> Result<&'a [u8], What> {
-        let mut count = 0;
-        for place in lent.iter_mut() {
-            let Some(high) = self.hex_digit() else { break };
-            let Some(low) = self.hex_digit() else { return Err(What::OddHex) };
-            *place = 16 * high + low;
-            count += 1;
-        }
-        if count == 0 {
-            return Err(What::NoHex);
-        }
-        Ok(lent.get(..count).unwrap_or_default())
-    }
-
-    /// Reads on past a digit of hex, if the next byte is one; what it is worth.
-    fn hex_digit(&mut self) -> Option<u8> {
-        let worth = match self.next()? {
-            digit @ b'0'..=b'9' => digit - b'0',
-            letter @ b'a'..=b'f' => letter - b'a' + 10,
-            _ => return None,
-        };
-        self.at += 1;
-        Some(worth)
     }
 
     // as part of a larger function it would keep its place in the line in memory

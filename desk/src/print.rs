@@ -1,6 +1,6 @@
 //! Printing: an answer as the page has it, without its newline.
 use crate::acts::Answer;
-use adomvik::{Checked, Reading, Refusal};
+use adomvik::{Reading, Refusal};
 
 /// The bytes that go out.
 pub type Text = Vec<u8>;
@@ -43,18 +43,6 @@ pub fn answer(text: &mut Text, answer: &Answer) {
                 text.extend_from_slice(&[hex_digit(byte / 16), hex_digit(byte % 16)]);
             }
         }
-        Answer::Checked(told) => checked(text, *told),
-    }
-}
-
-fn checked(text: &mut Text, told: Checked) {
-    match told {
-        Checked::Right => words(text, "ok"),
-        Checked::Wrong { place } => {
-            words(text, "bad");
-            field(text, place);
-        }
-        Checked::Refused { why, .. } => refusal(text, why.number()),
     }
 }
 

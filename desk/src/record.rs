@@ -111,7 +111,6 @@ impl Day {
             Err(flaw) => self.no_act(&words::flaw(line, &flaw)),
             Ok(Line::Recording { .. }) => self.no_act("W is no part of a day, which is recorded from its opening on"),
             Ok(Line::Shown) => self.no_act("D is no part of a day"),
-            Ok(Line::Check { .. }) => self.no_act("C is no part of a day"),
             Ok(opening @ Line::Opening { .. }) => self.open_again(&opening),
             Ok(act) => self.act(&act),
         }

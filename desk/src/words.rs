@@ -48,8 +48,6 @@ pub fn flaw(line: &[u8], flaw: &Flaw) -> String {
         What::NoByte => format!("a byte of a frame is over 255: it ends at byte {}", flaw.at),
         What::NoBoard => format!("{found} at byte {place}, where a board such as s5, h5 or g3/0/2 should be"),
         What::NoSlash => format!("{found} at byte {place}, where a slash and a number of the garden board should be"),
-        What::NoHex => format!("{found} at byte {place}, where hex should be, with lower-case digits"),
-        What::OddHex => format!("{found} at byte {place}, where the second hex digit of a byte should be"),
     };
     format!("no line of the workshop: {why}")
 }
@@ -64,7 +62,7 @@ fn byte_at(line: &[u8], at: usize) -> String {
     }
 }
 
-/// What an answer's numbers say: those of a listing, entry by entry, those of the fault line, those of a recording and of a check.
+/// What an answer's numbers say: those of a listing, entry by entry, those of the fault line, and those of a recording.
 pub fn answer(answer: &Answer) -> Option<String> {
     match answer {
         Answer::Listed([]) => Some("nothing has latched since the opening".to_string()),
@@ -73,7 +71,6 @@ pub fn answer(answer: &Answer) -> Option<String> {
         Answer::Up(adomvik::Line { looked, .. }) => Some(format!("nothing is up on {}", counted(*looked, "board"))),
         Answer::Recording(Ok(())) => Some("what follows is recorded".to_string()),
         Answer::Shown(recording) => Some(counted(recording.len(), "byte")),
-        Answer::Checked(told) => Some(checked(*told)),
         _ => None,
     }
 }

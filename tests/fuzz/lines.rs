@@ -1,7 +1,7 @@
 //! The workshop's lines under a fuzzer: any bytes as a session. It has one answer for each line, and a second for each act of a
 //! recording; each is of a form of the page, a recording that is shown can be told in words and is right, the pieces that the input
 //! comes in make no difference, and a person is told the same and more. The same bytes are no recording, mostly: telling them ends,
-//! and where that finds them damaged, and only there, they are not checked. So with each line of hex that is to be checked.
+//! and where that finds them damaged, and only there, they are not checked.
 #![allow(dead_code)]
 
 #[path = "../../desk/src/acts.rs"]
@@ -88,18 +88,6 @@ fn checked(bytes: &[u8]) -> (bool, String) {
     (right, said)
 }
 
-/// Whether a line that begins with `C` has its answer: that the line is malformed, or what is said of its bytes.
-fn is_check(line: &[u8], answer: &[u8]) -> bool {
-    let digits = if line == b"C" { Some(&line[1..]) } else { line.strip_prefix(b"C ").filter(|digits| !digits.is_empty()) };
-    let Some(bytes) = digits.and_then(bytes_of) else { return answer == b"no 12" };
-    let (right, said) = checked(&bytes);
-    match std::str::from_utf8(answer).unwrap().split_once(' ') {
-        None => right && answer == b"ok",
-        Some(("bad", place)) => said.contains(&format!(": the answer of act {place} is wrong\n")),
-        Some((_, number)) => said.starts_with(&format!("cannot be read: no {number}, ")),
-    }
-}
-
 fn is_answer(answer: &[u8]) -> bool {
     if let Some(digits) = answer.strip_prefix(b"hex ") {
         return bytes_of(digits).is_some_and(|recording| checked(&recording).0);
@@ -107,8 +95,7 @@ fn is_answer(answer: &[u8]) -> bool {
     let (words, numbers) = shape(answer);
     match words.as_str() {
         "ok" => true,
-        "no #" => (1..=15).contains(&numbers[0]) || (17..=19).contains(&numbers[0]),
-        "bad #" => numbers[0] > 0,
+        "no #" => (1..=15).contains(&numbers[0]),
         "rec #" => [0, 15, 16].contains(&numbers[0]),
         "st # bal #" => numbers[0] <= 255 && numbers[0] & 32 == 0 && numbers[1] < 1024,
         "re # # # #" => numbers.iter().all(|byte| *byte <= 255),
@@ -129,11 +116,7 @@ fn all_answered(asked: &[&[u8]], told: &[&[u8]]) -> bool {
         if verdict(answer) != (line.starts_with(b"W") && !answer.starts_with(b"no ")) {
             return false;
         }
-        let opens = *answer == b"ok" && !line.starts_with(b"C");
-        (acted, recorded) = if opens { (false, false) } else { (acted || act, recorded || verdict(answer) && !acted) };
-        if line.starts_with(b"C") && !is_check(line, answer) {
-            return false;
-        }
+        (acted, recorded) = if *answer == b"ok" { (false, false) } else { (acted || act, recorded || verdict(answer) && !acted) };
         if act && recorded && !told.next().map_or(false, verdict) {
             return false;
         }

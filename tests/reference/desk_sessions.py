@@ -2,8 +2,8 @@
 
 The sessions of sessions.py, whose stretches meet every delay and level, with
 the workshop's own line forms in between: boards by kind, lent rooms, journals,
-recordings and checks of them, long lists, long lines. A form that a request
-brings is one more scenario here.
+recordings, long lists, long lines. A form that a request brings is one more
+scenario here.
 
 Rows have host boards among the others. Their latches stay, so that most
 scenes on them end in writes to register 1, after samples about the levels
@@ -19,23 +19,16 @@ Many days are recorded. The room of a recording is chosen when its acts are
 there and the reference knows where each ends: at one of these ends or a byte
 beside it. In long days it is the last act that is made to fit, for there the
 end is fixed.
-
-Recordings are checked anywhere, before openings and while others run: the
-beginning of the session's own last day, or boards and acts that are made up. Of
-most of them acts are swapped, doubled, left out or answered otherwise, or bytes
-are changed, cut off or added, above all at the fields that may not have every
-value and at the ends of acts.
 """
 
 from itertools import accumulate
 
-from recording import ANSWER_BYTES, FRAME, READING, SAMPLE, Act, Recording, frame_body, reading_body, right, sample_body
-from reference import DEVICES, GARDEN, HOST, STAND_ALONE, Plan, Settings, Stack, crc8
+from reference import DEVICES, GARDEN, HOST, STAND_ALONE, Plan, Settings, crc8
 from sessions import LARGEST, LONGEST_ELAPSED, QUICK_US, Aim, Maker
 from workshop import LONGEST_LINE, Workshop
 
 # forms of requests that are not in force: malformed, until their scenario stands in their place
-LATER = ("V", "V 00 00 1", "V 0100 0100 0", "V 01000100000000000005 01000100000000000005 9")
+LATER = ("C", "C 0100", "C 01000100000000000005", "V 00 00 1", "V 0100 0100 0")
 
 # for each fault that a host board keeps: the register of its level and the mask of the level's code
 LEVELS = {"OV": (6, 0x07), "UV": (7, 0x0F), "OCD": (9, 0x0F), "SCD": (10, 0x0F)}
@@ -45,9 +38,6 @@ FLOODS = 0.01           # of the scenarios
 LONG_DAYS = 0.0015      # of the scenarios
 MOST_RECORDED = 65535   # bytes
 LONGEST_BODY = 255
-LONG_CHECKS = 0.03      # of the checks
-# a refused frame of no bytes is the shortest act
-SHORTEST_ACT = bytes((FRAME, 0, 6))
 
 
 def garden_settings(row, trigger):
@@ -414,8 +404,6 @@ class DeskMaker(Maker):
             self.put(f"L {self.pick(0, 1, 1, 2, 17)} {self.pick(0, 1, FULL, LARGEST)}")
         if self.chance(0.5):
             self.put(self.pick("D", "W 0", "W 46", f"W {LARGEST}"))
-        if self.chance(0.5):
-            self.pick(self.check, self.check, self.odd_check)()
         super().bare()
         if self.chance(0.5):
             self.listing(self.number())
@@ -504,9 +492,7 @@ class DeskMaker(Maker):
         """A recording of the day just opened, at times anew after others; `settle` chooses its room."""
         for _ in range(self.pick(0, 0, 0, 1, 2)):
             self.words("W", [self.room()])
-            self.pick(self.show, self.refused_opening, self.odd_recording, self.check, self.odd_check)()
-        if self.chance(0.15):
-            self.check()
+            self.pick(self.show, self.refused_opening, self.odd_recording)()
         self.begun = len(self.lines)
         self.words("W", [self.pick(MOST_RECORDED, MOST_RECORDED + 1, LARGEST)])
         self.known()
@@ -515,21 +501,16 @@ class DeskMaker(Maker):
             self.show()
 
     def settle(self):
-        """Show the recording that ends here, and check it. Its room is mostly cut to the end of one of its acts, an early one above
-        all."""
+        """Show the recording that ends here. Its room is mostly cut to the end of one of its acts, an early one above all."""
         if self.begun is None:
             return
         self.show()
         self.known()
         ends = list(accumulate(map(len, self.day.acts), initial=header(len(self.day.plans))))
-        room = MOST_RECORDED
         if self.chance(0.9):
-            room = self.rng.choice(ends[:self.pick(3, 10, 30, len(ends))]) + self.pick(-1, -1, 0, 0, 0, 1)
-            self.lines[self.begun] = b"W %d" % room
+            end = self.rng.choice(ends[:self.pick(3, 10, 30, len(ends))])
+            self.lines[self.begun] = b"W %d" % (end + self.pick(-1, -1, 0, 0, 0, 1))
         self.begun = None
-        acts = [act for act, end in zip(self.day.acts, ends[1:]) if end <= room]
-        if acts and self.chance(0.4):
-            self.put_check(self.spoiled(self.day.plans, acts))
 
     def show(self):
         """The recording, if there is one."""
@@ -583,9 +564,7 @@ class DeskMaker(Maker):
             self.pick(lambda: self.sample(number, self.elapsed(), self.calm(aim)), lambda: self.latch(number),
                       lambda: self.refused_sample(number), lambda: self.read(number), lambda: self.stage(number),
                       lambda: self.program(number), lambda: self.listing(number), self.reading, self.reading, self.odd_frame,
-                      self.short_room, self.wide, self.wide, self.refused_opening, self.late, self.show, self.check)()
-        for _ in range(self.pick(0, 1, 2)):
-            self.check()
+                      self.short_room, self.wide, self.wide, self.refused_opening, self.late, self.show)()
 
     def left(self):
         """How many bytes the recording could still take."""
@@ -605,156 +584,6 @@ class DeskMaker(Maker):
         for _ in range(3):
             self.pick(self.wide, self.reading, lambda: self.long_frame(0), self.late)()
         self.show()
-        # as it is or spoiled; at times with acts behind it that no recorder would have had room for
-        plans, acts = self.day.plans, self.day.acts
-        self.known()
-        for _ in range(self.pick(1, 2)):
-            self.put_check(self.spoiled(plans, acts + acts[:self.pick(0, 0, 1, 2, len(acts))]))
-
-    # -- checks of recordings
-
-    def made_sample(self, plans):
-        """A sample at the levels of the start, at the last number of a range, or with any number in a field."""
-        number = self.pick(*range(1, len(plans) + 1), *range(1, len(plans) + 1), 0, len(plans) + 1, 255)
-        count = plans[min(max(number, 1), len(plans)) - 1].cells + self.pick(0, 0, 0, 0, 0, 0, -1, 1, 11, 100)
-        fields = [number, self.pick(1, 1000, 20000, 100000, 100000), self.pick(0, 0, 1), self.pick(974, 975, 2000, 2000, 5000),
-                  self.pick(0, 0, -1, 10000, 10001, 60000, 60001, 500000, -500000)]
-        fields += [self.pick(1399, 1400, 4000, 4000, 4000, 4000, 4150, 4151, 5000) for _ in range(count)]
-        if self.chance(0.2):
-            at = self.rng.randrange(1, len(fields))
-            bits = {1: 32, 2: 8}.get(at, 16)
-            wide = self.pick(0, 1, 255, 256, 5001, 100001, 2**(bits - 1), 2**bits - 1) % 2**bits
-            fields[at] = self.pick(500001, -500001, 2**31 - 1, -2**31, -1, 65536, -65536) if at == 4 else wide
-        return SAMPLE, fields
-
-    def made_frame(self, plans):
-        """A frame to any register of a board, at times of another length, with a wrong check byte, or of any bytes."""
-        number, register = self.rng.randint(1, len(plans)), self.pick(0, 1, 6, 7, 8, 9, 10, 11, 11, 16, 19, 24, 255)
-        data = [2 * number + self.pick(0, 1, 1), register, self.pick(0, 0, 1, 6, 7, 0x41, 0x41, self.rng.randrange(256))]
-        data.append(crc8(data))
-        if self.chance(0.3):
-            at = self.rng.randrange(4)
-            data[at] = self.rng.randrange(256)
-            data = (data + [self.rng.randrange(256) for _ in range(251)])[:self.pick(0, 1, 3, 4, 4, 4, 5, 5, 8, 254, 255)]
-        return FRAME, data
-
-    def made_up(self):
-        """Boards and acts of no session, with their right answers."""
-        plans = [self.plan(self.rng.randint(5, 10), self.pick(0, 0.5, 1), 0) for _ in range(self.pick(1, 1, 1, 2, 3, 16))]
-        stack, recording = Stack(plans), Recording(plans, MOST_RECORDED)
-        bodies = {SAMPLE: sample_body, FRAME: lambda sent: frame_body(sent, 4), READING: lambda _sent: reading_body()}
-        for _ in range(self.pick(0, 1, 2, 3, 3, 5, 5, 8, 12, 20)):
-            make = self.pick(self.made_sample, self.made_sample, self.made_frame, self.made_frame, lambda _plans: (READING, []))
-            kind, sent = make(plans)
-            recording.acts.append(recording.piece(*bodies[kind](sent), *right(stack, Act(kind, sent, 0, ()))))
-        return plans, recording.acts
-
-    def many(self):
-        """More acts than a byte can count, or two, with their right answers."""
-        count = self.pick(254, 255, 256, 257, 300, 1000)
-        long = bytes((FRAME, LONGEST_BODY)) + bytes(LONGEST_BODY) + b"\6"
-        acts = self.pick([SHORTEST_ACT] * count, [SHORTEST_ACT] * 20000, [long] * self.pick(253, 254, 255, 580))
-        return [Plan(HOST, 5)], acts
-
-    def own(self):
-        """The beginning of the session's own last day, where there is one."""
-        self.known()
-        if self.day is None or not self.day.acts:
-            return self.made_up()
-        return self.day.plans, self.day.acts[:self.pick(1, 3, 5, 10, 20, 40, 80)]
-
-    def answered(self, act):
-        """The act with another answer: a number alone, or values, mostly one of which is off by one."""
-        sent = act[:2 + act[1]]
-        sizes = ANSWER_BYTES[act[0]]
-        number, values = act[len(sent)], bytearray(act[len(sent) + 1:])
-        if number != 0 or self.chance(0.4):
-            other = self.pick(0, 1, 2, 3, 4, 5, 6, 7, 7, 8, 9, 10, 11, 12, 13, 14, 15, 16, 17, 20, 128, 255)
-            given = self.pick(bytes(sum(sizes)), bytes(self.rng.randrange(256) for _ in range(sum(sizes)))) if other == 0 else b""
-            return sent + bytes((other,)) + given
-        at = self.rng.randrange(len(values))
-        values[at] = (values[at] + self.pick(1, -1, 2, 64, 128)) % 256
-        return sent + bytes((number,)) + values
-
-    def rearranged(self, acts):
-        """Acts swapped, doubled, left out or answered otherwise, a late one above all."""
-        acts = list(acts)
-        at, other = max(self.rng.randrange(len(acts)), self.rng.randrange(len(acts))), self.rng.randrange(len(acts))
-        what = self.rng.randrange(8)
-        if what == 0:
-            acts[at], acts[other] = acts[other], acts[at]
-        elif what == 1:
-            acts.insert(at, acts[other])
-        elif what == 2:
-            del acts[at]
-        else:
-            acts[at] = self.answered(acts[at])
-        return acts
-
-    def edge(self, boards, starts):
-        """A place of a recording where a field begins that may not have every value, and a byte about what it may have."""
-        places = [(0, (0, 1, 2, 255)), (1, (0, 1, 128)), (2, (0, 1, 15, 16, 17, boards - 1, boards + 1)), (3, (0, 1)), (4, (0, 1, 255)),
-                  (2, (0, 16, 17))]
-        board = 8 + 2 * self.rng.randrange(boards)
-        places += [(board, (0, 1, 2, 255)), (board + 1, (4, 5, 10, 11, 0, 255))]
-        if starts:
-            start = self.rng.choice(starts)
-            lengths = (0, 1, 3, 4, 5, 10, 11, 12, 13, 14, 22, 24, 254, 255)
-            places += [(start, (0, 1, 2, 3, 4, 255)), (start, (0, 4)), (start + 1, lengths)] * 2
-        at, values = self.rng.choice(places)
-        return at, self.rng.choice(values)
-
-    def scratched(self, data, boards, starts):
-        """A recording cut off, with bytes behind it, with another number of acts, or with a byte changed, also where it is cut off."""
-        what, at = self.rng.randrange(9), self.rng.randrange(len(data))
-        if what == 0:
-            return data[:self.pick(at, at, len(data) - 1, *range(8), self.rng.choice(starts or [8]) + self.pick(-1, 0, 1, 2))]
-        if what == 1:
-            return data + self.pick(b"\0", b"\4", SHORTEST_ACT, data[-8:], bytes(self.pick(1, 2, 300)))
-        if what == 2:
-            count = int.from_bytes(data[4:8], "little") + self.pick(-1, -1, 1, 1, 2, 256, 65536, 2**24, 2**31, -2)
-            return data[:4] + (count % 2**32).to_bytes(4, "little") + data[8:]
-        value = self.pick(data[at] ^ 1 << self.rng.randrange(8), (data[at] + self.pick(-1, 1)) % 256, self.rng.randrange(256))
-        if what < 7:
-            at, value = self.edge(boards, starts)
-        data = data[:at] + bytes((value,)) + data[at + 1:]
-        # nothing behind the field, or half of one
-        return data[:at + self.pick(1, 1, 2)] if what in (5, 6) else data
-
-    def spoiled(self, plans, acts):
-        """A recording of these acts, mostly with something wrong in them or in its bytes, at times in both."""
-        scratches = self.pick(0, 0, 0, 0, 1, 1, 2)
-        for _ in range(self.pick(0, 1, 1, 1, 2)):
-            acts = self.rearranged(acts) if acts else acts
-        recording = Recording(plans, MOST_RECORDED)
-        recording.acts = list(acts)
-        data = recording.memory()
-        starts = list(accumulate(map(len, acts), initial=header(len(plans))))[:-1]
-        for _ in range(scratches):
-            data = self.scratched(data, len(plans), starts) if len(data) > 12 else data
-        return data
-
-    def put_check(self, data):
-        """A check of these bytes."""
-        self.put(f"C {data.hex()}".strip())
-
-    def check(self):
-        """A check of a recording that is as it should be, or not quite."""
-        if self.chance(LONG_CHECKS):
-            self.put_check(self.spoiled(*self.many()))
-            return
-        plans, acts = self.pick(self.own, self.made_up)()
-        for _ in range(self.pick(1, 2, 4, 8)):
-            self.put_check(self.spoiled(plans, acts))
-
-    def odd_check(self):
-        """A recording that is not of its form, or something beside it; or a very short one."""
-        good = self.pick("0100010000000000000a", "0200", "0100010001000000000a0300000001010000")
-        self.put(self.pick("C ", " C", "C  ", f"C  {good}", f"C {good} ", f"C {good}0", f"C {good[:-1]}", f"C {good} {good}", f"C {good} 0",
-                           f"C{good}", f"c {good}", f"CC {good}", f"C@4 {good}", f"C {good.upper()}", f"C {good[:-1]}A", f"C {good[:-1]}g",
-                           f"C 0x{good}", f"C {good[:4]} {good[4:]}", f"C {good}\r", f"C {good}\0", f"C -{good}", f"C {good},{good}",
-                           f"C hex {good}", good, "bad 1", "C", "C", "C 01", "C 0100", "C 0200", "C 010001", "C 01000000",
-                           "C 0100110000000000", f"C {good}", f"C {good[:-1]}B", f"C {good[:-2]}"))
 
     # -- the workshop's own
 
@@ -822,12 +651,7 @@ class DeskMaker(Maker):
         """A well-formed line of so many bytes that opens nothing."""
         head, field, longer = self.pick((b"O", b" 5", b" 10"), (b"X", b" s5", b" s10"), (b"X", b" h5", b" h10"),
                                         (b"X", b" g3/0/1", b" g3/0/10"), (b"F", b" 1", b" 10"), (b"F@3", b" 25", b" 255"),
-                                        (b"S 1 1000 0 2000 0", b" 4000", b" 40000"), (b"C ", b"", b""))
-        if not field:
-            # one board of ten, a frame of one byte and as many of none as there is room for
-            acts = (size // 2 - 15) // 3
-            data = b"\1\0\1\0%b\0\12" % (1 + acts).to_bytes(4, "little") + b"\2\1\7\6" + SHORTEST_ACT * acts
-            return (head + data.hex().encode()).ljust(size, b"0")
+                                        (b"S 1 1000 0 2000 0", b" 4000", b" 40000"))
         count, more = divmod(size - len(head), len(field))
         return head + field * (count - more) + longer * more
 
@@ -836,8 +660,8 @@ class DeskMaker(Maker):
         self.rng.choices(
             (self.hosted, self.grown, self.short_room, self.odd_room, self.long_list, self.odd_boards, self.later, self.refused_opening,
              lambda: self.listing(self.number()), lambda: self.joining(self.number()), self.odd_listing, self.firsts, self.odd_question,
-             self.short_day, self.wide, self.late, self.show, self.odd_recording, self.check, self.odd_check, self.huge_line),
-            (14, 18, 8, 4, 6, 8, 3, 2, 12, 6, 4, 6, 3, 14, 6, 3, 4, 3, 30, 4, 0.1))[0]()
+             self.short_day, self.wide, self.late, self.show, self.odd_recording, self.huge_line),
+            (14, 18, 8, 4, 6, 8, 3, 2, 12, 6, 4, 6, 3, 14, 6, 3, 4, 3, 0.06))[0]()
 
     def play(self, length):
         """The last recording of a session ends with it."""

@@ -11,7 +11,7 @@ sys.dont_write_bytecode = True
 
 from recording import (FRAME, MOST_BYTES, READING, SAMPLE, Act, Damaged, Recording, first_wrong, frame_body,  # noqa: E402
                        read_back, reading_body, sample_body)
-from reference import HOST, STAND_ALONE, Plan, split_lines  # noqa: E402
+from reference import HOST, STAND_ALONE, Plan, Refusal, split_lines  # noqa: E402
 from selftest import FAILED, FIVE, GARDEN_ROWS, HIGH_BYTES, LOW_BYTES, expect, session, tallied  # noqa: E402
 from workshop import Workshop  # noqa: E402
 
@@ -2031,7 +2031,7 @@ def recorded_starts():
         X s4 -> no 1
         O -> no 1
         X q5 -> no 12
-        C 00 -> no 17
+        C 00 -> no 12
         V 00 00 1 -> no 12
         W 100 -> rec 0
         D -> {of_five("00000000")}
@@ -2109,7 +2109,7 @@ def recorded_starts():
         F 256 -> no 12
         S 1 1000 0 2000 -0 {{calm}} -> no 12
         W 100 1 -> no 12
-        C 0 -> no 12
+        C 00 -> no 12
         D -> {of_five("00000000")}
         2: D -> {of_five("00000000")}
         """, **FIVE)
@@ -2168,11 +2168,19 @@ def page_recording():
         """, **FIVE)
 
 
+def judged(data):
+    """What a check of these bytes comes to: `ok`, `bad` and the first wrong act's place, or `no` and a refusal's number."""
+    try:
+        place = first_wrong(data)
+    except Refusal as refusal:
+        return f"no {refusal.number}"
+    return f"bad {place}" if place else "ok"
+
+
 def checked(name, answer, *recordings):
-    """Each of these recordings, in hex, gets that answer."""
+    """Each of these recordings, in hex, comes to that."""
     for place, recording in enumerate(recordings, 1):
-        line = f"C {joined(recording)}".strip()
-        expect(f"{name}, recording {place}: {recording[:200]}", answer, Workshop().answer(line.encode()).decode())
+        expect(f"{name}, recording {place}: {recording[:200]}", answer, judged(bytes.fromhex(joined(recording))))
 
 
 def of_acts(*acts):
@@ -2420,68 +2428,6 @@ def checked_long():
     checked("the longest", "bad 18749", longest[:-2] + "01")
     checked("the longest", "no 17", longest[:-2])
     checked("the longest", "no 19", of_acts("02 01 01 06", *[READ] * 18748) + "00")
-    checked("a byte more", "no 12", longest + "00", of_acts("02 03 010203 06", *[READ] * 18748))
-
-
-def checked_lines():
-    """The page, Checking: it needs no opening, touches no stack and is no act."""
-    good, bad = of_acts(SAMPLED, READ), of_acts(SAMPLED, "03 00  00 00 00 01 00 00")
-    told("before an opening", f"""
-        C -> no 17
-        C 01 -> no 17
-        C 0200 -> no 18
-        C {good} -> ok
-        C {good}00 -> no 19
-        C {bad} -> bad 2
-        R -> no 1
-        D -> no 15
-        W 46 -> no 1
-        """)
-    told("between an opening and its recording", f"""
-        O 5 -> ok
-        C {good} -> ok
-        C {bad} -> bad 2
-        C -> no 17
-        C 0 -> no 12
-        D -> no 15
-        W 46 -> rec 0
-        C {good} -> ok
-        W 46 -> rec 0
-        S 1 1000 0 2000 0 {{calm}} -> st 192 bal 0 | rec 0
-        C {good} -> ok
-        C {good[:-2]} -> no 17
-        C {bad} -> bad 2
-        U -> up 0 1 | rec 15
-        W 46 -> rec 15
-        R -> ln 0 chg 1 dsg 1 at 0 0 | rec 0
-        C {good} -> ok
-        D -> hex {good}
-        R -> ln 0 chg 1 dsg 1 at 0 0 | rec 16
-        C {good} -> ok
-        D -> hex {good}
-        """, **FIVE)
-    # the checked days latch, program and have other boards; that of the desk has overtemperature and the settings of the start
-    day = joined("0100 0200 03000000 00 05 01 0a", "02 04  030601c4  00 030601c4", "02 04  030b41ea  00 030b012d",
-                 "03 00  00 00 00 00 00 00")
-    told("a stack of one's own", f"""
-        X s5 s6 -> ok
-        S 2 1000 0 974 0 {{calm}} 4000 -> st 16 bal 0
-        C {of_acts(*[FINE] * 6, TRIPPED)} -> ok
-        R -> ln 1 chg 0 dsg 0 at 0 0
-        U -> up 1 2
-        L 1 0 -> ls 0
-        L 2 1 -> ls 1 4 0 1
-        C {day} -> ok
-        F 2 6 0 168 -> re 2 6 0 168
-        F 2 11 0 * -> re 2 11 0 *
-        W 100 -> rec 15
-        S 1 100000 0 2000 0 {{one}} -> st 192 bal 0
-        C {of_acts(*[FINE] * 6, TRIPPED)} -> ok
-        5: S 1 100000 0 2000 0 {{one}} -> st 192 bal 0
-        C {of_acts(*[FINE] * 6)} -> ok
-        S 1 100000 0 2000 0 {{one}} -> st 68 bal 1
-        R -> ln 1 chg 0 dsg 0 at 1 1
-        """, **FIVE)
 
 
 def written(plans, acts):
@@ -2512,19 +2458,20 @@ def checked_shown():
 
 def page_checks():
     """The page's own checks."""
-    told("the page's checks", """
-        C 01000100020000000005011601e803000000d00700000000a00fa00fa00fa00fa00f00c000000300000001010000 -> ok
-        C 01000100020000000005011601e803000000d00700000000a00fa00fa00fa00fa00f00c000000300000000010000 -> bad 2
-        C 01000100020000000005011601e803000000d00700000000a00fa00fa00fa00fa00f00c0000003000000010100 -> no 17
-        C 02000100020000000005011601e803000000d00700000000a00fa00fa00fa00fa00f00c000000300000001010000 -> no 18
-        C 01000100020000000005011601e803000000d00700000000a00fa00fa00fa00fa00f00c00000030000000101000000 -> no 19
-        """)
+    day = of_acts(SAMPLED, READ)
+    checked("the page's checks", "ok", day)
+    checked("the page's checks", "bad 2", day[:-8] + "00" + day[-6:])
+    checked("the page's checks", "no 17", day[:-2])
+    checked("the page's checks", "no 18", "02" + day[2:])
+    checked("the page's checks", "no 19", day + "00")
 
 
 def later_forms():
     """Before their request lands."""
     told("later forms", """
         O 5 -> ok
+        C -> no 12
+        C 00 -> no 12
         V 00 00 1 -> no 12
         V -> no 12
         R -> ln 0 chg 1 dsg 1 at 0 0
@@ -2612,7 +2559,7 @@ def input_cases():
             (b"U", b"no 1\n"), (b"X s5\nU", b"ok\nup 0 1\n"), (b"X s5\nU\r\nU\n\n", b"ok\nno 12\nup 0 1\nno 12\n"),
             (b"X s5\nF@4 2 0 0 214", b"ok\nre 2 0 192 152\n"),
             (b"D", b"no 15\n"), (b"W 10", b"no 1\n"), (b"X s5\nW 10\r\nW 10\nD", b"ok\nno 12\nrec 0\nhex 01000100000000000005\n"),
-            (b"C", b"no 17\n"), (b"C\nC 0100\r\nC 0200\n\n", b"no 17\nno 12\nno 18\nno 12\n"), (b"C 01000100000000000005", b"ok\n"),
+            (b"C", b"no 12\n"), (b"C\nC 0100\r\nC 0200\n\n", 4 * b"no 12\n"), (b"C 01000100000000000005", b"no 12\n"),
             (b"X s5\nW 10\n\nR", b"ok\nrec 0\nno 12\nln 0 chg 1 dsg 1 at 0 0\nrec 16\n"),
             (b"O" + b" 5" * 150000, b"no 12\n"), (b"O" + b" 5" * 150000 + b"\nR\n", b"no 12\nno 1\n")):
         expect(f"input {data[:30]!r}", wanted, Workshop().answers(data))
@@ -2627,7 +2574,7 @@ def main():
                  journal_rooms, journal_floods, page_journal, ups_along_a_row, ups_of_hosts, ups_of_gardens, ups_refused, page_ups,
                  recorded_headers, recorded_acts, recorded_refusals, recorded_ends, recorded_fields, recorded_others, recorded_order,
                  recorded_starts, recorded_fills, page_recording, checked_cuts, checked_headers, checked_kinds, checked_order,
-                 checked_answers, checked_days, checked_hosts, checked_long, checked_lines, checked_shown, page_checks, later_forms,
+                 checked_answers, checked_days, checked_hosts, checked_long, checked_shown, page_checks, later_forms,
                  raw_lines, long_lengths, input_cases):
         part()
     sys.exit(1 if FAILED else 0)

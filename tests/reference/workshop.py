@@ -17,8 +17,7 @@ from itertools import chain
 
 sys.dont_write_bytecode = True
 
-from recording import (NOT_RECORDABLE, Recording, first_wrong, frame_body, other_body, reading_body,  # noqa: E402
-                       sample_body)
+from recording import NOT_RECORDABLE, Recording, frame_body, other_body, reading_body, sample_body  # noqa: E402
 from reference import (GARDEN, HOST, LARGEST_NUMBER, STAND_ALONE, Plan, Refusal, Sample, Stack,  # noqa: E402
                        split_lines, stand_alone)
 
@@ -32,7 +31,6 @@ MODEL_ENTRIES = 160
 NUMBER = rb"(?:0|[1-9][0-9]{0,9})"
 SHUNT = rb"(?:0|-?[1-9][0-9]{0,9})"
 BOARD = rb"(?:[sh]%b|g%b/%b/%b)" % (NUMBER, NUMBER, NUMBER, NUMBER)
-HEX = rb"(?:[0-9a-f]{2})+"
 KINDS = {b"s": STAND_ALONE, b"h": HOST, b"g": GARDEN}
 
 
@@ -154,11 +152,6 @@ class Workshop:
             raise Refusal(NOT_RECORDABLE)
         return b"hex " + self.recording.shown().hex().encode()
 
-    def check(self, recording):
-        """Is every answer in it right? That has to do with no stack and no recording of this desk."""
-        place = first_wrong(recording)
-        return b"bad %d" % place if place else b"ok"
-
     def answers(self, data):
         """The whole output for a whole input."""
         return b"".join(self.answer(line) + b"\n" for line in split_lines(data))
@@ -195,8 +188,6 @@ FORMS = (
      lambda fields: (numbers(fields),), Workshop.begin),
     (re.compile(rb"D"),
      lambda: (), Workshop.show),
-    (re.compile(rb"C(?: (%b))?" % HEX),
-     lambda digits: (bytes.fromhex((digits or b"").decode()),), Workshop.check),
 )
 
 

@@ -4,8 +4,9 @@
 ghost use Rattle.std.specs.Prelude.{◌≤◌, length};
 
 use held::Stack;
-use libc::{STDIN_FILENO, STDOUT_FILENO};
 use lines::Cutter;
+use std::io;
+use std::io::{Read, Write};
 
 // The line that is open, the stack, and whether the output still takes answers.
 #[derive(Clone, Copy)]
@@ -16,7 +17,7 @@ struct Bench {
 }
 
 // Feeds a block and writes its answers out, in more than one go where out is too small for all of them.
-fn block_in(b: Bench, block: &[u8], out: &mut [u8]) -> Bench
+fn block_in<W: Write>(b: Bench, block: &[u8], out: &mut [u8], to: &mut W) -> Bench
     requires { 32 ≤ length out.old }
 {
     let mut cutter = b.cutter;
@@ -30,7 +31,7 @@ fn block_in(b: Bench, block: &[u8], out: &mut [u8]) -> Bench
         let s = fed.stack;
         cutter = c;
         stack = s;
-        if io::write_all(STDOUT_FILENO, &out[..wrote]) {
+        if to.write_all(&out[..wrote]).is_ok() {
             at += used;
         } else {
             return Bench {
@@ -48,22 +49,24 @@ fn block_in(b: Bench, block: &[u8], out: &mut [u8]) -> Bench
 }
 
 // Every block's complete lines are answered before the next is read. A refused opening gives the stack without boards to begin with.
-fn main() {
-    let mut input = io::large_buffer();
-    let mut out = io::large_buffer();
+// An output that takes no more ends it quietly, a read that fails by its error.
+fn main(rt: HostRuntime) -> io::Result<()> {
+    let mut from = rt.stdin();
+    let mut to = rt.stdout();
+    let mut input = [0u8; 65536];
+    let mut out = [0u8; 65536];
     let mut cutter = lines::new_cutter();
     let start = held::open_held(&[]);
     let mut stack = start.stack;
     let mut turns = u64::MAX;
     while turns > 0 {
         turns -= 1;
-        let got = libc::read(STDIN_FILENO, &mut input);
-        let n = io::count(got, &input);
+        let n = from.read(&mut input)?;
         if n == 0 {
             let last = session::finish(cutter, stack, &mut out);
             let wrote = last.wrote;
-            io::write_all(STDOUT_FILENO, &out[..wrote]);
-            return;
+            let _ = to.write_all(&out[..wrote]);
+            return Ok(());
         }
         let b = block_in(
             Bench {
@@ -73,6 +76,7 @@ fn main() {
             },
             &input[..n],
             &mut out,
+            &mut to,
         );
         if b.heard {
             let c = b.cutter;
@@ -80,7 +84,8 @@ fn main() {
             cutter = c;
             stack = s;
         } else {
-            return;
+            return Ok(());
         }
     }
+    Ok(())
 }

@@ -1,0 +1,5 @@
+-- the turns run out
+use Rattle.bench.proofs.main.Given as goal
+
+abbrev pub decreases-loop-turns : goal.decreases-loop-turns
+decreases-loop-turns l = l.turns
