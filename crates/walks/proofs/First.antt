@@ -16,7 +16,7 @@ use lib.Dec.{lit<}
 use lib.ListN.{length, get_or, drop as drop_n, drop_of_length-le}
 use lib.Seq.{drop-cons}
 use seplogic.Ra.Ura.{Ura}
-use mir.Syntax.{Name, Fn, Body as Code, w64, ty_int, ty_bool, ty_ptr, place, int, skip, cond as condition, call, return, rv_opd, Local}
+use mir.Syntax.{Callee, Fn, Body as Code, w64, ty_int, ty_bool, ty_ptr, place, int, skip, cond as condition, call, return, rv_opd, Local}
 use mir.Val.{Val, vint}
 use base.Logic.{SProp, ent}
 use base.Fml.{Lft, Share, flft}
@@ -42,9 +42,9 @@ use Rattle.walks.proofs.OverRow.{Locals, Places, count-on, loop-code, opened, Tu
 pub record Shape : Type 2 where
   pub T : D.Declared
   pub O : RattleType
-  pub f : Name
-  pub at : Name
-  pub none : Name
+  pub f : Callee
+  pub at : Callee
+  pub none : Callee
   pub hit : T.D → Bool
   pub tells : ℕ → O.Denot
   pub ends : ℕ → O.Denot
@@ -82,7 +82,7 @@ module _ (s : Shape) where
   locals = record { i = 2; n = 3; c = 4; p = 6; r = 7 }
 
   -- what a function of the index gives is the answer
-  abbrev told-by : Name → Code
+  abbrev told-by : Callee → Code
   told-by h = steps (call h (it 2 ∷ []) (place 0 []) ∷ []) return
 
   abbrev turn : Code

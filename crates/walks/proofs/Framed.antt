@@ -12,7 +12,7 @@ use mathlib.Core.List.{[], ◌∷◌, List}
 use lib.Dec.{T as Holds}
 use lib.ListN.{length}
 use seplogic.Ra.Ura.{Ura}
-use mir.Syntax.{Name, Fn, Body as Code, erased, mut, w64, ty_int, ty_bool, place, skip, cond, call, return, rv_opd, Local}
+use mir.Syntax.{Callee, Fn, Body as Code, erased, mut, w64, ty_int, ty_bool, place, skip, cond, call, return, rv_opd, Local}
 use mir.Val.{Val}
 use base.Logic.{SProp, ent}
 use base.Fml.{Lft, Share, flft}
@@ -44,12 +44,12 @@ pub record Shape : Type 2 where
   pub Z : RattleType
   pub Y : RattleType
   pub O : RattleType
-  pub f1 : Name
-  pub done-fn : Name
-  pub told-fn : Name
-  pub part : Name
-  pub f2 : Name
-  pub f3 : Name
+  pub f1 : Callee
+  pub done-fn : Callee
+  pub told-fn : Callee
+  pub part : Callee
+  pub f2 : Callee
+  pub f3 : Callee
   -- of the callees and of g: what is asked, whether that is enough and what it tells, what f3 needs, the answers, and what is left in the row and in the reply
   pub apart : List E.Denot → ℕ → X.Denot
   pub is-done : X.Denot → Bool

@@ -16,7 +16,7 @@ use Prim.Native.Nat.{ℕ, suc, ◌≤◌}
 use mathlib.Core.List.{List, [], ◌∷◌, ◌++◌}
 use mathlib.Core.Option.{some}
 use seplogic.Ra.Ura.{Ura}
-use mir.Syntax.{Name, Local, Body, seq, call, named, erased, mut, place, deref, addr_of}
+use mir.Syntax.{Callee, Local, Body, seq, call, named, erased, mut, place, deref, addr_of}
 use mir.Val.{Val, vptr}
 use base.Logic.{SProp, ent, sep, via, id⊢, snd∗, emp∗, comm∗, assoc∗, assoc', mono_l, mono_r}
 use base.Fml.{Fml, Lft, fres}
@@ -114,7 +114,7 @@ module _ {n m : ℕ} {Qs : List RattleType} {all : List (Kind n)} where
   moves (lends {R = R} h) ms i k = let r = moves h ms (suc i) (suc k) in ((λ b. steps (sets k (addr_of (place i (deref (ty R) ∷ []))) ∷ []) (r.0 b)), k ∷ r.1)
 
 -- the call of g with these arguments, and others in the locals ps before them. Its result goes to the d-th local
-abbrev pub calling : {n m : ℕ} {Qs : List RattleType} {all ks : List (Kind n)} {ls : List (Kind m)} → Hands Qs all ks ls → List ℕ → Name → Spots Qs → (i d k : ℕ) → Body → Body
+abbrev pub calling : {n m : ℕ} {Qs : List RattleType} {all ks : List (Kind n)} {ls : List (Kind m)} → Hands Qs all ks ls → List ℕ → Callee → Spots Qs → (i d k : ℕ) → Body → Body
 calling h ps g ms i d k rest = let r = moves h ms i k in r.0 (seq (call g (its (ps ++ r.1)) (place d [])) rest)
 
 -- ---- what is known of the values at hand
@@ -397,7 +397,7 @@ module _ {M : Type 1} {𝓤 : Ura M} (𝓛 : Logic 𝓤) {C : Calls 𝓤 𝓛.H}
 module _ {M : Type 1} {𝓤 : Ura M} (𝓛 : Logic 𝓤) (𝓣 : Tables 𝓤 𝓛.H) (E : Layout) (f : Form) (N : Plains 𝓛 f.params) (μs : Lfts f.lifetimes) (qs : Shares f.lifetimes) (a : Passed μs f.params) (P : PlainType 𝓛 f.result) where
   open 𝓛 use {H}
 
-  pub calls-in : {g : Name} → Triple 𝓤 (𝓣.C g) (met f 𝓤 𝓛) → Sure 𝓛 μs f.params N a → (us : Store) (ps : List ℕ) → Lie E us ps (words 𝓛 μs f.params N a) → (d : ℕ) → Local-is E d (ty f.result) → (X Z : SProp 𝓤) → ent 𝓤 X (sep 𝓤 (⋆ 𝓛 (tokens f.lifetimes μs qs ++ given-of μs f.params a)) Z) → {rest : Body} {q : After 𝓤 H}
+  pub calls-in : {g : Callee} → Triple 𝓤 (𝓣.C g) (met f 𝓤 𝓛) → Sure 𝓛 μs f.params N a → (us : Store) (ps : List ℕ) → Lie E us ps (words 𝓛 μs f.params N a) → (d : ℕ) → Local-is E d (ty f.result) → (X Z : SProp 𝓤) → ent 𝓤 X (sep 𝓤 (⋆ 𝓛 (tokens f.lifetimes μs qs ++ given-of μs f.params a)) Z) → {rest : Body} {q : After 𝓤 H}
       → ((r : f.result.Denot) (ws : Lasting μs f.params a) → f.says_of μs a r (left_at f μs a ws) → Lens μs f.params a ws → Is f.result r (P.val r ∷ [])
       → Seq (Go {0}) 𝓛 (raw (frame 𝓤 H E (put d (some (P.val r)) us)) ∷ raw (sep 𝓤 (⋆ 𝓛 (tokens f.lifetimes μs qs ++ finals μs f.params a ws)) Z) ∷ []) (runs 𝓣.C 𝓣.Λ E rest q))
       → Seq (Go {0}) 𝓛 (raw (frame 𝓤 H E us) ∷ raw X ∷ []) (runs 𝓣.C 𝓣.Λ E (seq (call g (its ps) (place d [])) rest) q)

@@ -14,7 +14,7 @@ use mathlib.Core.List.{List, [], ◌∷◌, ◌++◌, map}
 use lib.Dec.{T as Holds}
 use lib.ListN.{length, take, length-take, drop as drop_n, take-append-drop, length-map}
 use seplogic.Ra.Ura.{Ura}
-use seplogic.Ra.TreeShare.{full_share}
+use base.Fraction.{full_share}
 use mir.Syntax.{Ty, named}
 use mir.Val.{Val, WT, has_ty, vstruct, vcons, vnil}
 use base.Logic.{ent, sep, ex}

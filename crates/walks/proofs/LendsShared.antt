@@ -9,8 +9,8 @@ use Prim.Native.Nat.{ℕ, ◌≤◌}
 use mathlib.Core.List.{[], ◌∷◌, List}
 use lib.ListN.{take}
 use seplogic.Ra.Ura.{Ura}
-use seplogic.Ra.TreeShare.{full_share}
-use mir.Syntax.{Name, Fn, erased, imm, w64, place, local, memory_slot, call, return, rv_opd, Local, Body}
+use base.Fraction.{full_share}
+use mir.Syntax.{Callee, Fn, erased, imm, w64, place, local, memory_slot, call, return, rv_opd, Local, Body}
 use prog.Wp.{Tables}
 use types.Logic.{Logic}
 use types.Kit.{◌$◌, !, by, move}
@@ -34,7 +34,7 @@ pub record Shape : Type 2 where
   pub T : D.Declared
   pub O : RattleType
   pub N : ℕ
-  pub f : Name
+  pub f : Callee
   -- what f's contract says, and what g's says
   pub F : List T.D → O.Denot
   pub all : List T.D → ℕ → O.Denot

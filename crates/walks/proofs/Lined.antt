@@ -9,7 +9,7 @@ use mathlib.Core.Path.{◌≡◌, refl, ◌∙◌}
 use mathlib.Core.List.{[], ◌∷◌, List}
 use lib.ListN.{length}
 use seplogic.Ra.Ura.{Ura}
-use mir.Syntax.{Name, Fn, erased, mut, place, call, return, Local, Body}
+use mir.Syntax.{Callee, Fn, erased, mut, place, call, return, Local, Body}
 use base.Fml.{Lft, Share}
 use prog.Wp.{Tables}
 use types.Logic.{Logic}
@@ -37,10 +37,10 @@ pub record Shape : Type 2 where
   pub Z : RattleType
   pub Y : RattleType
   pub O : RattleType
-  pub f1 : Name
-  pub part : Name
-  pub f2 : Name
-  pub f3 : Name
+  pub f1 : Callee
+  pub part : Callee
+  pub f2 : Callee
+  pub f3 : Callee
   -- of f1, part, f2 and f3, and of g: what is asked, its part, the answers, and what is left in the row and in the output
   pub asks : S.Denot → List E.Denot → X.Denot
   pub part_of : X.Denot → Z.Denot

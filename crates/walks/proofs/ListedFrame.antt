@@ -10,8 +10,8 @@ use Prim.Native.Nat.{ℕ, ◌≤◌}
 use mathlib.Core.List.{[], ◌∷◌, List}
 use lib.ListN.{length, take}
 use seplogic.Ra.Ura.{Ura}
-use seplogic.Ra.TreeShare.{full_share}
-use mir.Syntax.{Name, Fn, erased, mut, imm, w64, ty_int, place, Local, local, value_local, memory_slot, call, return, rv_opd, Body}
+use base.Fraction.{full_share}
+use mir.Syntax.{Callee, Fn, erased, mut, imm, w64, ty_int, place, Local, local, value_local, memory_slot, call, return, rv_opd, Body}
 use base.Fml.{Lft, Share}
 use prog.Wp.{Tables}
 use types.Logic.{Logic}
@@ -43,12 +43,12 @@ pub record Shape : Type 2 where
   pub L : ℕ
   pub Y : RattleType
   pub O : RattleType
-  pub f1 : Name
-  pub f2 : Name
-  pub f3 : Name
-  pub f4 : Name
-  pub f : Name
-  pub h : Name
+  pub f1 : Callee
+  pub f2 : Callee
+  pub f3 : Callee
+  pub f4 : Callee
+  pub f : Callee
+  pub h : Callee
   -- what the contracts of f1 to f4, f and h say, and what g's says
   pub bytes : X.Denot → List E.Denot
   pub many : X.Denot → ℕ

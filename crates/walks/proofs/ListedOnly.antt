@@ -10,8 +10,8 @@ use Prim.Native.Nat.{ℕ, ◌≤◌}
 use mathlib.Core.List.{[], ◌∷◌, List}
 use lib.ListN.{length, take}
 use seplogic.Ra.Ura.{Ura}
-use seplogic.Ra.TreeShare.{full_share}
-use mir.Syntax.{Name, Fn, erased, mut, imm, w64, ty_int, place, local, memory_slot, call, return, rv_opd, Local, Body}
+use base.Fraction.{full_share}
+use mir.Syntax.{Callee, Fn, erased, mut, imm, w64, ty_int, place, local, memory_slot, call, return, rv_opd, Local, Body}
 use base.Fml.{Lft, Share}
 use prog.Wp.{Tables}
 use types.Logic.{Logic}
@@ -41,10 +41,10 @@ pub record Shape : Type 2 where
   pub K : ℕ
   pub Y : RattleType
   pub O : RattleType
-  pub f1 : Name
-  pub f2 : Name
-  pub f : Name
-  pub h : Name
+  pub f1 : Callee
+  pub f2 : Callee
+  pub f : Callee
+  pub h : Callee
   -- what the contracts of f1, f2, f and h say, and what g's says
   pub cells : X.Denot → List E.Denot
   pub many : X.Denot → ℕ

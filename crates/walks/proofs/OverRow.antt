@@ -20,7 +20,7 @@ use lib.ListN.{length, get_or}
 use lib.WfN.{lt-wf_rel}
 use borrow.Author.Tests.{lt-ltb, le-ltb}
 use seplogic.Ra.Ura.{Ura}
-use seplogic.Ra.TreeShare.{full_share}
+use base.Fraction.{full_share}
 use mir.Syntax.{Ty, Body as Code, w64, unsigned, lt, add, ty_int, ty_bool, ty_ptr, deref, place, copy, int, skip, seq, cond, block, loop, exit, rv_opd, op2}
 use mir.Val.{Val, WT, has_ty, vint, vptr, vbool}
 use base.Logic.{SProp}

@@ -22,7 +22,7 @@ use mathlib.Core.Option.{some}
 use mathlib.Core.Bool.{Bool, false, not}
 use lib.Dec.{T as Holds}
 use seplogic.Ra.Ura.{Ura}
-use mir.Syntax.{Name, Fn, Local, Body, place, ty_bool, opd_false, rv_opd, skip, cond, seq, call, return}
+use mir.Syntax.{Callee, Fn, Local, Body, place, ty_bool, opd_false, rv_opd, skip, cond, seq, call, return}
 use mir.Val.{Val, vbool}
 use base.Logic.{SProp, ent, sep, emp, via, fst∗, snd∗, emp∗, comm∗, assoc∗, assoc', mono∗, mono_l, mono_r}
 use prog.Wp.{Tables, at_return, returns as returned}
@@ -227,7 +227,7 @@ module _ {M : Type 1} {𝓤 : Ura M} {𝓛 : Logic 𝓤} {g : Form} (c : Scene �
   Suits S = (r : g.result.Denot) (ws : Lasting t.lfts ls sent) → S t.lfts sent r (outs t.lfts (slots ls) (all yes (slots ls)) sent ws) → Says c r (ends_by ws)
 
   -- one step for it, at a result of the type O. The caller then makes Δ of what comes back beside the tokens
-  calls-h : Fit → (O : RattleType) (P : PlainType 𝓛 O) (S : Said ls O) (f : Name) → Triple 𝓤 (c.𝓣.C f) (met (record { lifetimes = m; params = ls; result = O; says_of = S }) 𝓤 𝓛) → (E : Layout) (us : Store) (ms : Spots Qs) (d k : ℕ) (q : After 𝓤 H) (rest : Body) → Hand c Qs ms hs E us k → Locals-are E k (fresh h) → Local-is E d (ty O)
+  calls-h : Fit → (O : RattleType) (P : PlainType 𝓛 O) (S : Said ls O) (f : Callee) → Triple 𝓤 (c.𝓣.C f) (met (record { lifetimes = m; params = ls; result = O; says_of = S }) 𝓤 𝓛) → (E : Layout) (us : Store) (ms : Spots Qs) (d k : ℕ) (q : After 𝓤 H) (rest : Body) → Hand c Qs ms hs E us k → Locals-are E k (fresh h) → Local-is E d (ty O)
       → (Δ : Lasting t.lfts ls sent → List (Item 𝓤)) → ((ws : Lasting t.lfts ls sent) → ent 𝓤 (sep 𝓤 (⋆ 𝓛 (finals t.lfts ls sent ws)) left_here) (⋆ 𝓛 (Δ ws)))
       → ((us' : Store) (r : O.Denot) (ws : Lasting t.lfts ls sent) → Same k us us' → S t.lfts sent r (outs t.lfts (slots ls) (all yes (slots ls)) sent ws) → Lens t.lfts ls sent ws → Is O r (P.val r ∷ []) → Runs c E (put d (some (P.val r)) us') (⋆ 𝓛 (keys c ++ Δ ws)) rest q)
       → Runs c E us (whole c) (calling h [] f ms 1 d k rest) q
@@ -251,7 +251,7 @@ module _ {M : Type 1} {𝓤 : Ura M} {𝓛 : Logic 𝓤} {g : Form} (c : Scene �
 module _ {M : Type 1} {𝓤 : Ura M} {𝓛 : Logic 𝓤} {g : Form} {c : Scene 𝓛 g} {Qs : List RattleType} {hs : Held 𝓛 Qs} {m : ℕ} (ls : List (Kind m)) (t : Keys c m) (h : Hands Qs g.params g.params ls) where
   open 𝓛 use {H}
 
-  pub calls-on : (S : Said ls g.result) (f : Name) → Triple 𝓤 (c.𝓣.C f) (met (record { lifetimes = m; params = ls; result = g.result; says_of = S }) 𝓤 𝓛) → Fit c hs ls t h → Suits c hs ls t h S → Piece c Qs hs [] (fresh h) (λ ms j k. calling h [] f ms 1 zero k return)
+  pub calls-on : (S : Said ls g.result) (f : Callee) → Triple 𝓤 (c.𝓣.C f) (met (record { lifetimes = m; params = ls; result = g.result; says_of = S }) 𝓤 𝓛) → Fit c hs ls t h → Suits c hs ls t h S → Piece c Qs hs [] (fresh h) (λ ms j k. calling h [] f ms 1 zero k return)
   calls-on S f meets e y = record {
     walks = λ E us ms j k q le h₀ named are w.
         calls-h c hs ls t h e g.result c.answer S f meets E us ms zero k q return (still-hand c (λ _ _. refl) le h₀) are h₀.result (λ ws. last c (ends_by c hs ls t h ws)) (settled c.W c.κs t.lfts (values c hs) h c.plain c.passed) (λ us' r ws s says l is.
@@ -259,7 +259,7 @@ module _ {M : Type 1} {𝓤 : Ura M} {𝓛 : Logic 𝓤} {g : Form} {c : Scene �
         (exits c.W g c.plain c.κs c.qs c.passed c.answer (ends_by c hs ls t h ws) r (c.answer.val r) (y r ws says) (lengths 𝓛 c.κs t.lfts (values c hs) h c.plain c.passed ws l) is));
   }
 
-  pub tells-on : {Y : RattleType} (P : PlainType 𝓛 Y) (S : Said ls Y) (f : Name) → Triple 𝓤 (c.𝓣.C f) (met (record { lifetimes = m; params = ls; result = Y; says_of = S }) 𝓤 𝓛) → Fit c hs ls t h → (F : Y.Denot → g.result.Denot) (tell : Name) → Triple 𝓤 (c.𝓣.C tell) (met (of_one g.result Y F) 𝓤 𝓛)
+  pub tells-on : {Y : RattleType} (P : PlainType 𝓛 Y) (S : Said ls Y) (f : Callee) → Triple 𝓤 (c.𝓣.C f) (met (record { lifetimes = m; params = ls; result = Y; says_of = S }) 𝓤 𝓛) → Fit c hs ls t h → (F : Y.Denot → g.result.Denot) (tell : Callee) → Triple 𝓤 (c.𝓣.C tell) (met (of_one g.result Y F) 𝓤 𝓛)
       → ((r : Y.Denot) (ws : Lasting t.lfts ls (sent c hs ls t h)) → S t.lfts (sent c hs ls t h) r (outs t.lfts (slots ls) (all yes (slots ls)) (sent c hs ls t h) ws) → Says c (F r) (ends_by c hs ls t h ws))
       → Piece c Qs hs (by_values (ty Y ∷ [])) (fresh h) (λ ms j k. calling h [] f ms 1 j k (seq (call tell (it j ∷ []) (place zero [])) return))
   tells-on {Y} P S f meets e F tell meets' y = record {
@@ -274,7 +274,7 @@ module _ {M : Type 1} {𝓤 : Ura M} {𝓛 : Logic 𝓤} {g : Form} {c : Scene �
   }
 
   -- of a value at hand too
-  pub tells-with : {X Y : RattleType} (v : Var g.params Qs X) (P : PlainType 𝓛 Y) (S : Said ls Y) (f : Name) → Triple 𝓤 (c.𝓣.C f) (met (record { lifetimes = m; params = ls; result = Y; says_of = S }) 𝓤 𝓛) → Fit c hs ls t h → (F : X.Denot → Y.Denot → g.result.Denot) (tell : Name) → Triple 𝓤 (c.𝓣.C tell) (met (of_two g.result X Y F) 𝓤 𝓛)
+  pub tells-with : {X Y : RattleType} (v : Var g.params Qs X) (P : PlainType 𝓛 Y) (S : Said ls Y) (f : Callee) → Triple 𝓤 (c.𝓣.C f) (met (record { lifetimes = m; params = ls; result = Y; says_of = S }) 𝓤 𝓛) → Fit c hs ls t h → (F : X.Denot → Y.Denot → g.result.Denot) (tell : Callee) → Triple 𝓤 (c.𝓣.C tell) (met (of_two g.result X Y F) 𝓤 𝓛)
       → ((r : Y.Denot) (ws : Lasting t.lfts ls (sent c hs ls t h)) → S t.lfts (sent c hs ls t h) r (outs t.lfts (slots ls) (all yes (slots ls)) (sent c hs ls t h) ws) → Says c (F (values c hs X v).1 r) (ends_by c hs ls t h ws))
       → Piece c Qs hs (by_values (ty Y ∷ [])) (fresh h) (λ ms j k. calling h [] f ms 1 j k (seq (call tell (it (place_of v ms) ∷ it j ∷ []) (place zero [])) return))
   tells-with {X} {Y} v P S f meets e F tell meets' y = record {
@@ -291,7 +291,7 @@ module _ {M : Type 1} {𝓤 : Ura M} {𝓛 : Logic 𝓤} {g : Form} {c : Scene �
         (exits c.W g c.plain c.κs c.qs c.passed c.answer (ends_by c hs ls t h ws) z (c.answer.val z) (subst (λ (a : g.result.Denot). Says c a (ends_by c hs ls t h ws)) (sym told) (y r ws says)) (lengths 𝓛 c.κs t.lfts (values c hs) h c.plain c.passed ws l) z-is)));
   }
 
-  pub asks : {Q : RattleType} {P : PlainType 𝓛 Q} (F : (μs : Lfts m) → Passed μs ls → Q.Denot) (f : Name) → Triple 𝓤 (c.𝓣.C f) (met (record { lifetimes = m; params = ls; result = Q; says_of = λ μs a r e. r ≡ F μs a }) 𝓤 𝓛) → Fit c hs ls t h → Quiet 𝓛 c.κs t.lfts (values c hs) h
+  pub asks : {Q : RattleType} {P : PlainType 𝓛 Q} (F : (μs : Lfts m) → Passed μs ls → Q.Denot) (f : Callee) → Triple 𝓤 (c.𝓣.C f) (met (record { lifetimes = m; params = ls; result = Q; says_of = λ μs a r e. r ≡ F μs a }) 𝓤 𝓛) → Fit c hs ls t h → Quiet 𝓛 c.κs t.lfts (values c hs) h
       → Look c Qs hs Q P (F t.lfts (sent c hs ls t h)) (fresh h) (λ ms d k rest. calling h [] f ms 1 d k rest)
   asks {Q} {P} F f meets e quiet = record {
     looks = λ E us ms d k q rest h₀ are d-is go.
@@ -306,21 +306,21 @@ module _ {M : Type 1} {𝓤 : Ura M} {𝓛 : Logic 𝓤} {g : Form} {c : Scene �
 abbrev all-fresh : Form → List RattleType → List Local
 all-fresh g Qs = fresh (every {Qs = Qs} {all = g.params} g.params)
 
-abbrev all-passed : (g : Form) (Qs : List RattleType) → Name → Spots Qs → ℕ → ℕ → Body
+abbrev all-passed : (g : Form) (Qs : List RattleType) → Callee → Spots Qs → ℕ → ℕ → Body
 all-passed g Qs f ms j k = calling (every {Qs = Qs} {all = g.params} g.params) [] f ms 1 zero k return
 
 -- the calls that are made most: of no argument, of one value at hand, and of all parameters in their order
 module _ {M : Type 1} {𝓤 : Ura M} {𝓛 : Logic 𝓤} {g : Form} {c : Scene 𝓛 g} {Qs : List RattleType} {hs : Held 𝓛 Qs} where
-  pub nothing : {Q : RattleType} {P : PlainType 𝓛 Q} (z : Q.Denot) (f : Name) → Triple 𝓤 (c.𝓣.C f) (met (a-value Q z) 𝓤 𝓛) → Look c Qs hs Q P z [] (λ ms d k rest. seq (call f [] (place d [])) rest)
+  pub nothing : {Q : RattleType} {P : PlainType 𝓛 Q} (z : Q.Denot) (f : Callee) → Triple 𝓤 (c.𝓣.C f) (met (a-value Q z) 𝓤 𝓛) → Look c Qs hs Q P z [] (λ ms d k rest. seq (call f [] (place d [])) rest)
   nothing z f meets = asks [] no_keys stop (λ _ _. z) f meets tt tt
 
   pub no : Look c Qs hs bool (boolean c.W) false [] (λ ms d k rest. seq (sets d (rv_opd opd_false)) rest)
   no = record { looks = λ E us ms d k q rest h are d-is go. sets-in ! E us d d-is (tt, tt) (of_opd ! (false_lit !)) $ go us (λ _ _. refl) refl }
 
-  pub asks_of : {Q R : RattleType} {P : PlainType 𝓛 Q} (v : Var g.params Qs R) (F : R.Denot → Q.Denot) (f : Name) → Triple 𝓤 (c.𝓣.C f) (met (of_one Q R F) 𝓤 𝓛) → Look c Qs hs Q P (F (values c hs R v).1) [] (λ ms d k rest. seq (call f (it (place_of v ms) ∷ []) (place d [])) rest)
+  pub asks_of : {Q R : RattleType} {P : PlainType 𝓛 Q} (v : Var g.params Qs R) (F : R.Denot → Q.Denot) (f : Callee) → Triple 𝓤 (c.𝓣.C f) (met (of_one Q R F) 𝓤 𝓛) → Look c Qs hs Q P (F (values c hs R v).1) [] (λ ms d k rest. seq (call f (it (place_of v ms) ∷ []) (place d [])) rest)
   asks_of {R = R} v F f meets = asks (value R ∷ []) no_keys (found v stop) (λ _ x. F x.0) f meets tt tt
 
-  pub calls-all : let h : Hands Qs g.params g.params g.params = every g.params in (S : Said g.params g.result) (f : Name) → Triple 𝓤 (c.𝓣.C f) (met (record { lifetimes = g.lifetimes; params = g.params; result = g.result; says_of = S }) 𝓤 𝓛)
+  pub calls-all : let h : Hands Qs g.params g.params g.params = every g.params in (S : Said g.params g.result) (f : Callee) → Triple 𝓤 (c.𝓣.C f) (met (record { lifetimes = g.lifetimes; params = g.params; result = g.result; says_of = S }) 𝓤 𝓛)
       → Suits c hs g.params all-keys h S → Piece c Qs hs [] (all-fresh g Qs) (all-passed g Qs f)
   calls-all S f meets y = calls-on g.params all-keys (every g.params) S f meets (every-agrees 𝓛 c.κs (values c hs) g.params) y
 

@@ -15,8 +15,8 @@ use lib.Dec.{ltb, ltb→lt, nltb→le}
 use lib.ListN.{length, get_or, length-set}
 use lib.ListN.{set as set_at}
 use seplogic.Ra.Ura.{Ura}
-use seplogic.Ra.TreeShare.{full_share}
-use mir.Syntax.{Ty, Name, Local, Body, erased, imm, mut, w64, unsigned, lt, ty_int, ty_bool, ty_ptr, offset, addr_of, return, place, deref, copy, rv_opd, op2, seq, call, cond, skip}
+use base.Fraction.{full_share}
+use mir.Syntax.{Ty, Callee, Local, Body, erased, imm, mut, w64, unsigned, lt, ty_int, ty_bool, ty_ptr, offset, addr_of, return, place, deref, copy, rv_opd, op2, seq, call, cond, skip}
 use mir.Val.{Val, vint, vbool, vptr}
 use base.Logic.{SProp, ent, sep, via, id⊢, comm∗, mono_l, mono_r}
 use base.Fml.{Fml, Lft, Share, GName, flft, fres}
@@ -115,7 +115,7 @@ module _ {M : Type 1} {𝓤 : Ura M} {𝓛 : Logic 𝓤} {𝓣 : Tables 𝓤 �
 
 -- ---- a slice that is shown, the first parameter
 pub asks-slice : {M : Type 1} {𝓤 : Ura M} {𝓛 : Logic 𝓤} {𝓣 : Tables 𝓤 𝓛.H} {m : ℕ} {R : RattleType} {ks : List (Kind (suc m))} {O : RattleType} {S : Said (shown zero tt R ∷ ks) O} {N : Plains 𝓛 ks} {P₀ : PlainType 𝓛 O} {κs : Lfts (suc m)} {qs : Shares (suc m)} {a : Passed κs (shown zero tt R ∷ ks)} {so : Facts 𝓛 κs (shown zero tt R ∷ ks) N a}
-    {Qs : List RattleType} {hs : Held 𝓛 Qs} {Q : RattleType} {P : PlainType 𝓛 Q} (F : List R.Denot → Q.Denot) (g : Name) → Triple 𝓤 (𝓣.C g) (met (of-slice Q R F) 𝓤 𝓛) → Look (scene 𝓛 𝓣 (shown zero tt R ∷ ks) O S N P₀ κs qs a so) Qs hs Q P (F a.0.now) [] (λ ms d k rest. seq (call g (it 1 ∷ []) (place d [])) rest)
+    {Qs : List RattleType} {hs : Held 𝓛 Qs} {Q : RattleType} {P : PlainType 𝓛 Q} (F : List R.Denot → Q.Denot) (g : Callee) → Triple 𝓤 (𝓣.C g) (met (of-slice Q R F) 𝓤 𝓛) → Look (scene 𝓛 𝓣 (shown zero tt R ∷ ks) O S N P₀ κs qs a so) Qs hs Q P (F a.0.now) [] (λ ms d k rest. seq (call g (it 1 ∷ []) (place d [])) rest)
 asks-slice {R = R} F g meets = asks (shown zero tt R ∷ []) first_key (shows stop) (λ μs x. F x.0.now) g meets (refl, tt) tt
 
 -- ---- a record behind the first parameter
@@ -179,7 +179,7 @@ abbrev if-within : ℕ → ℕ → Body → Body → Body
 if-within n k b₁ b₂ = steps (sets k (rv_opd (len_of 1)) ∷ sets (suc k) (op2 (lt unsigned) (it n) (it k)) ∷ cond (it (suc k)) b₁ skip ∷ []) b₂
 
 -- the code by which its element at v is lent on
-abbrev lending : {n m : ℕ} {Qs : List RattleType} {all ks : List (Kind n)} {ls : List (Kind m)} → RattleType → Var all Qs usize → Hands Qs all ks ls → Name → Spots Qs → ℕ → ℕ → Body
+abbrev lending : {n m : ℕ} {Qs : List RattleType} {all ks : List (Kind n)} {ls : List (Kind m)} → RattleType → Var all Qs usize → Hands Qs all ks ls → Callee → Spots Qs → ℕ → ℕ → Body
 lending R v h g ms j k = steps (finds-elem R 1 (place_of v ms) k (suc k)) (seq (sets (suc (suc k)) (addr_of (place (suc k) (deref (ty R) ∷ [])))) (calling h (suc (suc k) ∷ []) g ms 2 zero (suc (suc (suc k))) return))
 
 -- the length of the row y, which is the first parameter, shown or handed on, and a place in it
@@ -206,7 +206,7 @@ module _ {M : Type 1} {𝓤 : Ura M} {𝓛 : Logic 𝓤} {g : Form} (c : Scene �
         forks (ltb i n) (λ y. p₁ (ltb→lt i n y)) (λ y. p₂ (nltb→le i n y)) E (put (suc k) (some w) us₁) ms (suc k) j (suc (suc k)) q are.1.0 (put-here (suc k) (some w) us₁) (up_to le (less (one_more (suc k)))) (still-hand c (λ n b. then_same (one_more k) s₁ (put_same (suc k) (some w) us₁) n (up_to b here)) (itself j) h') named are.1.1 e;
   }
 
-  finds-place : {Qs : List RattleType} {hs : Held 𝓛 Qs} {X : RattleType} (v : Var g.params Qs X) (F : X.Denot → ℕ) (f : Name) → Triple 𝓤 (c.𝓣.C f) (met (of_one usize X F) 𝓤 𝓛) → {ns₁ ns₂ ts₁ ts₂ : List Local} {b₁ b₂ : Spots (usize ∷ Qs) → ℕ → ℕ → Body} → let i = F (values c hs X v).1 in
+  finds-place : {Qs : List RattleType} {hs : Held 𝓛 Qs} {X : RattleType} (v : Var g.params Qs X) (F : X.Denot → ℕ) (f : Callee) → Triple 𝓤 (c.𝓣.C f) (met (of_one usize X F) 𝓤 𝓛) → {ns₁ ns₂ ts₁ ts₂ : List Local} {b₁ b₂ : Spots (usize ∷ Qs) → ℕ → ℕ → Body} → let i = F (values c hs X v).1 in
       (i < length y.now → Piece c (usize ∷ Qs) ((uint c.W w64, i), hs) ns₁ ts₁ b₁) → (length y.now ≤ i → Piece c (usize ∷ Qs) ((uint c.W w64, i), hs) ns₂ ts₂ b₂)
       → Piece c Qs hs (by_values (ty_int w64 ∷ []) ++ (ns₁ ++ ns₂)) (by_values (ty_int w64 ∷ ty_bool ∷ []) ++ (ts₁ ++ ts₂)) (λ ms j k. seq (call f (it (place_of v ms) ∷ []) (place j [])) (if-within j k (b₁ (j, ms) (suc j) (suc (suc k))) (b₂ (j, ms) (past ns₁ (suc j)) (past ts₁ (suc (suc k))))))
   finds-place v F f meets p₁ p₂ = lets (uint c.W w64) _ (asks_of v F f meets) (within newest p₁ p₂)
@@ -215,7 +215,7 @@ module _ {M : Type 1} {𝓤 : Ura M} {𝓛 : Logic 𝓤} {𝓣 : Tables 𝓤 �
   pub how-many-shown : {Qs : List RattleType} {hs : Held 𝓛 Qs} → Look (scene 𝓛 𝓣 (shown zero tt R ∷ ks) O S N P₀ κs qs a so) Qs hs usize (uint 𝓛 w64) (length a.0.now) [] (λ ms d k rest. seq (sets d (rv_opd (len_of 1))) rest)
   how-many-shown = counts-row (scene 𝓛 𝓣 (shown zero tt R ∷ ks) O S N P₀ κs qs a so) R a.0 so.0 (λ Qs ms hs E us k h. h.params.0)
 
-  pub at-shown : {Qs : List RattleType} {hs : Held 𝓛 Qs} {X : RattleType} (v : Var (shown zero tt R ∷ ks) Qs X) (F : X.Denot → ℕ) (g : Name) → Triple 𝓤 (𝓣.C g) (met (of_one usize X F) 𝓤 𝓛) → {ns₁ ns₂ ts₁ ts₂ : List Local} {b₁ b₂ : Spots (usize ∷ Qs) → ℕ → ℕ → Body} → let c = scene 𝓛 𝓣 (shown zero tt R ∷ ks) O S N P₀ κs qs a so in let i = F (values c hs X v).1 in
+  pub at-shown : {Qs : List RattleType} {hs : Held 𝓛 Qs} {X : RattleType} (v : Var (shown zero tt R ∷ ks) Qs X) (F : X.Denot → ℕ) (g : Callee) → Triple 𝓤 (𝓣.C g) (met (of_one usize X F) 𝓤 𝓛) → {ns₁ ns₂ ts₁ ts₂ : List Local} {b₁ b₂ : Spots (usize ∷ Qs) → ℕ → ℕ → Body} → let c = scene 𝓛 𝓣 (shown zero tt R ∷ ks) O S N P₀ κs qs a so in let i = F (values c hs X v).1 in
       (i < length a.0.now → Piece c (usize ∷ Qs) ((uint 𝓛 w64, i), hs) ns₁ ts₁ b₁) → (length a.0.now ≤ i → Piece c (usize ∷ Qs) ((uint 𝓛 w64, i), hs) ns₂ ts₂ b₂)
       → Piece c Qs hs (by_values (ty_int w64 ∷ []) ++ (ns₁ ++ ns₂)) (by_values (ty_int w64 ∷ ty_bool ∷ []) ++ (ts₁ ++ ts₂)) (λ ms j k. seq (call g (it (place_of v ms) ∷ []) (place j [])) (if-within j k (b₁ (j, ms) (suc j) (suc (suc k))) (b₂ (j, ms) (past ns₁ (suc j)) (past ts₁ (suc (suc k))))))
   at-shown = finds-place (scene 𝓛 𝓣 (shown zero tt R ∷ ks) O S N P₀ κs qs a so) R a.0 so.0 (λ Qs ms hs E us k h. h.params.0)
@@ -255,7 +255,7 @@ module _ {M : Type 1} {𝓤 : Ura M} {𝓛 : Logic 𝓤} {𝓣 : Tables 𝓤 �
 module _ {M : Type 1} {𝓤 : Ura M} {𝓛 : Logic 𝓤} {𝓣 : Tables 𝓤 𝓛.H} {m : ℕ} {R : RattleType} {ks : List (Kind (suc m))} {O : RattleType} {S : Said (handed zero tt R ∷ ks) O} {N : Plains 𝓛 ks} {P₀ : PlainType 𝓛 O} {κs : Lfts (suc m)} {qs : Shares (suc m)} {a : Passed κs (handed zero tt R ∷ ks)} {so : Facts 𝓛 κs (handed zero tt R ∷ ks) N a} where
   open 𝓛 use {H}
 
-  pub asks-row : {Qs : List RattleType} {hs : Held 𝓛 Qs} {Q : RattleType} {P : PlainType 𝓛 Q} (F : List R.Denot → Q.Denot) (g : Name) → Triple 𝓤 (𝓣.C g) (met (of-slice Q R F) 𝓤 𝓛)
+  pub asks-row : {Qs : List RattleType} {hs : Held 𝓛 Qs} {Q : RattleType} {P : PlainType 𝓛 Q} (F : List R.Denot → Q.Denot) (g : Callee) → Triple 𝓤 (𝓣.C g) (met (of-slice Q R F) 𝓤 𝓛)
       → Look (scene 𝓛 𝓣 (handed zero tt R ∷ ks) O S N P₀ κs qs a so) Qs hs Q P (F a.0.now) (by_values (ref-to erased imm R ∷ slice_of erased imm R ∷ [])) (λ ms d k rest. steps (hands_to R 1 k (suc k)) (seq (call g (it (suc k) ∷ []) (place d [])) rest))
   asks-row {Q = Q} {P = P} F g meets = record {
     looks = λ E us ms d k q rest h are d-is go.
@@ -275,7 +275,7 @@ module _ {M : Type 1} {𝓤 : Ura M} {𝓛 : Logic 𝓤} {𝓣 : Tables 𝓤 �
   pub how-many : {Qs : List RattleType} {hs : Held 𝓛 Qs} → Look (scene 𝓛 𝓣 (handed zero tt R ∷ ks) O S N P₀ κs qs a so) Qs hs usize (uint 𝓛 w64) (length a.0.now) [] (λ ms d k rest. seq (sets d (rv_opd (len_of 1))) rest)
   how-many = counts-row (scene 𝓛 𝓣 (handed zero tt R ∷ ks) O S N P₀ κs qs a so) R a.0 so.0 (λ Qs ms hs E us k h. h.params.0)
 
-  pub at_place : {Qs : List RattleType} {hs : Held 𝓛 Qs} {X : RattleType} (v : Var (handed zero tt R ∷ ks) Qs X) (F : X.Denot → ℕ) (g : Name) → Triple 𝓤 (𝓣.C g) (met (of_one usize X F) 𝓤 𝓛) → {ns₁ ns₂ ts₁ ts₂ : List Local} {b₁ b₂ : Spots (usize ∷ Qs) → ℕ → ℕ → Body} → let c = scene 𝓛 𝓣 (handed zero tt R ∷ ks) O S N P₀ κs qs a so in let i = F (values c hs X v).1 in
+  pub at_place : {Qs : List RattleType} {hs : Held 𝓛 Qs} {X : RattleType} (v : Var (handed zero tt R ∷ ks) Qs X) (F : X.Denot → ℕ) (g : Callee) → Triple 𝓤 (𝓣.C g) (met (of_one usize X F) 𝓤 𝓛) → {ns₁ ns₂ ts₁ ts₂ : List Local} {b₁ b₂ : Spots (usize ∷ Qs) → ℕ → ℕ → Body} → let c = scene 𝓛 𝓣 (handed zero tt R ∷ ks) O S N P₀ κs qs a so in let i = F (values c hs X v).1 in
       (i < length a.0.now → Piece c (usize ∷ Qs) ((uint 𝓛 w64, i), hs) ns₁ ts₁ b₁) → (length a.0.now ≤ i → Piece c (usize ∷ Qs) ((uint 𝓛 w64, i), hs) ns₂ ts₂ b₂)
       → Piece c Qs hs (by_values (ty_int w64 ∷ []) ++ (ns₁ ++ ns₂)) (by_values (ty_int w64 ∷ ty_bool ∷ []) ++ (ts₁ ++ ts₂)) (λ ms j k. seq (call g (it (place_of v ms) ∷ []) (place j [])) (if-within j k (b₁ (j, ms) (suc j) (suc (suc k))) (b₂ (j, ms) (past ns₁ (suc j)) (past ts₁ (suc (suc k))))))
   at_place = finds-place (scene 𝓛 𝓣 (handed zero tt R ∷ ks) O S N P₀ κs qs a so) R a.0 so.0 (λ Qs ms hs E us k h. h.params.0)
@@ -283,7 +283,7 @@ module _ {M : Type 1} {𝓤 : Ura M} {𝓛 : Logic 𝓤} {𝓣 : Tables 𝓤 �
   pub lends-at : {Qs : List RattleType} {hs : Held 𝓛 Qs} (v : Var (handed zero tt R ∷ ks) Qs usize) (none : R.Denot) (ls : List (Kind (suc m))) (h : Hands Qs (handed zero tt R ∷ ks) ks ls) → let c = scene 𝓛 𝓣 (handed zero tt R ∷ ks) O S N P₀ κs qs a so in let i = (values c hs usize v).1 in let x = values c hs in
       let μs : ℕ → Lfts (suc m) = λ ν. (ν ∷ [], κs.1) in
       let sent : (ν : ℕ) → GName → Passed (μs ν) (behind zero tt R ∷ ls) = λ ν δ. (elem R a.0 i δ (get_or a.0.now i none), args 𝓛 κs (μs ν) x h a.1) in
-      (S' : Said (behind zero tt R ∷ ls) O) (g : Name) → Triple 𝓤 (𝓣.C g) (met (record { lifetimes = suc m; params = behind zero tt R ∷ ls; result = O; says_of = S' }) 𝓤 𝓛) → ((ν : ℕ) → Agree 𝓛 κs (μs ν) x h) → i < length a.0.now
+      (S' : Said (behind zero tt R ∷ ls) O) (g : Callee) → Triple 𝓤 (𝓣.C g) (met (record { lifetimes = suc m; params = behind zero tt R ∷ ls; result = O; says_of = S' }) 𝓤 𝓛) → ((ν : ℕ) → Agree 𝓛 κs (μs ν) x h) → i < length a.0.now
       → ((ν : ℕ) (δ : GName) (r : O.Denot) (ws : Lasting (μs ν) (behind zero tt R ∷ ls) (sent ν δ)) → S' (μs ν) (sent ν δ) r (outs (μs ν) (slots (behind zero tt R ∷ ls)) (all yes (slots (behind zero tt R ∷ ls))) (sent ν δ) ws)
       → S κs a r (left_at (record { lifetimes = suc m; params = handed zero tt R ∷ ks; result = O; says_of = S }) κs a (ending 𝓛 κs (handed zero tt R ∷ ks) N a (set_at a.0.now i ws.0, ends_of 𝓛 κs (μs ν) x h a.1 ws.1))))
       → Piece c Qs hs [] (by_values (ty_int w64 ∷ ty_ptr ∷ ref-to erased mut R ∷ []) ++ fresh h)

@@ -7,8 +7,8 @@
 use mathlib.Core.Path.{◌≡◌, refl, ap}
 use mathlib.Core.List.{[], ◌∷◌, List}
 use seplogic.Ra.Ura.{Ura}
-use seplogic.Ra.TreeShare.{full_share}
-use mir.Syntax.{Name, Fn, deref, field, place, copy, assign, call, return, rv_opd, Local, Body}
+use base.Fraction.{full_share}
+use mir.Syntax.{Callee, Fn, deref, field, place, copy, assign, call, return, rv_opd, Local, Body}
 use mir.Val.{Val}
 use base.Fml.{Lft, Share, fat}
 use prog.Wp.{Tables}
@@ -33,7 +33,7 @@ pub record Shape : Type 2 where
   pub X : RattleType
   pub Q : D.Declared
   pub O : RattleType
-  pub f : Name
+  pub f : Callee
   pub F : OfOne T.D X.Denot Q.D
   pub record_of : Q.D → T.D
   pub answer-of : Q.D → O.Denot

@@ -15,8 +15,8 @@ use mathlib.Core.List.{[], ◌∷◌, List}
 use lib.ListN.{length}
 use lib.WfN.{lt-wf_rel}
 use seplogic.Ra.Ura.{Ura}
-use seplogic.Ra.TreeShare.{full_share}
-use mir.Syntax.{Name, Fn, Body as Code, erased, mut, ty_bool, place, skip, seq, cond, call, block, loop, exit, return, rv_opd, Local}
+use base.Fraction.{full_share}
+use mir.Syntax.{Callee, Fn, Body as Code, erased, mut, ty_bool, place, skip, seq, cond, call, block, loop, exit, return, rv_opd, Local}
 use mir.Val.{Val, vbool}
 use base.Logic.{SProp}
 use base.Fml.{Lft, Share, flft}
@@ -44,8 +44,8 @@ pub record Shape : Type 2 where
   pub S : RattleType
   pub E : RattleType
   pub G : RattleType
-  pub more : Name
-  pub f : Name
+  pub more : Callee
+  pub f : Callee
   -- what the contracts of more and f say, what g's says, and the turns that are left
   pub goes_on : S.Denot → Bool
   pub state-at : OfLine T.D S.Denot E.Denot G.Denot S.Denot

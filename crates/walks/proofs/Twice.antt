@@ -15,8 +15,8 @@ use mathlib.Core.Path.{◌≡◌, refl, ap, ◌∙◌}
 use mathlib.Core.Bool.{Bool, true, false}
 use mathlib.Core.List.{[], ◌∷◌, List}
 use seplogic.Ra.Ura.{Ura}
-use seplogic.Ra.TreeShare.{full_share}
-use mir.Syntax.{Name, Fn, erased, mut, ty_bool, deref, field, place, copy, assign, addr_of, call, cond, skip, seq, return, rv_opd, Local, Body}
+use base.Fraction.{full_share}
+use mir.Syntax.{Callee, Fn, erased, mut, ty_bool, deref, field, place, copy, assign, addr_of, call, cond, skip, seq, return, rv_opd, Local, Body}
 use mir.Val.{Val}
 use base.Logic.{SProp}
 use base.Fml.{Lft, Share, fat}
@@ -46,10 +46,10 @@ pub record Shape : Type 2 where
   pub Q : D.Declared
   pub N : RattleType
   pub O : RattleType
-  pub f : Name
-  pub done : Name
-  pub told : Name
-  pub h : Name
+  pub f : Callee
+  pub done : Callee
+  pub told : Callee
+  pub h : Callee
   pub F : OfFound T.D X.Denot Z.Denot E.Denot Q.D
   pub record_of : Q.D → T.D
   pub note-of : Q.D → N.Denot
