@@ -164,7 +164,7 @@ module _ {M : Type 1} {𝓤 : Ura M} (𝓛 : Logic 𝓤) (s : Shape) (k : Knows 
       unfolding after_turn
       goes-round t so =
           calls-one ! 𝓣 St (boolean 𝓛) s.goes_on known_more t.st t.is (and_then ! (var ! 11 refl) (no_more !)) (λ _. lands-in ! 8 refl (tt, tt) $ rewrite ! 8 (λ (y : Bool). Has 𝓤 H En 5 full_share (vbool y)) so refl $ stays ! (var ! 8 refl) $
-          hands_on ! 16 6 4 refl refl refl refl refl refl (tt, tt) (fits-slice space.0) $ rewrite ! 4 (λ (m : ℕ). Has 𝓤 H En 7 full_share (slice_val ys.ptr m)) (sym t.row-long) refl $
+          hands_on ! 16 6 4 refl refl refl refl refl refl (tt, tt) (fits-slice space.0) $ rewrite ! 4 (λ (m : ℕ). Has 𝓤 H En 7 full_share (slice_val ys.ref_ptr m)) (sym t.row-long) refl $
           lends_row (R s) (row_now t) ! tt (row_room t) (λ ν δ.
           -- [ν's token; the row; what its lender keeps; the slice's token; the slice; _7: 5; ..]
           move ! (4 ∷ []) $ keeps-copy ! s.E κ₁ cs $ move ! (2 ∷ 5 ∷ 3 ∷ 0 ∷ []) $

@@ -187,11 +187,11 @@ module _ {M : Type 1} {𝓤 : Ura M} (𝓛 : Logic 𝓤) where
     let_go (handed j ok R ∷ ks) N a =
         let F : Fml = finally R a.0.ghost_name a.0.now in
         let Δ : List (Item 𝓤) = finals κs ks a.1 (ending 𝓛 κs ks N a.1 (nows ks a.1)) in
-        via 𝓤 (sep 𝓤 (sem 𝓛 (mut_slice R (lft_at n j ok κs) a.0)) (⋆ 𝓛 Δ)) (paired 𝓛 (mut_slice R (lft_at n j ok κs) a.0) (given-of κs ks a.1) (let_go ks N a.1)) (listed 𝓛 F Δ (seen-row {𝓛 = 𝓛} R a.0 (lft_at n j ok κs)) (id⊢ 𝓤 _))
+        via 𝓤 (sep 𝓤 (sem 𝓛 (mut_slice R (lft_at n j ok κs) a.0)) (⋆ 𝓛 Δ)) (paired 𝓛 (mut_slice R (lft_at n j ok κs) a.0) (given-of κs ks a.1) (let_go ks N a.1)) (listed 𝓛 F Δ (seen-row 𝓛 R a.0 (lft_at n j ok κs)) (id⊢ 𝓤 _))
     let_go (behind j ok R ∷ ks) N a =
         let F : Fml = fres a.0.ghost_name (R.coded.code a.0.now) in
         let Δ : List (Item 𝓤) = finals κs ks a.1 (ending 𝓛 κs ks N a.1 (nows ks a.1)) in
-        via 𝓤 (sep 𝓤 (sem 𝓛 (mut-ref R (lft_at n j ok κs) a.0)) (⋆ 𝓛 Δ)) (paired 𝓛 (mut-ref R (lft_at n j ok κs) a.0) (given-of κs ks a.1) (let_go ks N a.1)) (listed 𝓛 F Δ (seen_ref {𝓛 = 𝓛} R a.0 (lft_at n j ok κs)) (id⊢ 𝓤 _))
+        via 𝓤 (sep 𝓤 (sem 𝓛 (mut-ref R (lft_at n j ok κs) a.0)) (⋆ 𝓛 Δ)) (paired 𝓛 (mut-ref R (lft_at n j ok κs) a.0) (given-of κs ks a.1) (let_go ks N a.1)) (listed 𝓛 F Δ (seen_ref 𝓛 R a.0 (lft_at n j ok κs)) (id⊢ 𝓤 _))
 
   module _ {n m : ℕ} (κs : Lfts n) (μs : Lfts m) {Qs : List RattleType} {all : List (Kind n)} (x : (R : RattleType) → Var all Qs R → PlainType 𝓛 R × R.Denot) where
     -- the lifetimes of what is handed on are the callee's
@@ -318,9 +318,9 @@ module _ {M : Type 1} {𝓤 : Ura M} (𝓛 : Logic 𝓤) where
     settled (same h) N a ws = settled h N.1 a.1 ws.1
     settled (leave h) N a ws = settled h N.1 a.1 ws
     settled (holds {R = R} {j = j} {ok = ok} {ks = ks} {ls = ls} h) N a ws =
-        ends (mut-ref R (lft_at n j ok κs) a.0) (fres a.0.ghost_name (R.coded.code a.0.now)) (kept h a.1) (finals κs ks a.1 (ending 𝓛 κs ks N a.1 (ends_of h a.1 ws))) (⋆ 𝓛 (finals μs ls (args h a.1) ws)) (seen_ref {𝓛 = 𝓛} R a.0 (lft_at n j ok κs)) (settled h N a.1 ws)
+        ends (mut-ref R (lft_at n j ok κs) a.0) (fres a.0.ghost_name (R.coded.code a.0.now)) (kept h a.1) (finals κs ks a.1 (ending 𝓛 κs ks N a.1 (ends_of h a.1 ws))) (⋆ 𝓛 (finals μs ls (args h a.1) ws)) (seen_ref 𝓛 R a.0 (lft_at n j ok κs)) (settled h N a.1 ws)
     settled (rests {R = R} {j = j} {ok = ok} {ks = ks} {ls = ls} h) N a ws =
-        ends (mut_slice R (lft_at n j ok κs) a.0) (finally R a.0.ghost_name a.0.now) (kept h a.1) (finals κs ks a.1 (ending 𝓛 κs ks N a.1 (ends_of h a.1 ws))) (⋆ 𝓛 (finals μs ls (args h a.1) ws)) (seen-row {𝓛 = 𝓛} R a.0 (lft_at n j ok κs)) (settled h N a.1 ws)
+        ends (mut_slice R (lft_at n j ok κs) a.0) (finally R a.0.ghost_name a.0.now) (kept h a.1) (finals κs ks a.1 (ending 𝓛 κs ks N a.1 (ends_of h a.1 ws))) (⋆ 𝓛 (finals μs ls (args h a.1) ws)) (seen-row 𝓛 R a.0 (lft_at n j ok κs)) (settled h N a.1 ws)
     settled (hides {R = R} {j = j} {ok = ok} {ls = ls} h) N a ws =
         let F : SProp 𝓤 = ⋆ 𝓛 (finals μs ls (args h a.1) ws) in
         via 𝓤 (sep 𝓤 F (⋆ 𝓛 (kept h a.1))) (mono_r 𝓤 F (drop⊢ 𝓛 (‵ (shared R (lft_at n j ok κs) a.0)) (kept h a.1) (⋆ 𝓛 (kept h a.1)) (id⊢ 𝓤 _))) (settled h N a.1 ws)
@@ -380,14 +380,14 @@ module _ {M : Type 1} {𝓤 : Ura M} (𝓛 : Logic 𝓤) {C : Calls 𝓤 𝓛.H}
   hands_in (hides h) N a so us i k ps vs ts c = hands_in h N a.1 so.1 us (suc i) k ps.1 vs ts c
   hands_in (shows h) N a so us i k ps vs ts c = hands_in h N a.1 so.1 us (suc i) k ps.1 vs ts (λ us' s l. c us' s (lies s ps.0, l))
   hands_in (gives {R = R} {ks = ks} h) N a so us i k ps vs ts c =
-      let us₁ : Store = put k (some (vptr a.0.ptr.0 a.0.ptr.1)) us in
+      let us₁ : Store = put k (some (vptr a.0.ref_ptr.0 a.0.ref_ptr.1)) us in
       let us₂ : Store = put (suc k) (some (slice-val a.0)) us₁ in
-      let s₂ : Same k us us₂ = then_same (one_more k) (put_same k (some (vptr a.0.ptr.0 a.0.ptr.1)) us) (put_same (suc k) (some (slice-val a.0)) us₁) in
+      let s₂ : Same k us us₂ = then_same (one_more k) (put_same k (some (vptr a.0.ref_ptr.0 a.0.ref_ptr.1)) us) (put_same (suc k) (some (slice-val a.0)) us₁) in
       let l₂ : k ≤ suc (suc k) = less (one_more (suc k)) in
       slice_in ! E us i k R ps.0 ts.0 (tt, tt) ts.1.0 (fits-slice so.0.0) $
       hands_in h N a.1 so.1 us₂ (suc i) (suc (suc k)) (still-params E s₂ l₂ (suc i) (param-types ks) (words 𝓛 κs ks N a.1) ps.1) (λ R v. still s₂ l₂ (vs R v)) ts.1.1 (λ us' s l. c us' (then_same l₂ s₂ s) (lies s (newly (slice-val a.0) us₁ ts.1.0), l))
   hands_in (lends {R = R} {ks = ks} h) N a so us i k ps vs ts c =
-      let v : Val = vptr a.0.ptr.0 a.0.ptr.1 in
+      let v : Val = vptr a.0.ref_ptr.0 a.0.ref_ptr.1 in
       let us₁ : Store = put k (some v) us in
       let s₁ : Same k us us₁ = put_same k (some v) us in
       sets-in ! E us k ts.0 (tt, tt) (addr ! (points-in ! E us i ps.0)) $

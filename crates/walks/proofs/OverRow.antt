@@ -110,7 +110,7 @@ module _ {M : Type 1} {𝓤 : Ura M} (𝓛 : Logic 𝓤) (T : D.Declared) (P : P
 
     abbrev pub Filled : ℕ → List (Item 𝓤)
     Filled x = elems ∷ slice ∷ index x ∷ Has 𝓤 H E L.n full_share (vint w64 (x * (mem R).size)) ∷ Has 𝓤 H E L.c full_share (vbool true)
-        ∷ Has 𝓤 H E L.p full_share (vptr y.ptr.0 (Index.place (mem R).size y.ptr.1 x)) ∷ Has 𝓤 H E L.r full_share (P.val (h x)) ∷ []
+        ∷ Has 𝓤 H E L.p full_share (vptr y.ref_ptr.0 (Index.place (mem R).size y.ref_ptr.1 x)) ∷ Has 𝓤 H E L.r full_share (P.val (h x)) ∷ []
 
     abbrev pub Over : ℕ → List (Item 𝓤)
     Over x = elems ∷ slice ∷ index x ∷ Has 𝓤 H E L.n full_share (vint w64 (length y.now)) ∷ Has 𝓤 H E L.c full_share (vbool false) ∷ Free 𝓤 H E L.p ∷ Free 𝓤 H E L.r ∷ []

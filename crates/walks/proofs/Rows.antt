@@ -261,7 +261,7 @@ module _ {M : Type 1} {𝓤 : Ura M} {𝓛 : Logic 𝓤} {𝓣 : Tables 𝓤 �
     looks = λ E us ms d k q rest h are d-is go.
         let c = scene 𝓛 𝓣 (handed zero tt R ∷ ks) O S N P₀ κs qs a so in
         let y : Bor (List R.Denot) = a.0 in
-        let us₁ : Store = put k (some (vptr y.ptr.0 y.ptr.1)) us in
+        let us₁ : Store = put k (some (vptr y.ref_ptr.0 y.ref_ptr.1)) us in
         let us₂ : Store = put (suc k) (some (slice-val y)) us₁ in
         let Γ : List (Item 𝓤) = tokens m κs.1 qs.1 in
         let Δ : List (Item 𝓤) = given-of κs ks a.1 in
@@ -269,7 +269,7 @@ module _ {M : Type 1} {𝓤 : Ura M} {𝓛 : Logic 𝓤} {𝓣 : Tables 𝓤 �
         -- [ν's token; the row as it is shown; what the lender keeps; the frame; the other tokens; the rest]
         calls-slice ! 𝓣 R P F meets (ν ∷ []) full_share (lent-as R y δ y.now) (and_then ! (var-in ! 3 E us₂ (suc k) refl (are.1.0.inside, put-here (suc k) (some (slice-val y)) us₁)) (no_more !)) (λ r e is.
         row-home R y ! tt so.0 ν δ $ homes (flft κs.0 qs.0) (mut_slice R κs.0 y) Γ Δ ! (frame 𝓤 H E us₂) $ lands-in ! E us₂ d d-is (has P r is) $
-        subst (λ (x : Q.Denot). Runs c E (put d (some (P.val x)) us₂) (whole c) rest q) (sym e) (go us₂ (then_same (one_more k) (put_same k (some (vptr y.ptr.0 y.ptr.1)) us) (put_same (suc k) (some (slice-val y)) us₁)) (subst (λ (x : Q.Denot). Is Q x (P.val x ∷ [])) e is))));
+        subst (λ (x : Q.Denot). Runs c E (put d (some (P.val x)) us₂) (whole c) rest q) (sym e) (go us₂ (then_same (one_more k) (put_same k (some (vptr y.ref_ptr.0 y.ref_ptr.1)) us) (put_same (suc k) (some (slice-val y)) us₁)) (subst (λ (x : Q.Denot). Is Q x (P.val x ∷ [])) e is))));
   }
 
   pub how-many : {Qs : List RattleType} {hs : Held 𝓛 Qs} → Look (scene 𝓛 𝓣 (handed zero tt R ∷ ks) O S N P₀ κs qs a so) Qs hs usize (uint 𝓛 w64) (length a.0.now) [] (λ ms d k rest. seq (sets d (rv_opd (len_of 1))) rest)

@@ -171,8 +171,8 @@ module _ {M : Type 1} {𝓤 : Ura M} (𝓛 : Logic 𝓤) (s : Shape) (k : Knows 
       unfolding after_turn
       goes-round t so =
           calls-one ! 𝓣 St (boolean 𝓛) s.goes_on known_more t.st t.is (and_then ! (var ! 17 refl) (no_more !)) (λ _. lands-in ! 14 refl (tt, tt) $ rewrite ! 14 (λ (y : Bool). Has 𝓤 H En 6 full_share (vbool y)) so refl $ stays ! (var ! 14 refl) $
-          hands_on ! 24 12 10 refl refl refl refl refl refl (tt, tt) (fits-slice space.0) $ rewrite ! 10 (λ (m : ℕ). Has 𝓤 H En 8 full_share (slice_val ys.ptr m)) (sym t.row-long) refl $
-          hands_on ! 18 8 6 refl refl refl refl refl refl (tt, tt) (fits-slice space₂.0) $ rewrite ! 6 (λ (m : ℕ). Has 𝓤 H En 10 full_share (slice_val rs.ptr m)) (sym t.out-long) refl $
+          hands_on ! 24 12 10 refl refl refl refl refl refl (tt, tt) (fits-slice space.0) $ rewrite ! 10 (λ (m : ℕ). Has 𝓤 H En 8 full_share (slice_val ys.ref_ptr m)) (sym t.row-long) refl $
+          hands_on ! 18 8 6 refl refl refl refl refl refl (tt, tt) (fits-slice space₂.0) $ rewrite ! 6 (λ (m : ℕ). Has 𝓤 H En 10 full_share (slice_val rs.ref_ptr m)) (sym t.out-long) refl $
           lends_row (R s) (row_now t) ! tt (row_room t) (λ ν δ. move ! (3 ∷ 4 ∷ []) $ lends_row s.G (out-now t) ! tt (out-room t) (λ ν₂ δ₂.
           -- [ν₂'s token; the output; what its lender keeps; ν's token; the row; what its lender keeps; the block's token; the block; _10: 8; ..]
           move ! (7 ∷ []) $ keeps-copy ! s.E κ₁ bs $ move ! (5 ∷ 8 ∷ 2 ∷ 6 ∷ 0 ∷ 3 ∷ []) $
