@@ -49,6 +49,9 @@ use Rattle.walks.proofs.Steps.{by_values, ref-to, slice_of, fits-slice, Blocks, 
 abbrev pub slice-val : {X : Type 0} → Bor (List X) → Val
 slice-val ys = slice_val ys.ref_ptr (length ys.now)
 
+abbrev pub mut-slice-val : {X : Type 0} → MutBor (List X) → Val
+mut-slice-val ys = slice_val ys.ref_ptr (length ys.now)
+
 abbrev pub shared : (R : RattleType) → Lft → Bor (List R.Denot) → Fml
 shared R κ ys = (ShrSlice (named 0) κ R).own_val ys (shr_slice_vals ys)
 

@@ -36,6 +36,7 @@ use denote.Memory.{mem, cell_at, shares}
 use denote.Steps.{owned}
 use denote.Ref.{Bor}
 use denote.Slice.{slice_ty, Room}
+use denote.Opens.{Shut}
 use denote.Index.{row, others, elem_out, elem_back, looks_slice}
 use denote.Index as Index
 use denote.Struct.Declared as D
@@ -117,7 +118,7 @@ module _ {M : Type 1} {𝓤 : Ura M} (𝓛 : Logic 𝓤) (T : D.Declared) (P : P
 
     -- the borrow of the row, open for the loop
     abbrev pub opened : Item 𝓤
-    opened = ‵ (fobor κ q ((arr_parts (shares R) (length y.now)).part q' y.now y.ref_ptr.0 y.ref_ptr.1))
+    opened = Shut 𝓛 κ q (row R q' y.now y.ref_ptr.0 y.ref_ptr.1)
 
     word : (v : Val) → Holds (has_ty (ty_int w64) v) × WT v → Holds (has_ty (spot_of 𝓤 H E L.n).0 v) × WT v
     word v ok = typed-as v at.n-is ok
@@ -189,6 +190,6 @@ module _ {M : Type 1} {𝓤 : Ura M} (𝓛 : Logic 𝓤) (T : D.Declared) (P : P
 module _ {M : Type 1} {𝓤 : Ura M} {𝓛 : Logic 𝓤} {K : Type 0} {Γ : List (Item 𝓤)} {G : Goal 𝓤 𝓛.H} where
   -- a shared row is looked into: [the token; the row]  to  [its elements, at some share; the open borrow]
   pub looks-into : K → Soaks G → (R : RattleType) (P : PlainType 𝓛 R) (y : Bor (List R.Denot)) {κ : Lft} {q : Share}
-      → ((s : Share) → Seq K 𝓛 (‵ (row R s y.now y.ref_ptr.0 y.ref_ptr.1) ∷ ‵ (fobor κ q ((arr_parts (shares R) (length y.now)).part s y.now y.ref_ptr.0 y.ref_ptr.1)) ∷ Γ) G) → Seq K 𝓛 (‵ (flft κ q) ∷ ‵ (shared R κ y) ∷ Γ) G
+      → ((s : Share) → Seq K 𝓛 (‵ (row R s y.now y.ref_ptr.0 y.ref_ptr.1) ∷ Shut 𝓛 κ q (row R s y.now y.ref_ptr.0 y.ref_ptr.1) ∷ Γ) G) → Seq K 𝓛 (‵ (flft κ q) ∷ ‵ (shared R κ y) ∷ Γ) G
   looks-into t z R P y k =
-      move t (1 ∷ []) $ fsplit t $ drop t $ fsplit t $ drop t $ looks_slice t z R (Is R) (shows 𝓛 R) (λ x. P.val x ∷ []) P.tells P.copies y.now y.ref_ptr.0 y.ref_ptr.1 (λ s. move t (2 ∷ []) $ drop t $ k s)
+      move t (1 ∷ []) $ fsplit t $ drop t $ looks_slice t z R P.copied y.now y.ref_ptr.0 y.ref_ptr.1 (λ s. move t (2 ∷ []) $ drop t $ k s)
