@@ -5,7 +5,7 @@
 --     lends-elem, elem-home     the element at i is lent for a new lifetime, and comes home with what the callee left in it
 --     shows-row, row-home       the row is shown for a new lifetime, and comes home as it was
 --     lends_row, lent-home      the row is lent as a `&mut [T]` for a new lifetime, and comes home with what the callee left in it
---     settles          a row that is let go is seen for good as it is
+--     settles, settles-as     a row that is let go is seen for good as it is, or with other elements, as many
 --     opens-ref        the record behind a `&mut T` is taken out.        settles-ref, shuts-ref     it is put back as the last one, and as it was for more to come.        moves-ref     another is put in its place for more to come, behind `ref-as`
 -- Each lending begins with [the token; the row] and each coming home ends with them.
 use mathlib.Core.Path.{◌≡◌, refl, sym, subst}
@@ -19,8 +19,9 @@ use mir.Val.{Val}
 use base.Logic.{ent}
 use base.Fml.{Lft, Share, GName, Fml, fsep, flft, fobs, fauth, fres, fbor, fobor, flent}
 use types.Logic.{Logic, sem}
-use types.Kit.{Goal, Soaks, Step, step, Item, ‵, some, later, ◌⊛◌, Seq, ◌$◌, ◌∵◌, !, qed, done, keep, move, drop, use1, use2, use3, split, pick, fsplit, fsplit3, fjoin, fjoin3, feq_i, await}
+use types.Kit.{Goal, Soaks, Step, step, Item, ‵, some, later, ◌⊛◌, Seq, ◌$◌, ◌∵◌, !, qed, done, keep, move, drop, use1, use2, use3, split, pick, fsplit, fsplit3, fjoin, fjoin3, feq_i, rewrite, await}
 use types.SemTy.{Body, cells, Arr}
+use types.Hole.{Holey}
 use types.Share.{arr_parts}
 use types.Tokens.{lft_new, lft_end, lent_back}
 use denote.RattleType.{RattleType}
@@ -91,6 +92,12 @@ module _ {M : Type 1} {𝓤 : Ura M} {𝓛 : Logic 𝓤} {K : Type 0} {Γ : List
       use1 𝓛 (‵ (finally R y.ghost_name y.now)) (res-finally 𝓛 (named 0) κ R y.ghost_name y.now) $ fjoin t $ s)
 
 module _ {M : Type 1} {𝓤 : Ura M} {𝓛 : Logic 𝓤} {K : Type 0} {Γ : List (Item 𝓤)} {G : Goal 𝓤 𝓛.H} (R : RattleType) (y : MutBor (List R.Denot)) where
+  -- the same of the row with other elements, as many
+  pub settles-as : K → (κ : Lft) (zs : List R.Denot) → length zs ≡ length y.now → Step K 𝓛 (‵ (slice-last R κ y zs) ∷ Γ) G (‵ (mut_slice R κ (lent-as R y y.ghost_name zs)) ∷ Γ) G
+  settles-as t κ zs e = step (λ s.
+      settles R (lent-as R y y.ghost_name zs) t κ $
+      rewrite t 0 (λ (m : ℕ). ‵ (fsep (finally R y.ghost_name zs) (fbor κ (Body (Arr (Holey (mem R)) m) y.ref_ptr.0 y.ref_ptr.1 y.ghost_name)))) e refl $ s)
+
   pub lends-elem : K → Soaks G → {κ : Lft} {q : Share} (i : ℕ) (none : R.Denot) → i < length y.now
       → ((ν : ℕ) (δ : GName) → Seq K 𝓛 (‵ (flft (ν ∷ []) full_share) ∷ ‵ (mut-ref R (ν ∷ []) (elem R y i δ (get_or y.now i none))) ∷ ‵ (ElemKept R y κ q i ν δ) ∷ Γ) G) → Seq K 𝓛 (‵ (flft κ q) ∷ ‵ (mut_slice R κ y) ∷ Γ) G
   lends-elem t z i none l k =
