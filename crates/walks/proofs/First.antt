@@ -6,9 +6,9 @@
 --     search           the same of the records from a place on
 --     function, form   g's MIR, and its form.        meets     g's MIR fulfils that form wherever its callees fulfil theirs
 -- What holds at the loop's test is that the records from the index on decide.
-use mathlib.Core.Path.{◌≡◌, refl, ◌∙◌, ap, sym}
+use mathlib.Core.Path.{◌≡◌, refl, ◌∙◌}
 use mathlib.Core.Bool.{Bool, true, false, cond}
-use Prim.Native.Nat.{ℕ, zero, suc, ◌<◌, ◌≤◌, ◌+◌, ◌^◌}
+use Prim.Native.Nat.{ℕ, ◌<◌, ◌≤◌, ◌+◌, ◌^◌}
 use native.Mathlib.Numerals.{add-one}
 use native.Mathlib.Omega.{arith}
 use mathlib.Core.List.{[], ◌∷◌, List}
@@ -17,7 +17,7 @@ use lib.ListN.{length, get_or, drop as drop_n, drop_of_length-le}
 use lib.Seq.{drop-cons}
 use seplogic.Ra.Ura.{Ura}
 use mir.Syntax.{Callee, Fn, Body as Code, w64, ty_int, ty_bool, ty_ptr, place, int, skip, cond as condition, call, return, rv_opd, Local}
-use mir.Val.{Val, vint}
+use mir.Val.{Val}
 use base.Logic.{SProp, ent}
 use base.Fml.{Lft, Share, flft}
 use prog.Wp.{Env, Tables}

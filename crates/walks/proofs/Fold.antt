@@ -23,7 +23,7 @@ use base.Fml.{Lft, Share}
 use prog.Wp.{Env, Tables}
 use types.Logic.{Logic}
 use types.Kit.{Item, ◌$◌, !, by, move}
-use types.Run.{init, store, stop, from, lit, of_opd, and_then, no_more, land}
+use types.Run.{store, stop, from, lit, of_opd, and_then, no_more, land}
 use denote.RattleType.{RattleType}
 use denote.Laws.{Is}
 use denote.Builtin.{usize}

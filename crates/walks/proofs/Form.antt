@@ -31,7 +31,7 @@ use types.Hole.{Holey}
 use denote.Memory.{mem}
 use denote.RattleType.{RattleType, Denots, Valss, flat, owns}
 use denote.Laws.{Is, Ises, Are, Spells, valss, Tellss, shows}
-use denote.Ref.{Bor, MutBor, MutRef, shr_vals, mut_vals, mut_Tells}
+use denote.Ref.{Bor, MutBor, MutRef, mut_vals, mut_Tells}
 use denote.Slice.{Room, slice_val, MutSlice, ShrSlice, finally, shr_slice_vals, mut_slice_vals, mut_slice_Tells, shr_slice_Tells}
 use denote.Signature.{Slot, plain, mut_ref_to, mut_slice_of, shr_slice_of, types_at}
 use denote.Steps.{only, peeks, heard}

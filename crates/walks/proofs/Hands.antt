@@ -7,7 +7,7 @@
 --     fresh, calling   the locals that a call takes, and its code
 --     Held, at-var     the values that were found, and the value and the type of one at hand
 --     plains, args, sure, Agree     what the callee is passed, and that the lifetimes are those that it names
---     kept, lent       what stays with the caller of what it was given, and that the rest is what the callee asks
+--     kept, lent       what stays with the caller of what it was given, and that the rest is what the callee asks.        Twices     that each slice shown can be handed on as a copy, which `lent` takes
 --     Quiet, restored  a call that is handed no `&mut`: all is there again afterwards
 --     ends_of, settled, lengths     the last values after the last call: what the callee left, and the rest as it was.        nows, let_go, lens-now     all as it was
 --     hands_in, calls-in     one step for the statements that hand on, and one for a call whose arguments lie in locals and whose result lands in one
@@ -16,10 +16,10 @@ use Prim.Native.Nat.{ℕ, suc, ◌≤◌}
 use mathlib.Core.List.{List, [], ◌∷◌, ◌++◌}
 use mathlib.Core.Option.{some}
 use seplogic.Ra.Ura.{Ura}
-use mir.Syntax.{Callee, Local, Body, seq, call, named, erased, mut, place, deref, addr_of}
+use mir.Syntax.{Callee, Local, Body, seq, call, erased, mut, place, deref, addr_of}
 use mir.Val.{Val, vptr}
 use base.Logic.{SProp, ent, sep, via, id⊢, snd∗, emp∗, comm∗, assoc∗, assoc', mono_l, mono_r}
-use base.Fml.{Fml, Lft, fres}
+use base.Fml.{Fml, Lft}
 use prog.Wp.{Calls, Loops, Tables}
 use types.Logic.{Logic, sem}
 use types.Kit.{Go, Item, ‵, raw, ⋆, push, pop, ++⊢, ⊢++, cut⊢, drop⊢, Post as After, runs, Seq, ◌$◌, ! }
@@ -32,7 +32,7 @@ use denote.Signature.{types_at}
 use denote.Triple.Statement.{Triple}
 use Rattle.walks.proofs.Plain.{ty, PlainType, Shown-twice, has}
 use Rattle.walks.proofs.Steps.{its, sets, steps, by_values, ref-to, slice_of, hands_to, fits-slice}
-use Rattle.walks.proofs.Form.{Form, Kind, value, shown, handed, behind, slots, param-types, Plains, Passed, machine, Lasting, Lens, Ends, ending, left_at, met, Facts, Sure, slice-val, shared, mut_slice, mut-ref, tokens, gives as given-of, finals, paired, listed, calls, slice-last, ref-last, mut-slice-val}
+use Rattle.walks.proofs.Form.{Form, Kind, value, shown, handed, behind, slots, param-types, Plains, Passed, machine, Lasting, Lens, Ends, ending, left_at, met, Facts, Sure, shared, mut_slice, mut-ref, tokens, gives as given-of, finals, paired, listed, calls, slice-last, ref-last, mut-slice-val}
 use Rattle.walks.proofs.Lent.{seen-row, seen_ref}
 use Rattle.walks.proofs.Frame.{one_more, less, Store, put, Same, put_same, then_same, Layout, frame, Local-is, Locals-are, Known, still, newly, Lie, lies, Params, still-params, vars-in, points-in, sets-in, slice_in, lands-in, turns}
 

@@ -3,7 +3,7 @@
 --     MadeOf           that what is returned is made of the array and the answer
 --     first-many, first-room     the first k of N are k, and have room
 --     lends_first, first_home     [the array's cell] to [the new token; what the `&mut [T]` owns; what the lender keeps], and back with what the callee left
---     shows_first, shown-home     the same with a `&[T]`, and back as it was
+--     shows_first, shown-home     the same with a `&[T]`, and back as it was.        first-as, first-shown     the first of it as a `&mut [T]` and as a `&[T]`
 --     parts, wholes    the array's cell is the first k elements and the others, and back at other elements
 --     PlainMade, has-made     a declared struct of an array of records and an answer
 --     array-into       the relation of an array of a declared type is that of the array as a field of a struct
@@ -31,7 +31,7 @@ use denote.Memory.{mem, part_at, shares}
 use denote.Array.{Array, each}
 use denote.ArrayMemory.{Single, Array-apart, Array-whole}
 use denote.Ref.{MutBor, Bor}
-use denote.Slice.{Room, finally}
+use denote.Slice.{Room}
 use denote.Lend.{Held, lends_slice, slice_back, lends_shr_slice}
 use denote.Index.{row, whole_out, whole_in}
 use denote.Steps.{only, owned, facts}

@@ -19,7 +19,7 @@ use mir.Val.{Val}
 use base.Logic.{ent}
 use base.Fml.{Lft, Share, GName, Fml, fsep, flft, fobs, fauth, fres, fbor, fobor, flent}
 use types.Logic.{Logic, sem}
-use types.Kit.{Goal, Soaks, Step, step, Item, ‵, some, later, ◌⊛◌, Seq, ◌$◌, ◌∵◌, !, qed, done, keep, move, drop, use1, use2, use3, split, pick, fsplit, fsplit3, fjoin, fjoin3, feq_i, rewrite, await}
+use types.Kit.{Goal, Soaks, Step, step, Item, ‵, some, later, ◌⊛◌, Seq, ◌$◌, ◌∵◌, !, qed, done, move, drop, use1, use2, use3, split, pick, fsplit, fsplit3, fjoin, fjoin3, feq_i, rewrite, await}
 use types.SemTy.{Body, cells, Arr}
 use types.Hole.{Holey}
 use types.Share.{arr_parts}

@@ -24,12 +24,11 @@ use base.Fraction.{full_share}
 use mir.Syntax.{Ty, Body as Code, w64, unsigned, lt, add, ty_int, ty_bool, ty_ptr, deref, place, copy, int, skip, seq, cond, block, loop, exit, rv_opd, op2}
 use mir.Val.{Val, WT, has_ty, vint, vptr, vbool}
 use base.Logic.{SProp}
-use base.Fml.{Lft, Share, fobor, flft}
+use base.Fml.{Lft, Share, flft}
 use prog.Wp.{Env, Wp, Tables, spot_of, after_seq, after_block, after_turn, at_return, returns as returned, next, exits}
 use types.Logic.{Logic}
 use types.Kit.{Go, Goal, Soaks, Item, ‵, prop, runs, any_q, at_ret, post, Post, Seq, Step, step, ◌$◌, !, move, drop, fsplit, rewrite}
 use types.Run.{Below, look, look_raw, store, forget, stop, hop, from, load, lit, of_opd, bin, assigns_last, first, blocks, loops, again, stays, leaves_loop, exec}
-use types.Share.{arr_parts}
 use denote.RattleType.{RattleType}
 use denote.Laws.{Is, shows}
 use denote.Memory.{mem, cell_at, shares}

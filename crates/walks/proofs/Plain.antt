@@ -1,7 +1,8 @@
 -- Plain types: what a walk uses of a type that owns only facts and has one machine value.
 -- Assumes nothing.
 --     ty R             the MIR type of a local of the type R
---     PlainType R      the machine value, that the relation tells it, that the relation makes what is owned, that the value has the type, that it is copied, and that it leaves a function as it came
+--     PlainType R      the machine value, that the relation tells it, that the relation makes what is owned, that the value has the type, that it is copied, that it leaves a function as it came, that it has one MIR type, and that a share of it is cut, lent and looked into
+--     Shown-twice, shown-twice     that a `&[R]` can be handed on as a copy, as it can where R is plain
 --     has-at, has, last, silent     the same as a store, the end of a walk and the law of a parameter ask for them
 --     uint, sint, boolean, struct, enumeration, array     a number, unsigned or signed, a bool, a declared struct or enum of plain fields, an array of a plain type.        array-val     the machine value of an array
 --     PlainPair, has-pair     a declared struct of exactly two plain fields, as a function by value returns the record and the answer
@@ -114,15 +115,39 @@ module _ {M : Type 1} {𝓤 : Ura M} (𝓛 : Logic 𝓤) where
 
   -- of T's module `Laws` it takes `the_laws`, `the_plain` and `the_copy`, here and for an enum
   abbrev pub struct : (T : D.Declared) → LL.Laws T → Plains (D.fields T) → LL.Copyables T.parts → PlainType 𝓛 (D.row T)
-  struct T L pl cp = record { val = LL.val T L; tells = LL.tells T L; makes = LL.makes T pl 𝓛; lawful = LL.lawful T L 𝓛; copies = LL.copy T cp 𝓛; still = LL.still T cp yes;
-    alone = tt; copied = LL.copied T cp 𝓛 }
+  struct T L pl cp = record {
+    val = LL.val T L;
+    tells = LL.tells T L;
+    makes = LL.makes T pl 𝓛;
+    lawful = LL.lawful T L 𝓛;
+    copies = LL.copy T cp 𝓛;
+    still = LL.still T cp yes;
+    alone = tt;
+    copied = LL.copied T cp 𝓛;
+  }
 
   -- `Few` computes: it is `tt`
   abbrev pub enumeration : (T : ED.Declared) → EL.Laws T → Plainss (ED.variants T) → EL.Copyabless T.parts → Few (ED.shape T) → PlainType 𝓛 (ED.row T)
-  enumeration T L pl cp few = record { val = EL.val T L; tells = EL.tells T L; makes = EL.makes T pl 𝓛; lawful = EL.lawful T L 𝓛 few; copies = EL.copy T cp 𝓛; still = EL.still T cp yes;
-    alone = tt; copied = EL.copied T cp 𝓛 }
+  enumeration T L pl cp few = record {
+    val = EL.val T L;
+    tells = EL.tells T L;
+    makes = EL.makes T pl 𝓛;
+    lawful = EL.lawful T L 𝓛 few;
+    copies = EL.copy T cp 𝓛;
+    still = EL.still T cp yes;
+    alone = tt;
+    copied = EL.copied T cp 𝓛;
+  }
 
   module _ (R : RattleType) (P : PlainType 𝓛 R) (n : ℕ) where
     abbrev pub array : PlainType 𝓛 (Array R n)
-    array = record { val = array-val P.val; tells = Array-Tells R (λ x. P.val x ∷ []) P.tells n; makes = Array-Makes 𝓛 R P.makes n; lawful = Array-Lawful 𝓛 R P.lawful n; copies = array_copy 𝓛 R P.copies n; still = λ i. each_of (P.still i);
-      alone = tt; copied = Array-Copied 𝓛 R P.copied P.alone n }
+    array = record {
+      val = array-val P.val;
+      tells = Array-Tells R (λ x. P.val x ∷ []) P.tells n;
+      makes = Array-Makes 𝓛 R P.makes n;
+      lawful = Array-Lawful 𝓛 R P.lawful n;
+      copies = array_copy 𝓛 R P.copies n;
+      still = λ i. each_of (P.still i);
+      alone = tt;
+      copied = Array-Copied 𝓛 R P.copied P.alone n;
+    }

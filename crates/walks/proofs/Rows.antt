@@ -19,7 +19,7 @@ use base.Fraction.{full_share}
 use mir.Syntax.{Ty, Callee, Local, Body, erased, imm, mut, w64, unsigned, lt, ty_int, ty_bool, ty_ptr, offset, addr_of, return, place, deref, copy, rv_opd, op2, seq, call, cond, skip}
 use mir.Val.{Val, vint, vbool, vptr}
 use base.Logic.{SProp, ent, sep, via, id⊢, comm∗, mono_l, mono_r}
-use base.Fml.{Fml, Lft, Share, GName, flft, fres}
+use base.Fml.{Fml, Lft, Share, GName, flft}
 use prog.Wp.{Calls, Loops, Tables, at_return, returns as returned}
 use types.Logic.{Logic, sem}
 use types.Kit.{Go, Item, ‵, raw, ◌⊛◌, ⋆, push, pop, ++⊢, ⊢++, Post as After, post, Goal, runs, Seq, Step, step, ◌$◌, ◌∵◌, !, qed, by, move, use1, use2, split}
@@ -30,7 +30,7 @@ use denote.Laws.{Is}
 use denote.Builtin.{usize}
 use denote.Ref.{Bor, MutBor, as_bor}
 use denote.Copied.{Copied}
-use denote.Slice.{Room, slice_ty, finally}
+use denote.Slice.{Room, slice_ty}
 use denote.Memory.{mem}
 use denote.Index.{place_is, shuts_slice}
 use denote.Index as Index
@@ -45,7 +45,7 @@ use Rattle.walks.proofs.Steps.{it, ptr_of, len_of, sets, steps, by_values, ref-t
 use Rattle.walks.proofs.OverRow.{takes_out, puts-in, looks-into}
 use Rattle.walks.proofs.Form.{Form, Said, Kind, shown, handed, behind, slots, param-types, Passed, Plains, Facts, Lasting, Ends, ending, left_at, met, exits, slice-val, mut-slice-val, slice-last, ref-last, tokens, gives as given-of, finals, mut-ref, mut_slice, shared, paired, listed}
 use Rattle.walks.proofs.Callee.{of_one, of-slice, calls-slice, keeps-copy}
-use Rattle.walks.proofs.Lent.{lent-as, elem, ElemKept, settles-as, lends-elem, elem-home, opens-ref, shuts-ref, shows-row, row-home}
+use Rattle.walks.proofs.Lent.{elem, ElemKept, settles-as, lends-elem, elem-home, opens-ref, shuts-ref, shows-row, row-home}
 use Rattle.walks.proofs.Frame.{itself, one_more, less, up_to, past, past-le, Store, put, put-here, Same, put_same, then_same, Layout, Inside, frame, Local-is, Locals-are, Known, still, newly, still-params, lies, var-in, len-in, ptr-in, points-in, sets-in, slice_in, lands-in, returns-in, turns}
 use Rattle.walks.proofs.Hands.{Var, newest, Hands, stop, shows, Spots, place_of, fresh, moves, calling, Held, Twices, words, Agree, args, plains, sure, kept, lent, ends_of, settled, lengths, hands_in, calls-in}
 use Rattle.walks.proofs.Pieces.{Scene, Hand, values, whole, End, Runs, still-hand, finds, known-var, Look, Piece, lets, forks, Keys, asks, asks_of}
