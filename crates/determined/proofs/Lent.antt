@@ -55,7 +55,7 @@ use Rattle.board.specs.contracts.sample_board as sample-board
 use Rattle.registers.specs.contracts.obey_board as obey-board
 use Rattle.reading.specs.contracts.read_row as read-row
 use Rattle.reading.specs.contracts.line_row as Line-row
-use Rattle.stack.specs.contracts.open_row as open_row
+use Rattle.stack.specs.contracts.open_row as open-row
 use Rattle.stack.specs.contracts.open_counts as open-counts
 use Rattle.stack.specs.contracts.sample_stack as sample-stack
 use Rattle.stack.specs.contracts.frame_stack as frame-stack
@@ -104,7 +104,7 @@ by-equations ks O result lent κs a r t e u p q = let both = equal-lent κs ks _
 
 -- ---- the public library: open_row, open_counts, sample_stack, frame_stack, list_stack, read_stack
 
-pub open-row-one : Determined stack.open_form (λ M 𝓤 𝓛. open_row.spec 𝓛)
+pub open-row-one : Determined stack.open_form (λ M 𝓤 𝓛. open-row.spec 𝓛)
 open-row-one = record { cited = λ M 𝓤 𝓛. stack.open-row-says 𝓛; one = by-equations (stack.open_form).params (stack.open_form).result open_answer (λ row plans. (open_row row plans, tt)) }
 
 pub open-counts-one : Determined stack.counts_form (λ M 𝓤 𝓛. open-counts.spec 𝓛)
