@@ -1,3 +1,4 @@
+pub mod Known
 pub mod OnPlace
 pub mod TellsRow
 pub mod TellsOne

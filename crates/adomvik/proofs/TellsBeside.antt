@@ -9,7 +9,7 @@ use mathlib.Core.Path.{◌≡◌, refl, ◌∙◌, ap}
 use mathlib.Core.List.{[], ◌∷◌, List}
 use lib.ListN.{length}
 use seplogic.Ra.Ura.{Ura}
-use mir.Syntax.{Name, Fn, erased, mut, place, call, return, Local, Body}
+use mir.Syntax.{Callee, Fn, erased, mut, place, call, return, Local, Body}
 use base.Fml.{Lft, Share}
 use prog.Wp.{Tables}
 use types.Logic.{Logic}
@@ -17,7 +17,7 @@ use types.Kit.{◌$◌, !, move, by}
 use types.Run.{look, stop, hop, from, addr, and_then, no_more}
 use denote.RattleType.{RattleType}
 use denote.Laws.{Is}
-use denote.Ref.{Bor}
+use denote.Ref.{Bor, MutBor}
 use denote.Slice.{Room}
 use denote.Struct.Declared as D
 use denote.Triple.Statement.{Triple}
@@ -37,8 +37,8 @@ pub record Shape : Type 2 where
   pub Y : RattleType
   pub P : RattleType
   pub U : RattleType
-  pub f : Name
-  pub h : Name
+  pub f : Callee
+  pub h : Callee
   -- what the contracts of f and h say, and what g's says
   pub answer-in : OfCells T.D N.Denot X.Denot E.Denot Y.Denot
   pub row_in : OfCells T.D N.Denot X.Denot E.Denot (List T.D)
@@ -84,7 +84,7 @@ pub record Knows {M : Type 1} {𝓤 : Ura M} (𝓛 : Logic 𝓤) (s : Shape) : T
   pub plain-U : PlainType 𝓛 s.U
 
 module _ {M : Type 1} {𝓤 : Ura M} (𝓛 : Logic 𝓤) (s : Shape) (k : Knows 𝓛 s) (𝓣 : Tables 𝓤 𝓛.H) (known-f : Triple 𝓤 (𝓣.C s.f) (met (acts s) 𝓤 𝓛)) (known-h : Triple 𝓤 (𝓣.C s.h) (met (tells s) 𝓤 𝓛)) where
-  walk : (κ κ₁ κ₂ : Lft) (q q₁ q₂ : Share) (ys : Bor (List s.T.D)) (n : s.N.Denot) (x : s.X.Denot) (cs : Bor (List s.E.Denot)) (p : Bor s.P.Denot) → Room (R s) (length ys.now) → Is s.N n (k.plain-N.val n ∷ []) → Is s.X x (k.plain-X.val x ∷ [])
+  walk : (κ κ₁ κ₂ : Lft) (q q₁ q₂ : Share) (ys : MutBor (List s.T.D)) (n : s.N.Denot) (x : s.X.Denot) (cs : Bor (List s.E.Denot)) (p : MutBor s.P.Denot) → Room (R s) (length ys.now) → Is s.N n (k.plain-N.val n ∷ []) → Is s.X x (k.plain-X.val x ∷ [])
       → Walk 𝓛 (form s) (k.plain-N, (k.plain-X, tt)) 𝓣 (ty s.U) (others s) (body s) (κ, (κ₁, (κ₂, tt))) (q, (q₁, (q₂, tt))) (ys, (n, (x, (cs, (p, tt)))))
   walk κ κ₁ κ₂ q q₁ q₂ ys n x cs p space n-is x-is _ =
       move ! (20 ∷ 21 ∷ 23 ∷ 24 ∷ 22 ∷ 25 ∷ []) $

@@ -7,21 +7,21 @@
 use mathlib.Core.Path.{◌≡◌, refl, ◌∙◌, ap}
 use mathlib.Core.List.{[], ◌∷◌, List}
 use seplogic.Ra.Ura.{Ura}
-use mir.Syntax.{Name, Fn, erased, mut, place, call, return, Local, Body}
+use mir.Syntax.{Callee, Fn, erased, mut, place, call, return, Local, Body}
 use base.Fml.{Lft, Share}
 use prog.Wp.{Tables}
 use types.Logic.{Logic}
 use types.Kit.{◌$◌, !, move, keep, by}
 use types.Run.{look, stop, hop, from, addr, and_then, no_more}
 use denote.RattleType.{RattleType}
-use denote.Ref.{Bor}
+use denote.Ref.{Bor, MutBor}
 use denote.Struct.Declared as D
 use denote.Triple.Statement.{Triple}
 use Rattle.walks.proofs.Plain.{ty, PlainType, has}
 use Rattle.walks.proofs.Walk.{cell}
 use Rattle.walks.proofs.Steps.{it, sets, steps, by_values, ref-to, var, fills, lands-in, ends-in}
 use Rattle.walks.proofs.Form.{Form, code_of, shown, behind, Fulfils, met, calls, exits, Walk, meets-form}
-use Rattle.walks.proofs.Callee.{of-slice, calls-slice}
+use Rattle.walks.proofs.Callee.{of-slice}
 use Rattle.adomvik.proofs.OnPlace.{on-place, relent}
 
 pub record Shape : Type 2 where
@@ -30,8 +30,8 @@ pub record Shape : Type 2 where
   pub X : RattleType
   pub P : RattleType
   pub U : RattleType
-  pub f : Name
-  pub h : Name
+  pub f : Callee
+  pub h : Callee
   -- what the contracts of f and h say, and what g's says
   pub F : List T.D → X.Denot
   pub number : P.Denot → X.Denot → U.Denot
@@ -65,15 +65,16 @@ pub record Knows {M : Type 1} {𝓤 : Ura M} (𝓛 : Logic 𝓤) (s : Shape) : T
   pub plain-U : PlainType 𝓛 s.U
 
 module _ {M : Type 1} {𝓤 : Ura M} (𝓛 : Logic 𝓤) (s : Shape) (k : Knows 𝓛 s) (𝓣 : Tables 𝓤 𝓛.H) (known-f : Triple 𝓤 (𝓣.C s.f) (met (of-slice s.X (R s) s.F) 𝓤 𝓛)) (known-h : Triple 𝓤 (𝓣.C s.h) (met (tells s) 𝓤 𝓛)) where
-  walk : (κ κ₁ : Lft) (q q₁ : Share) (ys : Bor (List s.T.D)) (p : Bor s.P.Denot) → Walk 𝓛 (form s) tt 𝓣 (ty s.U) (others s) (body s) (κ, (κ₁, tt)) (q, (q₁, tt)) (ys, (p, tt))
+  walk : (κ κ₁ : Lft) (q q₁ : Share) (ys : Bor (List s.T.D)) (p : MutBor s.P.Denot) → Walk 𝓛 (form s) tt 𝓣 (ty s.U) (others s) (body s) (κ, (κ₁, tt)) (q, (q₁, tt)) (ys, (p, tt))
   walk κ κ₁ q q₁ ys p _ =
       move ! (10 ∷ 12 ∷ 11 ∷ 13 ∷ []) $
       -- [the row's token; the row; the place's token; the place; _4: 4; _3: 6; _2: 8; _1: 10; _0: 12]
-      calls-slice ! 𝓣 (R s) k.plain-X s.F known-f κ q ys (and_then ! (var ! 10 refl) (no_more !)) (λ m e m-is. lands-in ! 6 refl (has k.plain-X m m-is) $
-      fills ! (addr ! (from ! (hop ! (look ! 8 refl) (stop !)))) 4 refl (tt, tt) $ move ! (2 ∷ 3 ∷ []) $
-      calls 𝓛 (tells s) (k.plain-X, tt) (κ₁, tt) (q₁, tt) (p, (m, tt)) k.plain-U 𝓣 known-h (m-is, tt) ! (and_then ! (var ! 3 refl) (and_then ! (var ! 5 refl) (no_more !))) (λ r ws e₂ _ is. lands-in ! 12 refl (has k.plain-U r is) $
-      -- [the place's token; its last value; the row's token; the row; _4: 4; ..; _0: 12]
-      ends-in ! 12 refl (cell, (cell, (cell, (cell, (cell, tt))))) $ keep ! (2 ∷ 0 ∷ 1 ∷ []) $
+      calls 𝓛 (of-slice s.X (R s) s.F) tt (κ, tt) (q, tt) (ys, tt) k.plain-X 𝓣 known-f tt ! (and_then ! (var ! 9 refl) (no_more !)) (λ m _ e _ m-is. lands-in ! 5 refl (has k.plain-X m m-is) $
+      -- [the row's token; the place's token; the place; _4: 3; ..; _0: 11]
+      fills ! (addr ! (from ! (hop ! (look ! 7 refl) (stop !)))) 3 refl (tt, tt) $ move ! (1 ∷ 2 ∷ []) $
+      calls 𝓛 (tells s) (k.plain-X, tt) (κ₁, tt) (q₁, tt) (p, (m, tt)) k.plain-U 𝓣 known-h (m-is, tt) ! (and_then ! (var ! 2 refl) (and_then ! (var ! 4 refl) (no_more !))) (λ r ws e₂ _ is. lands-in ! 11 refl (has k.plain-U r is) $
+      -- [the place's token; its last value; the row's token; _4: 3; ..; _0: 11]
+      ends-in ! 11 refl (cell, (cell, (cell, (cell, (cell, tt))))) $ keep ! (2 ∷ 0 ∷ 1 ∷ []) $
       by ! (exits 𝓛 (form s) tt (κ, (κ₁, tt)) (q, (q₁, tt)) (ys, (p, tt)) k.plain-U (ws.0, tt) r _
       (e₂.0 ∙ ap (s.number p.now) e ∙ (k.says_all ys.now p.now).0, e₂.1 ∙ ap (s.put p.now) e ∙ (k.says_all ys.now p.now).1) tt is)))
 

@@ -1,3 +1,4 @@
+pub mod Known
 pub mod Signed
 pub mod Laws
 pub mod Entering

@@ -55,7 +55,7 @@ use Rattle.board.specs.contracts.sample_board as sample-board
 use Rattle.registers.specs.contracts.obey_board as obey-board
 use Rattle.reading.specs.contracts.read_row as read-row
 use Rattle.reading.specs.contracts.line_row as Line-row
-use Rattle.stack.specs.contracts.open_row as open_row
+use Rattle.stack.specs.contracts.open_row as open-row
 use Rattle.stack.specs.contracts.open_counts as open-counts
 use Rattle.stack.specs.contracts.sample_stack as sample-stack
 use Rattle.stack.specs.contracts.frame_stack as frame-stack
@@ -104,70 +104,70 @@ by-equations ks O result lent κs a r t e u p q = let both = equal-lent κs ks _
 
 -- ---- the public library: open_row, open_counts, sample_stack, frame_stack, list_stack, read_stack
 
-pub open-row-one : Determined stack.open_form (λ M. open_row.spec {M = M})
-open-row-one = record { cited = λ M. stack.open-row-says {M = M}; one = by-equations (stack.open_form).params (stack.open_form).result open_answer (λ row plans. (open_row row plans, tt)) }
+pub open-row-one : Determined stack.open_form (λ M 𝓤 𝓛. open-row.spec 𝓛)
+open-row-one = record { cited = λ M 𝓤 𝓛. stack.open-row-says 𝓛; one = by-equations (stack.open_form).params (stack.open_form).result open_answer (λ row plans. (open_row row plans, tt)) }
 
-pub open-counts-one : Determined stack.counts_form (λ M. open-counts.spec {M = M})
-open-counts-one = record { cited = λ M. stack.open-counts-says {M = M}; one = by-equations (stack.counts_form).params (stack.counts_form).result open_counts_answer (λ row counts. (open_counts_row row counts, tt)) }
+pub open-counts-one : Determined stack.counts_form (λ M 𝓤 𝓛. open-counts.spec 𝓛)
+open-counts-one = record { cited = λ M 𝓤 𝓛. stack.open-counts-says 𝓛; one = by-equations (stack.counts_form).params (stack.counts_form).result open_counts_answer (λ row counts. (open_counts_row row counts, tt)) }
 
-pub sample-stack-one : Determined stack.sample_form (λ M. sample-stack.spec {M = M})
-sample-stack-one = record { cited = λ M. stack.sample-stack-says {M = M}; one = by-equations (stack.sample_form).params (stack.sample_form).result sample_answer (λ row n x mv. (sample_row row n x mv, tt)) }
+pub sample-stack-one : Determined stack.sample_form (λ M 𝓤 𝓛. sample-stack.spec 𝓛)
+sample-stack-one = record { cited = λ M 𝓤 𝓛. stack.sample-stack-says 𝓛; one = by-equations (stack.sample_form).params (stack.sample_form).result sample_answer (λ row n x mv. (sample_row row n x mv, tt)) }
 
-pub frame-stack-one : Determined stack.frame_form (λ M. frame-stack.spec {M = M})
-frame-stack-one = record { cited = λ M. stack.frame-stack-says {M = M}; one = by-equations (stack.frame_form).params (stack.frame_form).result frame_answer (λ row bytes buffer. (frame_row row bytes buffer, (frame_buffer row bytes buffer, tt))) }
+pub frame-stack-one : Determined stack.frame_form (λ M 𝓤 𝓛. frame-stack.spec 𝓛)
+frame-stack-one = record { cited = λ M 𝓤 𝓛. stack.frame-stack-says 𝓛; one = by-equations (stack.frame_form).params (stack.frame_form).result frame_answer (λ row bytes buffer. (frame_row row bytes buffer, (frame_buffer row bytes buffer, tt))) }
 
-pub list-stack-one : Determined stack.list_form (λ M. list-stack.spec {M = M})
-list-stack-one = record { cited = λ M. stack.list-stack-says {M = M}; one = by-equations (stack.list_form).params (stack.list_form).result list_answer (λ row n words. (list_buffer row n words, tt)) }
+pub list-stack-one : Determined stack.list_form (λ M 𝓤 𝓛. list-stack.spec 𝓛)
+list-stack-one = record { cited = λ M 𝓤 𝓛. stack.list-stack-says 𝓛; one = by-equations (stack.list_form).params (stack.list_form).result list_answer (λ row n words. (list_buffer row n words, tt)) }
 
-pub read-stack-one : Determined stack.read_form (λ M. read-stack.spec {M = M})
-read-stack-one = record { cited = λ M. stack.read-stack-says {M = M}; one = by-equations (stack.read_form).params (stack.read_form).result reading_of (λ row. tt) }
+pub read-stack-one : Determined stack.read_form (λ M 𝓤 𝓛. read-stack.spec 𝓛)
+read-stack-one = record { cited = λ M 𝓤 𝓛. stack.read-stack-says 𝓛; one = by-equations (stack.read_form).params (stack.read_form).result reading_of (λ row. tt) }
 
-pub up-stack-one : Determined stack.up_form (λ M. up-stack.spec {M = M})
-up-stack-one = record { cited = λ M. stack.up-stack-says {M = M}; one = by-equations (stack.up_form).params (stack.up_form).result up_of (λ row. tt) }
+pub up-stack-one : Determined stack.up_form (λ M 𝓤 𝓛. up-stack.spec 𝓛)
+up-stack-one = record { cited = λ M 𝓤 𝓛. stack.up-stack-says 𝓛; one = by-equations (stack.up_form).params (stack.up_form).result up_of (λ row. tt) }
 
 -- ---- the acts for C
 
-pub adomvik-open-one : Determined adomvik.open_form (λ M. adomvik-open.spec {M = M})
-adomvik-open-one = record { cited = λ M. adomvik.open-says {M = M}; one = by-equations (adomvik.open_form).params u8 counts_number (λ row counts. (open_counts_row row counts, tt)) }
+pub adomvik-open-one : Determined adomvik.open_form (λ M 𝓤 𝓛. adomvik-open.spec 𝓛)
+adomvik-open-one = record { cited = λ M 𝓤 𝓛. adomvik.open-says 𝓛; one = by-equations (adomvik.open_form).params u8 counts_number (λ row counts. (open_counts_row row counts, tt)) }
 
-pub adomvik-open-plans-one : Determined adomvik.plans_form (λ M. adomvik-open-plans.spec {M = M})
-adomvik-open-plans-one = record { cited = λ M. adomvik.open-plans-says {M = M}; one = by-equations (adomvik.plans_form).params u8 open_number (λ row plans. (open_row row plans, tt)) }
+pub adomvik-open-plans-one : Determined adomvik.plans_form (λ M 𝓤 𝓛. adomvik-open-plans.spec 𝓛)
+adomvik-open-plans-one = record { cited = λ M 𝓤 𝓛. adomvik.open-plans-says 𝓛; one = by-equations (adomvik.plans_form).params u8 open_number (λ row plans. (open_row row plans, tt)) }
 
-pub adomvik-sample-one : Determined adomvik.sample_form (λ M. adomvik-sample.spec {M = M})
-adomvik-sample-one = record { cited = λ M. adomvik.sample-says {M = M}; one = by-equations (adomvik.sample_form).params u8 (λ row n x mv out. sample_number row n x mv) (λ row n x mv out. (sample_row row n x mv, (sample_out row n x mv out, tt))) }
+pub adomvik-sample-one : Determined adomvik.sample_form (λ M 𝓤 𝓛. adomvik-sample.spec 𝓛)
+adomvik-sample-one = record { cited = λ M 𝓤 𝓛. adomvik.sample-says 𝓛; one = by-equations (adomvik.sample_form).params u8 (λ row n x mv out. sample_number row n x mv) (λ row n x mv out. (sample_row row n x mv, (sample_out row n x mv out, tt))) }
 
-pub adomvik-sample-board-one : Determined adomvik.board_form (λ M. adomvik-sample-board.spec {M = M})
-adomvik-sample-board-one = record { cited = λ M. adomvik.sample-board-says {M = M}; one = by-equations (adomvik.board_form).params u8 (λ b x mv out. board_number b x mv) (λ b x mv out. ((sample_of b x mv).board, (board_out b x mv out, tt))) }
+pub adomvik-sample-board-one : Determined adomvik.board_form (λ M 𝓤 𝓛. adomvik-sample-board.spec 𝓛)
+adomvik-sample-board-one = record { cited = λ M 𝓤 𝓛. adomvik.sample-board-says 𝓛; one = by-equations (adomvik.board_form).params u8 (λ b x mv out. board_number b x mv) (λ b x mv out. ((sample_of b x mv).board, (board_out b x mv out, tt))) }
 
-pub adomvik-frame-one : Determined adomvik.frame_form (λ M. adomvik-frame.spec {M = M})
-adomvik-frame-one = record { cited = λ M. adomvik.frame-says {M = M}; one = by-equations (adomvik.frame_form).params u8 frame_number (λ row bytes buffer. (frame_row row bytes buffer, (frame_buffer row bytes buffer, tt))) }
+pub adomvik-frame-one : Determined adomvik.frame_form (λ M 𝓤 𝓛. adomvik-frame.spec 𝓛)
+adomvik-frame-one = record { cited = λ M 𝓤 𝓛. adomvik.frame-says 𝓛; one = by-equations (adomvik.frame_form).params u8 frame_number (λ row bytes buffer. (frame_row row bytes buffer, (frame_buffer row bytes buffer, tt))) }
 
-pub adomvik-list-one : Determined adomvik.list_form (λ M. adomvik-list.spec {M = M})
-adomvik-list-one = record { cited = λ M. adomvik.list-says {M = M}; one = by-equations (adomvik.list_form).params u32 list_number (λ row n words. (list_buffer row n words, tt)) }
+pub adomvik-list-one : Determined adomvik.list_form (λ M 𝓤 𝓛. adomvik-list.spec 𝓛)
+adomvik-list-one = record { cited = λ M 𝓤 𝓛. adomvik.list-says 𝓛; one = by-equations (adomvik.list_form).params u32 list_number (λ row n words. (list_buffer row n words, tt)) }
 
-pub adomvik-read-one : Determined adomvik.read_form (λ M. adomvik-read.spec {M = M})
-adomvik-read-one = record { cited = λ M. adomvik.read-says {M = M}; one = by-equations (adomvik.read_form).params u8 (λ row out. read_number row) (λ row out. (read_out row out, tt)) }
+pub adomvik-read-one : Determined adomvik.read_form (λ M 𝓤 𝓛. adomvik-read.spec 𝓛)
+adomvik-read-one = record { cited = λ M 𝓤 𝓛. adomvik.read-says 𝓛; one = by-equations (adomvik.read_form).params u8 (λ row out. read_number row) (λ row out. (read_out row out, tt)) }
 
-pub adomvik-up-one : Determined adomvik.up_form (λ M. adomvik-up.spec {M = M})
-adomvik-up-one = record { cited = λ M. adomvik.up-says {M = M}; one = by-equations (adomvik.up_form).params u8 (λ row out. up_number row) (λ row out. (up_out row out, tt)) }
+pub adomvik-up-one : Determined adomvik.up_form (λ M 𝓤 𝓛. adomvik-up.spec 𝓛)
+adomvik-up-one = record { cited = λ M 𝓤 𝓛. adomvik.up-says 𝓛; one = by-equations (adomvik.up_form).params u8 (λ row out. up_number row) (λ row out. (up_out row out, tt)) }
 
 -- ---- a recording checked, by the library and for C: what is told, and the row
 
-pub check-one : Determined adomvik.check_form (λ M. check.spec {M = M})
+pub check-one : Determined adomvik.check_form (λ M 𝓤 𝓛. check.spec 𝓛)
 check-one = record { cited = λ M 𝓤 𝓛 mem run. refl; one = by-equations (adomvik.check_form).params (adomvik.check_form).result check_of (λ row bytes. (check_row row bytes, tt)) }
 
-pub adomvik-check-row-one : Determined adomvik.check_form (λ M. adomvik-check-row.spec {M = M})
-adomvik-check-row-one = record { cited = λ M. adomvik.check-row-says {M = M}; one = check-one.one }
+pub adomvik-check-row-one : Determined adomvik.check_form (λ M 𝓤 𝓛. adomvik-check-row.spec 𝓛)
+adomvik-check-row-one = record { cited = λ M 𝓤 𝓛. adomvik.check-row-says 𝓛; one = check-one.one }
 
 -- ---- a recording, by the library and for C: the recorder, and the memory
 
 abbrev begin_form : Form
 begin_form = gives {n = 2} (handed 0 tt u8 ∷ shown 1 tt u32 ∷ []) Recorder.the_row (λ memory plans. begin_recorder plans (length memory)) (λ memory plans. (begin_memory plans memory, tt))
 
-pub begin-one : Determined begin_form (λ M. begin.spec {M = M})
+pub begin-one : Determined begin_form (λ M 𝓤 𝓛. begin.spec 𝓛)
 begin-one = record { cited = λ M 𝓤 𝓛 mem run. refl; one = by-equations begin_form.params Recorder.the_row (λ memory plans. begin_recorder plans (length memory)) (λ memory plans. (begin_memory plans memory, tt)) }
 
-pub adomvik-begin-one : Determined begin_form (λ M. adomvik-begin.spec {M = M})
+pub adomvik-begin-one : Determined begin_form (λ M 𝓤 𝓛. adomvik-begin.spec 𝓛)
 adomvik-begin-one = record { cited = λ M 𝓤 𝓛 mem run. refl; one = begin-one.one }
 
 abbrev sample_noted : ℕ → ℕ → ℕ → ℕ → ℤ → List ℕ → ℕ → ℕ → ℕ → Noted
@@ -179,7 +179,7 @@ note_sample_form = gives {n = 2}
     (λ r memory board elapsed load thermistor shunt cells number status bled. note_recorder r (recordable (sample board elapsed load thermistor shunt cells)) (sample_noted board elapsed load thermistor shunt cells number status bled) (length memory))
     (λ r memory board elapsed load thermistor shunt cells number status bled. (note_memory r (recordable (sample board elapsed load thermistor shunt cells)) (sample_noted board elapsed load thermistor shunt cells number status bled) memory, tt))
 
-pub note-sample-one : Determined note_sample_form (λ M. note-sample.spec {M = M})
+pub note-sample-one : Determined note_sample_form (λ M 𝓤 𝓛. note-sample.spec 𝓛)
 note-sample-one = record {
   cited = λ M 𝓤 𝓛 mem run. refl;
   one = by-equations note_sample_form.params Recorder.the_row
@@ -193,7 +193,7 @@ readings_form = gives {n = 2}
     (λ r memory board x cells number status bled. note_recorder r (recordable (sample board x.elapsed x.load x.thermistor x.shunt cells)) (sample_noted board x.elapsed x.load x.thermistor x.shunt cells number status bled) (length memory))
     (λ r memory board x cells number status bled. (note_memory r (recordable (sample board x.elapsed x.load x.thermistor x.shunt cells)) (sample_noted board x.elapsed x.load x.thermistor x.shunt cells number status bled) memory, tt))
 
-pub adomvik-note-sample-one : Determined readings_form (λ M. adomvik-note-sample.spec {M = M})
+pub adomvik-note-sample-one : Determined readings_form (λ M 𝓤 𝓛. adomvik-note-sample.spec 𝓛)
 adomvik-note-sample-one = record {
   cited = λ M 𝓤 𝓛 mem run. refl;
   one = by-equations readings_form.params Recorder.the_row
@@ -206,7 +206,7 @@ note_frame_form = gives {n = 3} (value Recorder.the_row ∷ handed 0 tt u8 ∷ s
     (λ r memory bytes reply number. note_recorder r (frame_can bytes reply) (noted (frame bytes) (answer_of number (take 4 reply))) (length memory))
     (λ r memory bytes reply number. (note_memory r (frame_can bytes reply) (noted (frame bytes) (answer_of number (take 4 reply))) memory, tt))
 
-pub note-frame-one : Determined note_frame_form (λ M. note-frame.spec {M = M})
+pub note-frame-one : Determined note_frame_form (λ M 𝓤 𝓛. note-frame.spec 𝓛)
 note-frame-one = record {
   cited = λ M 𝓤 𝓛 mem run. refl;
   one = by-equations note_frame_form.params Recorder.the_row
@@ -214,7 +214,7 @@ note-frame-one = record {
       (λ r memory bytes reply number. (note_memory r (frame_can bytes reply) (noted (frame bytes) (answer_of number (take 4 reply))) memory, tt));
 }
 
-pub adomvik-note-frame-one : Determined note_frame_form (λ M. adomvik-note-frame.spec {M = M})
+pub adomvik-note-frame-one : Determined note_frame_form (λ M 𝓤 𝓛. adomvik-note-frame.spec 𝓛)
 adomvik-note-frame-one = record { cited = λ M 𝓤 𝓛 mem run. refl; one = note-frame-one.one }
 
 abbrev note_reading_form : Form
@@ -222,7 +222,7 @@ note_reading_form = gives {n = 1} (value Recorder.the_row ∷ handed 0 tt u8 ∷
     (λ r memory number line chg dsg board cell. note_recorder r true (noted reading (answer_of number (line ∷ chg ∷ dsg ∷ board ∷ cell ∷ []))) (length memory))
     (λ r memory number line chg dsg board cell. (note_memory r true (noted reading (answer_of number (line ∷ chg ∷ dsg ∷ board ∷ cell ∷ []))) memory, tt))
 
-pub note-reading-one : Determined note_reading_form (λ M. note-reading.spec {M = M})
+pub note-reading-one : Determined note_reading_form (λ M 𝓤 𝓛. note-reading.spec 𝓛)
 note-reading-one = record {
   cited = λ M 𝓤 𝓛 mem run. refl;
   one = by-equations note_reading_form.params Recorder.the_row
@@ -230,7 +230,7 @@ note-reading-one = record {
       (λ r memory number line chg dsg board cell. (note_memory r true (noted reading (answer_of number (line ∷ chg ∷ dsg ∷ board ∷ cell ∷ []))) memory, tt));
 }
 
-pub adomvik-note-reading-one : Determined note_reading_form (λ M. adomvik-note-reading.spec {M = M})
+pub adomvik-note-reading-one : Determined note_reading_form (λ M 𝓤 𝓛. adomvik-note-reading.spec 𝓛)
 adomvik-note-reading-one = record { cited = λ M 𝓤 𝓛 mem run. refl; one = note-reading-one.one }
 
 -- ---- below and beside the library
@@ -244,63 +244,63 @@ put_bytes_form = record {
   says_of = λ κs a r e. Put a.1.0 a.1.1.0.now a.0.now e.0.now r;
 }
 
-pub put-bytes-one : DeterminedIf put_bytes_form (λ κs a. a.1.0 + length a.1.1.0.now ≤ length a.0.now) (λ M. put-bytes.spec {M = M})
+pub put-bytes-one : DeterminedIf put_bytes_form (λ κs a. a.1.0 + length a.1.1.0.now ≤ length a.0.now) (λ M 𝓤 𝓛. put-bytes.spec 𝓛)
 put-bytes-one = record { cited = λ M 𝓤 𝓛 mem run. refl; one = λ κs a r t e u p q. (agree p.after q.after, λ i. (agree p.whole q.whole i, tt)) }
 
 -- the reply, and the buffer, which has room for it
 abbrev put_form : Form
 put_form = gives {n = 1} (handed 0 tt u8 ∷ value Frame-taken.the_row ∷ value Frame-outcome.the_row ∷ []) Reply.the_row (λ buffer. reply_of) (λ buffer taken outcome. (buffer_with buffer (reply_of taken outcome), tt))
 
-pub frame-put-one : DeterminedIf put_form (λ κs a. 4 ≤ length a.0.now) (λ M. frame-put.spec {M = M})
+pub frame-put-one : DeterminedIf put_form (λ κs a. 4 ≤ length a.0.now) (λ M 𝓤 𝓛. frame-put.spec 𝓛)
 frame-put-one = record { cited = λ M 𝓤 𝓛 mem run. refl; one = by-equations put_form.params Reply.the_row (λ buffer. reply_of) (λ buffer taken outcome. (buffer_with buffer (reply_of taken outcome), tt)) }
 
 -- how many entries, and the buffer, which has room for them
 abbrev put_listing_form : Form
 put_listing_form = gives {n = 1} (value Journals.the_row ∷ handed 0 tt u32 ∷ []) usize (λ j out. length (listing j)) (λ j out. (words_over (listing j) out, tt))
 
-pub put-listing-one : DeterminedIf put_listing_form (λ κs a. 3 * length (listing a.0) ≤ length a.1.0.now) (λ M. put-listing.spec {M = M})
+pub put-listing-one : DeterminedIf put_listing_form (λ κs a. 3 * length (listing a.0) ≤ length a.1.0.now) (λ M 𝓤 𝓛. put-listing.spec 𝓛)
 put-listing-one = record { cited = λ M 𝓤 𝓛 mem run. refl; one = by-equations put_listing_form.params usize (λ j out. length (listing j)) (λ j out. (words_over (listing j) out, tt)) }
 
 -- the answer, and the record
 abbrev sample_board_form : Form
 sample_board_form = on-record Answer.the_row Board.the_row Readings.the_row u32 (λ b x mv. (sample_of b x mv).answer) (λ b x mv. (sample_of b x mv).board)
 
-pub sample-board-one : Determined sample_board_form (λ M. sample-board.spec {M = M})
+pub sample-board-one : Determined sample_board_form (λ M 𝓤 𝓛. sample-board.spec 𝓛)
 sample-board-one = record { cited = λ M 𝓤 𝓛 mem run. refl; one = by-equations sample_board_form.params Answer.the_row (λ b x mv. (sample_of b x mv).answer) (λ b x mv. ((sample_of b x mv).board, tt)) }
 
 -- the outcome, and the record
 abbrev obey_form : Form
 obey_form = on_one Frame-outcome.the_row Board.the_row Request.the_row (λ b asked. (obeyed_of b asked).outcome) (λ b asked. (obeyed_of b asked).board)
 
-pub obey-board-one : Determined obey_form (λ M. obey-board.spec {M = M})
+pub obey-board-one : Determined obey_form (λ M 𝓤 𝓛. obey-board.spec 𝓛)
 obey-board-one = record { cited = λ M 𝓤 𝓛 mem run. refl; one = by-equations obey_form.params Frame-outcome.the_row (λ b asked. (obeyed_of b asked).outcome) (λ b asked. ((obeyed_of b asked).board, tt)) }
 
 -- the reading of a row, which is only read
 abbrev read_row_form : Form
 read_row_form = of-slice Whole.the_row Board.the_row read_row
 
-pub read-row-one : Determined read_row_form (λ M. read-row.spec {M = M})
+pub read-row-one : Determined read_row_form (λ M 𝓤 𝓛. read-row.spec 𝓛)
 read-row-one = record { cited = λ M 𝓤 𝓛 mem run. refl; one = by-equations read_row_form.params Whole.the_row read_row (λ row. tt) }
 
 -- the fault line of a row, which is only read
 abbrev line_row_form : Form
 line_row_form = of-slice Line.the_row Board.the_row line_row
 
-pub line-row-one : Determined line_row_form (λ M. Line-row.spec {M = M})
+pub line-row-one : Determined line_row_form (λ M 𝓤 𝓛. Line-row.spec 𝓛)
 line-row-one = record { cited = λ M 𝓤 𝓛 mem run. refl; one = by-equations line_row_form.params Line.the_row line_row (λ row. tt) }
 
 -- what is told, and the row
 abbrev act_form : Form
 act_form = on_row Told.the_row Board.the_row Act.the_row act_told act_row
 
-pub act-row-one : Determined act_form (λ M. act-row.spec {M = M})
+pub act-row-one : Determined act_form (λ M 𝓤 𝓛. act-row.spec 𝓛)
 act-row-one = record { cited = λ M 𝓤 𝓛 mem run. refl; one = by-equations act_form.params Told.the_row act_told (λ row a. (act_row row a, tt)) }
 
 -- the stack with its answer, and the buffer
 abbrev frame_held_form : Form
 frame_held_form = gives {n = 2} (value Stack.the_row ∷ shown 0 tt u8 ∷ handed 1 tt u8 ∷ []) FramedStack.the_row framed_of (λ s bytes buffer. (framed_buffer s bytes buffer, tt))
 
-pub frame-held-one : Determined frame_held_form (λ M. frame-held.spec {M = M})
+pub frame-held-one : Determined frame_held_form (λ M 𝓤 𝓛. frame-held.spec 𝓛)
 frame-held-one = record { cited = λ M 𝓤 𝓛 mem run. refl; one = by-equations frame_held_form.params FramedStack.the_row framed_of (λ s bytes buffer. (framed_buffer s bytes buffer, tt)) }
 
 -- the place after what is printed, and the buffer
@@ -312,5 +312,5 @@ put_told_form = record {
   says_of = λ κs a r e. let out = a.0.now in let at = a.1.0 in Put at (placed (length out) at a.1.1.0) out e.0.now r;
 }
 
-pub put-told-one : Determined put_told_form (λ M. put-told.spec {M = M})
+pub put-told-one : Determined put_told_form (λ M 𝓤 𝓛. put-told.spec 𝓛)
 put-told-one = record { cited = λ M 𝓤 𝓛 mem run. refl; one = λ κs a r t e u p q. (agree p.after q.after, λ i. (agree p.whole q.whole i, tt)) }

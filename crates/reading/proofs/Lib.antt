@@ -4,3 +4,4 @@ pub mod Along
 pub mod Searching
 pub mod Scanned
 pub mod Lined
+pub mod Known

@@ -3,6 +3,7 @@ pub mod Signs
 pub mod Taken
 pub mod Answers
 pub mod Turns
+pub mod Known
 pub mod Acted
 pub mod RunShape
 pub mod Runs

@@ -8,4 +8,5 @@ pub mod Kept
 pub mod Feeds
 pub mod Lasts
 pub mod Blocks
+pub mod Known
 pub mod Many

@@ -19,7 +19,7 @@
 use mathlib.Core.Path.{◌≡◌, sym, subst}
 use mathlib.Core.List.{[], ◌∷◌, List}
 use seplogic.Ra.Ura.{Ura}
-use mir.Syntax.{Name, Place, Opd as Operand, Body, named, seq, call}
+use mir.Syntax.{Callee, Place, Opd as Operand, Body, seq, call}
 use base.Fml.{Lft, Share, flft}
 use prog.Wp.{Env, Loops, Tables}
 use types.Logic.{Logic}
@@ -28,9 +28,9 @@ use types.Run.{Opds, no_more}
 use denote.RattleType.{RattleType}
 use denote.Laws.{Is}
 use denote.Ref.{Bor}
-use denote.Slice.{shr_slice_vals, shr_slice_copy}
+use denote.Slice.{shr_slice_vals}
 use denote.Triple.Statement.{Triple}
-use Rattle.walks.proofs.Plain.{PlainType}
+use Rattle.walks.proofs.Plain.{PlainType, Shown-twice}
 use Rattle.walks.proofs.Form.{Form, value, shown, handed, behind, met, asks, slice-val, shared, calls}
 
 -- ---- what a contract says of a row of Y: functions of the row and the other arguments, and the equations that they give
@@ -167,32 +167,32 @@ module _ {M : Type 1} {𝓤 : Ura M} {𝓛 : Logic 𝓤} {K : Type 0} {Γ : List
   pub at_value : (𝓣 : Tables 𝓤 H) (O : RattleType) (P : PlainType 𝓛 O) (z : O.Denot) → (Is O z (P.val z ∷ []) → Seq K 𝓛 Γ (lands 𝓣.C Λ E d (P.val z) rest q)) → (r : O.Denot) → r ≡ z → Is O r (P.val r ∷ []) → Seq K 𝓛 Γ (lands 𝓣.C Λ E d (P.val r) rest q)
   at_value 𝓣 O P z k r e is = subst (λ (x : O.Denot). Seq K 𝓛 Γ (lands 𝓣.C Λ E d (P.val x) rest q)) (sym e) (k (subst (λ (x : O.Denot). Is O x (P.val x ∷ [])) e is))
 
-  pub calls-nothing : {f : Name} → K → (𝓣 : Tables 𝓤 H) → (O : RattleType) (P : PlainType 𝓛 O) (z : O.Denot) → Triple 𝓤 (𝓣.C f) (met (a-value O z) 𝓤 𝓛)
+  pub calls-nothing : {f : Callee} → K → (𝓣 : Tables 𝓤 H) → (O : RattleType) (P : PlainType 𝓛 O) (z : O.Denot) → Triple 𝓤 (𝓣.C f) (met (a-value O z) 𝓤 𝓛)
       → (Is O z (P.val z ∷ []) → Seq K 𝓛 Γ (lands 𝓣.C Λ E d (P.val z) rest q)) → Seq K 𝓛 Γ (runs 𝓣.C Λ E (seq (call f [] d) rest) q)
   calls-nothing t 𝓣 O P z known k = calls 𝓛 (a-value O z) tt tt tt tt P 𝓣 known tt t (no_more t) (λ r _ e _ is. at_value 𝓣 O P z k r e is)
 
-  pub calls-one : {f : Name} → K → (𝓣 : Tables 𝓤 H) → {X O : RattleType} (N : PlainType 𝓛 X) (P : PlainType 𝓛 O) (F : X.Denot → O.Denot) → Triple 𝓤 (𝓣.C f) (met (of_one O X F) 𝓤 𝓛) → (x : X.Denot) → Is X x (N.val x ∷ []) → {o : Operand}
+  pub calls-one : {f : Callee} → K → (𝓣 : Tables 𝓤 H) → {X O : RattleType} (N : PlainType 𝓛 X) (P : PlainType 𝓛 O) (F : X.Denot → O.Denot) → Triple 𝓤 (𝓣.C f) (met (of_one O X F) 𝓤 𝓛) → (x : X.Denot) → Is X x (N.val x ∷ []) → {o : Operand}
       → Opds K 𝓛 (asks 𝓛 (of_one O X F) (N, tt) tt tt (x, tt) ∷ Γ) E (o ∷ []) (N.val x ∷ []) → (Is O (F x) (P.val (F x) ∷ []) → Seq K 𝓛 Γ (lands 𝓣.C Λ E d (P.val (F x)) rest q)) → Seq K 𝓛 Γ (runs 𝓣.C Λ E (seq (call f (o ∷ []) d) rest) q)
   calls-one t 𝓣 {X} {O} N P F known x so opds k = calls 𝓛 (of_one O X F) (N, tt) tt tt (x, tt) P 𝓣 known (so, tt) t opds (λ r _ e _ is. at_value 𝓣 O P (F x) k r e is)
 
-  pub calls-two : {f : Name} → K → (𝓣 : Tables 𝓤 H) → {X Y O : RattleType} (N : PlainType 𝓛 X) (L : PlainType 𝓛 Y) (P : PlainType 𝓛 O) (F : X.Denot → Y.Denot → O.Denot) → Triple 𝓤 (𝓣.C f) (met (of_two O X Y F) 𝓤 𝓛)
+  pub calls-two : {f : Callee} → K → (𝓣 : Tables 𝓤 H) → {X Y O : RattleType} (N : PlainType 𝓛 X) (L : PlainType 𝓛 Y) (P : PlainType 𝓛 O) (F : X.Denot → Y.Denot → O.Denot) → Triple 𝓤 (𝓣.C f) (met (of_two O X Y F) 𝓤 𝓛)
       → (x : X.Denot) → Is X x (N.val x ∷ []) → (y : Y.Denot) → Is Y y (L.val y ∷ []) → {o o' : Operand} → Opds K 𝓛 (asks 𝓛 (of_two O X Y F) (N, (L, tt)) tt tt (x, (y, tt)) ∷ Γ) E (o ∷ o' ∷ []) (N.val x ∷ L.val y ∷ [])
       → (Is O (F x y) (P.val (F x y) ∷ []) → Seq K 𝓛 Γ (lands 𝓣.C Λ E d (P.val (F x y)) rest q)) → Seq K 𝓛 Γ (runs 𝓣.C Λ E (seq (call f (o ∷ o' ∷ []) d) rest) q)
   calls-two t 𝓣 {X} {Y} {O} N L P F known x so y so' opds k =
       calls 𝓛 (of_two O X Y F) (N, (L, tt)) tt tt (x, (y, tt)) P 𝓣 known (so, (so', tt)) t opds (λ r _ e _ is. at_value 𝓣 O P (F x y) k r e is)
 
 -- a shared slice is handed on as a copy
-pub keeps-copy : {M : Type 1} {𝓤 : Ura M} {𝓛 : Logic 𝓤} {K : Type 0} {Γ : List (Item 𝓤)} {G : Goal 𝓤 𝓛.H} → K → (R : RattleType) (κ : Lft) (y : Bor (List R.Denot)) → Step K 𝓛 (‵ (shared R κ y) ∷ ‵ (shared R κ y) ∷ Γ) G (‵ (shared R κ y) ∷ Γ) G
-keeps-copy {𝓤 = 𝓤} {𝓛 = 𝓛} t R κ y = step (λ s. use1 𝓛 (‵ (shared R κ y) ⊛ ‵ (shared R κ y)) ((shr_slice_copy 𝓛 (named 0) κ R).twice y (shr_slice_vals y)) $ split t $ s)
+pub keeps-copy : {M : Type 1} {𝓤 : Ura M} {𝓛 : Logic 𝓤} {K : Type 0} {Γ : List (Item 𝓤)} {G : Goal 𝓤 𝓛.H} → K → (R : RattleType) → Shown-twice 𝓛 R → (κ : Lft) (y : Bor (List R.Denot)) → Step K 𝓛 (‵ (shared R κ y) ∷ ‵ (shared R κ y) ∷ Γ) G (‵ (shared R κ y) ∷ Γ) G
+keeps-copy {𝓤 = 𝓤} {𝓛 = 𝓛} t R two κ y = step (λ s. use1 𝓛 (‵ (shared R κ y) ⊛ ‵ (shared R κ y)) ((two κ).twice y (shr_slice_vals y)) $ split t $ s)
 
 module _ {M : Type 1} {𝓤 : Ura M} {𝓛 : Logic 𝓤} {K : Type 0} {Γ : List (Item 𝓤)} {E : Env 𝓤 𝓛.H} {Λ : Loops 𝓤 𝓛.H} {q : Post 𝓤 𝓛.H} {d : Place} {rest : Body} where
   -- [the token; the row]  to the same. While the operand is read, what the callee asks stands in the token's place
   open 𝓛 use {H}
 
-  pub calls-slice : {f : Name} → K → (𝓣 : Tables 𝓤 H) → (R : RattleType) {O : RattleType} (P : PlainType 𝓛 O) (F : List R.Denot → O.Denot) → Triple 𝓤 (𝓣.C f) (met (of-slice O R F) 𝓤 𝓛) → (κ : Lft) (p : Share) (ys : Bor (List R.Denot)) → {o : Operand}
+  pub calls-slice : {f : Callee} → K → (𝓣 : Tables 𝓤 H) → (R : RattleType) → Shown-twice 𝓛 R → {O : RattleType} (P : PlainType 𝓛 O) (F : List R.Denot → O.Denot) → Triple 𝓤 (𝓣.C f) (met (of-slice O R F) 𝓤 𝓛) → (κ : Lft) (p : Share) (ys : Bor (List R.Denot)) → {o : Operand}
       → Opds K 𝓛 (asks 𝓛 (of-slice O R F) tt (κ, tt) (p, tt) (ys, tt) ∷ ‵ (shared R κ ys) ∷ Γ) E (o ∷ []) (slice-val ys ∷ [])
       → ((r : O.Denot) → r ≡ F ys.now → Is O r (P.val r ∷ []) → Seq K 𝓛 (‵ (flft κ p) ∷ ‵ (shared R κ ys) ∷ Γ) (lands 𝓣.C Λ E d (P.val r) rest q))
       → Seq K 𝓛 (‵ (flft κ p) ∷ ‵ (shared R κ ys) ∷ Γ) (runs 𝓣.C Λ E (seq (call f (o ∷ []) d) rest) q)
-  calls-slice t 𝓣 R {O} P F known κ p ys opds k =
-      move t (1 ∷ []) $ keeps-copy t R κ ys $ move t (2 ∷ 0 ∷ []) $
+  calls-slice t 𝓣 R two {O} P F known κ p ys opds k =
+      move t (1 ∷ []) $ keeps-copy t R two κ ys $ move t (2 ∷ 0 ∷ []) $
       calls 𝓛 (of-slice O R F) tt (κ, tt) (p, tt) (ys, tt) P 𝓣 known tt t opds (λ r _ e _ is. k r e is)

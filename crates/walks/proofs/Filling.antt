@@ -15,8 +15,8 @@ use mathlib.Core.List.{[], ◌∷◌, List}
 use lib.ListN.{length}
 use lib.WfN.{lt-wf_rel}
 use seplogic.Ra.Ura.{Ura}
-use seplogic.Ra.TreeShare.{full_share}
-use mir.Syntax.{Name, Fn, Body as Code, erased, mut, ty_bool, place, skip, seq, cond, call, block, loop, exit, return, rv_opd, Local}
+use base.Fraction.{full_share}
+use mir.Syntax.{Callee, Fn, Body as Code, erased, mut, ty_bool, place, skip, seq, cond, call, block, loop, exit, return, rv_opd, Local}
 use mir.Val.{Val, vbool}
 use base.Logic.{SProp}
 use base.Fml.{Lft, Share, flft}
@@ -31,20 +31,20 @@ use denote.Ref.{Bor, MutBor}
 use denote.Slice.{slice_val, Room}
 use denote.Struct.Declared as D
 use denote.Triple.Statement.{Triple}
-use Rattle.walks.proofs.Plain.{ty, PlainType, has, boolean}
+use Rattle.walks.proofs.Plain.{ty, PlainType, has, boolean, Shown-twice}
 use Rattle.walks.proofs.Walk.{decide, cell, room}
 use Rattle.walks.proofs.Steps.{it, sets, steps, by_values, ref-to, slice_of, hands_to, fits-slice, Has, Free, Dies, var, fills, lands-in, hands_on, Blocks, lie-at, ends-in}
-use Rattle.walks.proofs.Form.{Form, code_of, value, shown, handed, Fulfils, met, slice-val, shared, mut_slice, calls_last, Post, exits, Walk, meets-form}
+use Rattle.walks.proofs.Form.{Form, code_of, value, shown, handed, Fulfils, met, slice-val, shared, mut_slice, calls_last, Post, exits, Walk, meets-form, mut-slice-val}
 use Rattle.walks.proofs.Callee.{of_one, keeps-copy, calls-one}
-use Rattle.walks.proofs.Lent.{lent-as, settles, lends_row, lent-home}
+use Rattle.walks.proofs.Lent.{lent-as, settles-as, lends_row, lent-home}
 
 pub record Shape : Type 2 where
   -- the record, the state and an element of the slice
   pub T : D.Declared
   pub S : RattleType
   pub E : RattleType
-  pub more : Name
-  pub f : Name
+  pub more : Callee
+  pub f : Callee
   -- what the contracts of more and f say, what g's says, and the turns that are left
   pub goes_on : S.Denot → Bool
   pub state-at : List T.D → S.Denot → List E.Denot → S.Denot
@@ -98,6 +98,7 @@ pub record Knows {M : Type 1} {𝓤 : Ura M} (𝓛 : Logic 𝓤) (s : Shape) : T
   pub turns : (ys : List s.T.D) (x : s.S.Denot) (cs : List s.E.Denot) → s.goes_on x ≡ true → Same s ys x cs (s.row-at ys x cs) (s.state-at ys x cs)
   pub falls : (ys : List s.T.D) (x : s.S.Denot) (cs : List s.E.Denot) → s.goes_on x ≡ true → s.left (s.state-at ys x cs) < s.left x
   pub plain-S : PlainType 𝓛 s.S
+  pub twice-E : Shown-twice 𝓛 s.E
 
 module _ {M : Type 1} {𝓤 : Ura M} (𝓛 : Logic 𝓤) (s : Shape) (k : Knows 𝓛 s) (𝓣 : Tables 𝓤 𝓛.H) (known_more : Triple 𝓤 (𝓣.C s.more) (met (of_one bool s.S s.goes_on) 𝓤 𝓛)) (known : Triple 𝓤 (𝓣.C s.f) (met (one s) 𝓤 𝓛)) where
   open 𝓛 use {H}
@@ -105,7 +106,7 @@ module _ {M : Type 1} {𝓤 : Ura M} (𝓛 : Logic 𝓤) (s : Shape) (k : Knows 
   abbrev St : PlainType 𝓛 s.S
   St = k.plain-S
 
-  module _ (κ κ₁ : Lft) (q q₁ : Share) (ys : Bor (List s.T.D)) (x : s.S.Denot) (cs : Bor (List s.E.Denot)) (space : Room (D.row s.T) (length ys.now)) where
+  module _ (κ κ₁ : Lft) (q q₁ : Share) (ys : MutBor (List s.T.D)) (x : s.S.Denot) (cs : Bor (List s.E.Denot)) (space : Room (D.row s.T) (length ys.now)) where
     record State : Type 0 where
       row : List s.T.D
       st : s.S.Denot
@@ -155,7 +156,7 @@ module _ {M : Type 1} {𝓤 : Ura M} (𝓛 : Logic 𝓤) (s : Shape) (k : Knows 
       abbrev Γ : State → List (Item 𝓤)
       Γ t =
           ‵ (flft κ q) ∷ ‵ (mut_slice (R s) κ (row_now t)) ∷ ‵ (flft κ₁ q₁) ∷ ‵ (shared s.E κ₁ cs) ∷ Free 𝓤 H En 7 ∷ Dies 𝓤 H En 7 ∷ Free 𝓤 H En 6 ∷ Dies 𝓤 H En 6 ∷ Free 𝓤 H En 5 ∷ Dies 𝓤 H En 5
-          ∷ Has 𝓤 H En 4 full_share (St.val t.st) ∷ Dies 𝓤 H En 4 ∷ Has 𝓤 H En 3 full_share (slice-val cs) ∷ Dies 𝓤 H En 3 ∷ Has 𝓤 H En 2 full_share (St.val x) ∷ Dies 𝓤 H En 2 ∷ Has 𝓤 H En 1 full_share (slice-val ys) ∷ Dies 𝓤 H En 1 ∷ Free 𝓤 H En 0 ∷ Dies 𝓤 H En 0 ∷ []
+          ∷ Has 𝓤 H En 4 full_share (St.val t.st) ∷ Dies 𝓤 H En 4 ∷ Has 𝓤 H En 3 full_share (slice-val cs) ∷ Dies 𝓤 H En 3 ∷ Has 𝓤 H En 2 full_share (St.val x) ∷ Dies 𝓤 H En 2 ∷ Has 𝓤 H En 1 full_share (mut-slice-val ys) ∷ Dies 𝓤 H En 1 ∷ Free 𝓤 H En 0 ∷ Dies 𝓤 H En 0 ∷ []
 
       abbrev After : State → AtEnd 𝓤 H
       After t = any_q (after_turn 𝓤 H (Below 𝓛 fewer Γ t) (after_block 𝓤 H (after_seq 𝓤 H (Wp 𝓤 H 𝓣.C 𝓣.Λ En (returned s) (at_return 𝓤 H En Ends)) (at_return 𝓤 H En Ends))))
@@ -164,10 +165,10 @@ module _ {M : Type 1} {𝓤 : Ura M} (𝓛 : Logic 𝓤) (s : Shape) (k : Knows 
       unfolding after_turn
       goes-round t so =
           calls-one ! 𝓣 St (boolean 𝓛) s.goes_on known_more t.st t.is (and_then ! (var ! 11 refl) (no_more !)) (λ _. lands-in ! 8 refl (tt, tt) $ rewrite ! 8 (λ (y : Bool). Has 𝓤 H En 5 full_share (vbool y)) so refl $ stays ! (var ! 8 refl) $
-          hands_on ! 16 6 4 refl refl refl refl refl refl (tt, tt) (fits-slice space.0) $ rewrite ! 4 (λ (m : ℕ). Has 𝓤 H En 7 full_share (slice_val ys.ptr m)) (sym t.row-long) refl $
+          hands_on ! 16 6 4 refl refl refl refl refl refl (tt, tt) (fits-slice space.0) $ rewrite ! 4 (λ (m : ℕ). Has 𝓤 H En 7 full_share (slice_val ys.ref_ptr m)) (sym t.row-long) refl $
           lends_row (R s) (row_now t) ! tt (row_room t) (λ ν δ.
           -- [ν's token; the row; what its lender keeps; the slice's token; the slice; _7: 5; ..]
-          move ! (4 ∷ []) $ keeps-copy ! s.E κ₁ cs $ move ! (2 ∷ 5 ∷ 3 ∷ 0 ∷ []) $
+          move ! (4 ∷ []) $ keeps-copy ! s.E k.twice-E κ₁ cs $ move ! (2 ∷ 5 ∷ 3 ∷ 0 ∷ []) $
           calls_last 𝓛 (one s) (St, tt) (ν ∷ [], (κ₁, tt)) (full_share, (q₁, tt)) (lent-as (R s) ys δ t.row, (t.st, (cs, tt))) St 𝓣 known (t.is, tt) !
           (and_then ! (var ! 3 refl) (and_then ! (var ! 9 refl) (and_then ! (var ! 11 refl) (no_more !)))) (λ z ws e l is.
           -- [ν's token; the slice's; the last row; the slice; what the row's lender keeps; _7: 5; ..]
@@ -178,7 +179,7 @@ module _ {M : Type 1} {𝓤 : Ura M} (𝓛 : Logic 𝓤) (s : Shape) (k : Knows 
       unfolding after_turn
       is-over t over =
           calls-one ! 𝓣 St (boolean 𝓛) s.goes_on known_more t.st t.is (and_then ! (var ! 11 refl) (no_more !)) (λ _. lands-in ! 8 refl (tt, tt) $ rewrite ! 8 (λ (y : Bool). Has 𝓤 H En 5 full_share (vbool y)) over refl $ leaves_loop ! (var ! 8 refl) $
-          exec ! 𝓣.C 𝓣.Λ En (returned s) (at_ret En Ends) $ fills ! (of_opd ! (var ! 10 refl)) 18 refl (has St t.st t.is) $ move ! (1 ∷ []) $ settles (R s) (row_now t) ! κ $
+          exec ! 𝓣.C 𝓣.Λ En (returned s) (at_ret En Ends) $ fills ! (of_opd ! (var ! 10 refl)) 18 refl (has St t.st t.is) $ move ! (1 ∷ []) $ settles-as (R s) ys ! κ t.row t.row-long $
           -- [the last row; the row's token; the slice's; the slice; ..]
           ends-in ! 18 refl (cell, (cell, (cell, (cell, (cell, (cell, (room, (room, tt)))))))) $ keep ! (1 ∷ 2 ∷ 0 ∷ []) $
           by ! (exits 𝓛 (form s) (St, tt) (κ, (κ₁, tt)) (q, (q₁, tt)) (ys, (x, (cs, tt))) St (t.row, tt) t.st _ (told t over) (t.row-long, tt) t.is))

@@ -6,9 +6,9 @@
 --     search           the same of the records from a place on
 --     function, form   g's MIR, and its form.        meets     g's MIR fulfils that form wherever its callees fulfil theirs
 -- What holds at the loop's test is that the records from the index on decide.
-use mathlib.Core.Path.{◌≡◌, refl, ◌∙◌, ap, sym}
+use mathlib.Core.Path.{◌≡◌, refl, ◌∙◌}
 use mathlib.Core.Bool.{Bool, true, false, cond}
-use Prim.Native.Nat.{ℕ, zero, suc, ◌<◌, ◌≤◌, ◌+◌, ◌^◌}
+use Prim.Native.Nat.{ℕ, ◌<◌, ◌≤◌, ◌+◌, ◌^◌}
 use native.Mathlib.Numerals.{add-one}
 use native.Mathlib.Omega.{arith}
 use mathlib.Core.List.{[], ◌∷◌, List}
@@ -16,8 +16,8 @@ use lib.Dec.{lit<}
 use lib.ListN.{length, get_or, drop as drop_n, drop_of_length-le}
 use lib.Seq.{drop-cons}
 use seplogic.Ra.Ura.{Ura}
-use mir.Syntax.{Name, Fn, Body as Code, w64, ty_int, ty_bool, ty_ptr, place, int, skip, cond as condition, call, return, rv_opd, Local}
-use mir.Val.{Val, vint}
+use mir.Syntax.{Callee, Fn, Body as Code, w64, ty_int, ty_bool, ty_ptr, place, int, skip, cond as condition, call, return, rv_opd, Local}
+use mir.Val.{Val}
 use base.Logic.{SProp, ent}
 use base.Fml.{Lft, Share, flft}
 use prog.Wp.{Env, Tables}
@@ -42,9 +42,9 @@ use Rattle.walks.proofs.OverRow.{Locals, Places, count-on, loop-code, opened, Tu
 pub record Shape : Type 2 where
   pub T : D.Declared
   pub O : RattleType
-  pub f : Name
-  pub at : Name
-  pub none : Name
+  pub f : Callee
+  pub at : Callee
+  pub none : Callee
   pub hit : T.D → Bool
   pub tells : ℕ → O.Denot
   pub ends : ℕ → O.Denot
@@ -82,7 +82,7 @@ module _ (s : Shape) where
   locals = record { i = 2; n = 3; c = 4; p = 6; r = 7 }
 
   -- what a function of the index gives is the answer
-  abbrev told-by : Name → Code
+  abbrev told-by : Callee → Code
   told-by h = steps (call h (it 2 ∷ []) (place 0 []) ∷ []) return
 
   abbrev turn : Code

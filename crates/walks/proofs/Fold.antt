@@ -15,15 +15,15 @@ use lib.Dec.{lit<}
 use lib.ListN.{length, get_or, drop as drop_n, drop_of_length-le}
 use lib.Seq.{drop-cons}
 use seplogic.Ra.Ura.{Ura}
-use seplogic.Ra.TreeShare.{full_share}
-use mir.Syntax.{Name, Fn, Body as Code, w64, ty_int, ty_bool, ty_ptr, place, int, call, return, rv_opd, Local}
+use base.Fraction.{full_share}
+use mir.Syntax.{Callee, Fn, Body as Code, w64, ty_int, ty_bool, ty_ptr, place, int, call, return, rv_opd, Local}
 use mir.Val.{Val}
 use base.Logic.{SProp}
 use base.Fml.{Lft, Share}
 use prog.Wp.{Env, Tables}
 use types.Logic.{Logic}
 use types.Kit.{Item, ◌$◌, !, by, move}
-use types.Run.{init, store, stop, from, lit, of_opd, and_then, no_more, land}
+use types.Run.{store, stop, from, lit, of_opd, and_then, no_more, land}
 use denote.RattleType.{RattleType}
 use denote.Laws.{Is}
 use denote.Builtin.{usize}
@@ -43,8 +43,8 @@ pub record Shape : Type 2 where
   -- the record and the accumulator
   pub T : D.Declared
   pub B : RattleType
-  pub init : Name
-  pub f : Name
+  pub init : Callee
+  pub f : Callee
   pub start : B.Denot
   pub F : B.Denot → ℕ → T.D → B.Denot
   -- a record for where there is none, and what g says

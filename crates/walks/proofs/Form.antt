@@ -5,20 +5,20 @@
 --     slice-val, shared, mut_slice, mut-ref     the machine value of a lent slice, and what a `&[R]`, a `&mut [R]` and a `&mut R` own
 --     ended_of, clauses-of, clauses-if, met, met-if     the signature with each parameter's `Kept`, the clauses and the contract, also with a `requires`
 --     Plains           a `PlainType` for each parameter by value.        Sure, Facts     what is known of the arguments at a call, and at entry
---     tokens, gives, finals     what a caller hands over and gets back: a token for each lifetime, what each slice and reference owns, and what says its last value
+--     tokens, gives, finals     what a caller hands over and gets back: a token for each lifetime, what each slice and reference owns, and its last value with its borrow (slice-last, ref-last)
 --     calls, calls-if, calls_last     one step for a call, for one of a callee with a `requires`, and for one that is the last statement of its part
 --     code_of          the code of such a function: its locals are the result's, the parameters' and others
 --     Post, exits      what is to be shown where the function returns, and how.        Fulfils, meets-form, meets-if     a walk from the tokens and what is given shows that the function meets its contract
--- At exit nothing is had of what came by value or shared, and of a `&mut` no more than what says its last value.
+-- At exit nothing is had of what came by value or shared, and of a `&mut` what says its last value and its borrow, closed.
 use mathlib.Core.Path.{◌≡◌, refl, sym, ap, subst}
 use Prim.Native.Nat.{ℕ, zero, suc}
 use mathlib.Core.List.{List, [], ◌∷◌, ◌++◌}
 use lib.ListN.{length}
 use seplogic.Ra.Ura.{Ura}
-use mir.Syntax.{Name, Ty, Fn, Local, local, value_local, Place, Opd as Operand, Body, named, imm, mut, seq, call}
+use mir.Syntax.{Callee, Ty, Fn, Local, local, value_local, Place, Opd as Operand, Body, named, imm, mut, seq, call}
 use mir.Val.{Val}
 use base.Logic.{SProp, ent, sep, emp, via, id⊢, emp∗, comm∗, mono∗, mono_l, mono_r, fst∗, snd∗, guard_i}
-use base.Fml.{Fml, Lft, ftrue, flft, fres}
+use base.Fml.{Fml, Lft, ftrue, fsep, flft, fres, fbor}
 use prog.Wp.{Env, Loops, WpFn, Tables}
 use types.Logic.{Logic, sem}
 use sound.WpLaws.{fm_of, WpFn-mono}
@@ -26,9 +26,12 @@ use contract.Monad.{fact, fact_use, fact_i}
 use contract.Lifetimes.{Lfts, Shares, Within, lft_at, toks}
 use types.Kit.{Go, at_ret, Goal, Soaks, Item, ‵, raw, some, given, later, learn, ◌⊛◌, ⋆, push, pop, ++⊢, ⊢++, cut, runs, lands, settles, Post as After, Seq, ◌$◌, ◌∵◌, !, qed, move, drop, use1, split, pick, await, suffices, done}
 use types.Run.{Opds}
+use types.SemTy.{Arr, Body as Held}
+use types.Hole.{Holey}
+use denote.Memory.{mem}
 use denote.RattleType.{RattleType, Denots, Valss, flat, owns}
 use denote.Laws.{Is, Ises, Are, Spells, valss, Tellss, shows}
-use denote.Ref.{Bor, MutBor, MutRef, shr_vals, mut_vals, mut_Tells}
+use denote.Ref.{Bor, MutBor, MutRef, mut_vals, mut_Tells}
 use denote.Slice.{Room, slice_val, MutSlice, ShrSlice, finally, shr_slice_vals, mut_slice_vals, mut_slice_Tells, shr_slice_Tells}
 use denote.Signature.{Slot, plain, mut_ref_to, mut_slice_of, shr_slice_of, types_at}
 use denote.Steps.{only, peeks, heard}
@@ -46,6 +49,9 @@ use Rattle.walks.proofs.Steps.{by_values, ref-to, slice_of, fits-slice, Blocks, 
 abbrev pub slice-val : {X : Type 0} → Bor (List X) → Val
 slice-val ys = slice_val ys.ref_ptr (length ys.now)
 
+abbrev pub mut-slice-val : {X : Type 0} → MutBor (List X) → Val
+mut-slice-val ys = slice_val ys.ref_ptr (length ys.now)
+
 abbrev pub shared : (R : RattleType) → Lft → Bor (List R.Denot) → Fml
 shared R κ ys = (ShrSlice (named 0) κ R).own_val ys (shr_slice_vals ys)
 
@@ -54,6 +60,13 @@ mut_slice R κ ys = (MutSlice (named 0) κ R).own_val ys (mut_slice_vals ys)
 
 abbrev pub mut-ref : (R : RattleType) → Lft → MutBor R.Denot → Fml
 mut-ref R κ y = (MutRef (named 0) κ R).own_val y (mut_vals y)
+
+-- what is left at exit of a `&mut [R]` and of a `&mut R` that was passed: what says its last value, and its borrow, closed
+abbrev pub slice-last : (R : RattleType) → Lft → MutBor (List R.Denot) → List R.Denot → Fml
+slice-last R κ y ws = fsep (finally R y.ghost_name ws) (fbor κ (Held (Arr (Holey (mem R)) (length y.now)) y.ref_ptr.0 y.ref_ptr.1 y.ghost_name))
+
+abbrev pub ref-last : (R : RattleType) → Lft → MutBor R.Denot → R.Denot → Fml
+ref-last R κ y w = fsep (fres y.ghost_name (R.coded.code w)) (fbor κ (Held (mem R) y.ref_ptr.0 y.ref_ptr.1 y.ghost_name))
 
 -- ---- the kinds, and what they make of a signature
 pub data Kind (n : ℕ) : Type 2 where
@@ -127,8 +140,8 @@ module _ {M : Type 1} {𝓤 : Ura M} (𝓛 : Logic 𝓤) {n : ℕ} where
     spells [] N = tt
     spells (value R ∷ ks) N = ((λ x. N.0.val x ∷ []), spells ks N.1)
     spells (shown j ok R ∷ ks) N = (shr_slice_vals, spells ks N)
-    spells (handed j ok R ∷ ks) N = (shr_slice_vals, spells ks N)
-    spells (behind j ok R ∷ ks) N = (shr_vals, spells ks N)
+    spells (handed j ok R ∷ ks) N = (mut_slice_vals, spells ks N)
+    spells (behind j ok R ∷ ks) N = (mut_vals, spells ks N)
 
     tellings : (ks : List (Kind n)) (N : Plains ks) → Tellss (types_at (slots ks) κs) (Ises (types_at (slots ks) κs)) (spells ks N)
     tellings [] N = tt
@@ -202,8 +215,8 @@ module _ {M : Type 1} {𝓤 : Ura M} where
     finals [] a ws = []
     finals (value R ∷ ks) a ws = finals ks a.1 ws.1
     finals (shown j ok R ∷ ks) a ws = finals ks a.1 ws.1
-    finals (handed j ok R ∷ ks) a ws = ‵ (finally R a.0.ghost_name ws.0) ∷ finals ks a.1 ws.1
-    finals (behind j ok R ∷ ks) a ws = ‵ (fres a.0.ghost_name (R.coded.code ws.0)) ∷ finals ks a.1 ws.1
+    finals (handed j ok R ∷ ks) a ws = ‵ (slice-last R (lft_at n j ok κs) a.0 ws.0) ∷ finals ks a.1 ws.1
+    finals (behind j ok R ∷ ks) a ws = ‵ (ref-last R (lft_at n j ok κs) a.0 ws.0) ∷ finals ks a.1 ws.1
 
 module _ {M : Type 1} {𝓤 : Ura M} (𝓛 : Logic 𝓤) where
   -- a list of items behind a formula is a pair
@@ -247,15 +260,17 @@ module _ {M : Type 1} {𝓤 : Ura M} (𝓛 : Logic 𝓤) where
     finals-of [] a ws = id⊢ 𝓤 (emp 𝓤)
     finals-of (value R ∷ ks) a ws = without (sem 𝓛 (left (R.exit yes) a.0 ws.0)) (finals-of ks a.1 ws.1)
     finals-of (shown j ok R ∷ ks) a ws = without (sem 𝓛 (ftrue)) (finals-of ks a.1 ws.1)
-    finals-of (handed j ok R ∷ ks) a ws = listed (finally R a.0.ghost_name ws.0) (finals κs ks a.1 ws.1) (fst∗ 𝓤 (sem 𝓛 (finally R a.0.ghost_name ws.0)) (fact 𝓤 (length ws.0 ≡ length a.0.now))) (finals-of ks a.1 ws.1)
-    finals-of (behind j ok R ∷ ks) a ws = listed (fres a.0.ghost_name (R.coded.code ws.0)) (finals κs ks a.1 ws.1) (id⊢ 𝓤 _) (finals-of ks a.1 ws.1)
+    finals-of (handed j ok R ∷ ks) a ws =
+        listed (slice-last R (lft_at n j ok κs) a.0 ws.0) (finals κs ks a.1 ws.1)
+        (mono_l 𝓤 (sem 𝓛 (fbor (lft_at n j ok κs) (Held (Arr (Holey (mem R)) (length a.0.now)) a.0.ref_ptr.0 a.0.ref_ptr.1 a.0.ghost_name))) (fst∗ 𝓤 (sem 𝓛 (finally R a.0.ghost_name ws.0)) (fact 𝓤 (length ws.0 ≡ length a.0.now)))) (finals-of ks a.1 ws.1)
+    finals-of (behind j ok R ∷ ks) a ws = listed (ref-last R (lft_at n j ok κs) a.0 ws.0) (finals κs ks a.1 ws.1) (id⊢ 𝓤 _) (finals-of ks a.1 ws.1)
 
     had-of : (ks : List (Kind n)) (vss : Valss (types_at (slots ks) κs)) (a : Passed κs ks) (ws : Lasting κs ks a) → ent 𝓤 (⋆ 𝓛 (finals κs ks a ws)) (sem 𝓛 (has_of κs (slots ks) (all yes (slots ks)) (stays ks) a ws vss))
     had-of [] vss a ws = id⊢ 𝓤 (emp 𝓤)
     had-of (value R ∷ ks) vss a ws = beside (id⊢ 𝓤 (emp 𝓤)) (had-of ks vss.1 a.1 ws.1)
     had-of (shown j ok R ∷ ks) vss a ws = beside (id⊢ 𝓤 (emp 𝓤)) (had-of ks vss.1 a.1 ws.1)
-    had-of (handed j ok R ∷ ks) vss a ws = paired (finally R a.0.ghost_name ws.0) (finals κs ks a.1 ws.1) (had-of ks vss.1 a.1 ws.1)
-    had-of (behind j ok R ∷ ks) vss a ws = paired (fres a.0.ghost_name (R.coded.code ws.0)) (finals κs ks a.1 ws.1) (had-of ks vss.1 a.1 ws.1)
+    had-of (handed j ok R ∷ ks) vss a ws = paired (slice-last R (lft_at n j ok κs) a.0 ws.0) (finals κs ks a.1 ws.1) (had-of ks vss.1 a.1 ws.1)
+    had-of (behind j ok R ∷ ks) vss a ws = paired (ref-last R (lft_at n j ok κs) a.0 ws.0) (finals κs ks a.1 ws.1) (had-of ks vss.1 a.1 ws.1)
 
     lens-of : (ks : List (Kind n)) (a : Passed κs ks) (ws : Lasting κs ks a) → ent 𝓤 (sem 𝓛 (lasts_of κs (slots ks) (all yes (slots ks)) a ws)) (fact 𝓤 (Lens κs ks a ws))
     lens-of [] a ws = fact_i 𝓤 (Unit {0}) (emp 𝓤) tt
@@ -264,10 +279,12 @@ module _ {M : Type 1} {𝓤 : Ura M} (𝓛 : Logic 𝓤) where
     lens-of (handed j ok R ∷ ks) a ws =
         let P : SProp 𝓤 = sem 𝓛 (finally R a.0.ghost_name ws.0) in
         let L : SProp 𝓤 = fact 𝓤 (length ws.0 ≡ length a.0.now) in
+        let B : SProp 𝓤 = sem 𝓛 (fbor (lft_at n j ok κs) (Held (Arr (Holey (mem R)) (length a.0.now)) a.0.ref_ptr.0 a.0.ref_ptr.1 a.0.ghost_name)) in
         let Q : SProp 𝓤 = sem 𝓛 (lasts_of κs (slots ks) (all yes (slots ks)) a.1 ws.1) in
-        fact_use 𝓤 (length ws.0 ≡ length a.0.now) (via 𝓤 (sep 𝓤 P L) (fst∗ 𝓤 (sep 𝓤 P L) Q) (snd∗ 𝓤 P L)) (λ l. fact_use 𝓤 (Lens κs ks a.1 ws.1) (without (sep 𝓤 P L) (lens-of ks a.1 ws.1))
-        (λ ls. fact_i 𝓤 ((length ws.0 ≡ length a.0.now) × Lens κs ks a.1 ws.1) (sep 𝓤 (sep 𝓤 P L) Q) (l, ls)))
-    lens-of (behind j ok R ∷ ks) a ws = without (sem 𝓛 (fres a.0.ghost_name (R.coded.code ws.0))) (lens-of ks a.1 ws.1)
+        fact_use 𝓤 (length ws.0 ≡ length a.0.now) (via 𝓤 (sep 𝓤 (sep 𝓤 P L) B) (fst∗ 𝓤 (sep 𝓤 (sep 𝓤 P L) B) Q) (via 𝓤 (sep 𝓤 P L) (fst∗ 𝓤 (sep 𝓤 P L) B) (snd∗ 𝓤 P L)))
+        (λ l. fact_use 𝓤 (Lens κs ks a.1 ws.1) (without (sep 𝓤 (sep 𝓤 P L) B) (lens-of ks a.1 ws.1))
+        (λ ls. fact_i 𝓤 ((length ws.0 ≡ length a.0.now) × Lens κs ks a.1 ws.1) (sep 𝓤 (sep 𝓤 (sep 𝓤 P L) B) Q) (l, ls)))
+    lens-of (behind j ok R ∷ ks) a ws = without (sem 𝓛 (ref-last R (lft_at n j ok κs) a.0 ws.0)) (lens-of ks a.1 ws.1)
 
 -- ---- a form: its signature and its contract, which says something of the arguments, the result and the arguments at exit
 abbrev pub Said : {n : ℕ} → List (Kind n) → RattleType → Type 1
@@ -285,7 +302,7 @@ module _ (f : Form) where
 
   -- the code of such a function: the type of its result's local, its locals past the parameters, and its body
   abbrev pub code_of : Ty → List Local → Body → Fn
-  code_of τ rest body = record { lifetimes = f.lifetimes; outlives = []; params = length f.params; locals = local τ value_local ∷ by_values (param-types f.params) ++ rest; body = body }
+  code_of τ rest body = record { lifetimes = f.lifetimes; outlives = []; ty_params = []; givens = zero; params = length f.params; locals = local τ value_local ∷ by_values (param-types f.params) ++ rest; body = body }
 
   -- the arguments at exit, from the last values
   abbrev pub left_at : (κs : Lfts f.lifetimes) (a : Passed κs f.params) → Lasting κs f.params a → Outs κs (slots f.params) (all yes (slots f.params))
@@ -378,14 +395,14 @@ module _ {M : Type 1} {𝓤 : Ura M} (𝓛 : Logic 𝓤) (f : Form) (N : Plains 
         cut (raw (toks 𝓛 f.lifetimes κs qs) ∷ ‵ (lasting ws) ∷ []) (after ws) Γ (returned ws) $
         subst (λ (v : Val). Seq K 𝓛 (after ws ++ Γ) (Aim v)) (sym (ap only (P.tells r (w ∷ []) is))) (k r ws e ls (subst (Is f.result r) (P.tells r (w ∷ []) is) is)))))))
 
-    module _ {K : Type 0} {Γ : List (Item 𝓤)} {E : Env 𝓤 H} (𝓣 : Tables 𝓤 H) {g : Name} (known : Triple 𝓤 (𝓣.C g) (met f 𝓤 𝓛)) (so : Sure 𝓛 κs f.params N a) {xs : List Operand} {Λ : Loops 𝓤 H} {q : After 𝓤 H} {d : Place} where
+    module _ {K : Type 0} {Γ : List (Item 𝓤)} {E : Env 𝓤 H} (𝓣 : Tables 𝓤 H) {g : Callee} (known : Triple 𝓤 (𝓣.C g) (met f 𝓤 𝓛)) (so : Sure 𝓛 κs f.params N a) {xs : List Operand} {Λ : Loops 𝓤 H} {q : After 𝓤 H} {d : Place} where
       pub calls : K → {rest : Body} → Opds K 𝓛 (asks ∷ Γ) E xs operands → Goes_on K Γ (λ v. lands 𝓣.C Λ E d v rest q) → Seq K 𝓛 (before ++ Γ) (runs 𝓣.C Λ E (seq (call g xs d) rest) q)
       calls t {rest} opds k = cut before (asks ∷ []) Γ (asked so) $ calls_at t (fm_of 𝓤 H 𝓛.laws 𝓣) (met f 𝓤 𝓛) known to-callee opds (comes_back t (λ v. lands 𝓣.C Λ E d v rest q) (λ _. tt) k)
 
       pub calls_last : K → Opds K 𝓛 (asks ∷ Γ) E xs operands → Goes_on K Γ (λ v. settles E d v q) → Seq K 𝓛 (before ++ Γ) (runs 𝓣.C Λ E (call g xs d) q)
       calls_last t opds k = cut before (asks ∷ []) Γ (asked so) $ calls_at_last t (fm_of 𝓤 H 𝓛.laws 𝓣) (met f 𝓤 𝓛) known to-callee opds (comes_back t (λ v. settles E d v q) (λ _. tt) k)
 
-    module _ {K : Type 0} {Γ : List (Item 𝓤)} {E : Env 𝓤 H} (𝓣 : Tables 𝓤 H) {g : Name} (φ : (κs : Lfts f.lifetimes) → Passed κs f.params → Type 0) (known : Triple 𝓤 (𝓣.C g) (met-if f 𝓤 φ 𝓛)) (h : φ κs a) (so : Sure 𝓛 κs f.params N a) {xs : List Operand} {Λ : Loops 𝓤 H} {q : After 𝓤 H} {d : Place} where
+    module _ {K : Type 0} {Γ : List (Item 𝓤)} {E : Env 𝓤 H} (𝓣 : Tables 𝓤 H) {g : Callee} (φ : (κs : Lfts f.lifetimes) → Passed κs f.params → Type 0) (known : Triple 𝓤 (𝓣.C g) (met-if f 𝓤 φ 𝓛)) (h : φ κs a) (so : Sure 𝓛 κs f.params N a) {xs : List Operand} {Λ : Loops 𝓤 H} {q : After 𝓤 H} {d : Place} where
       pub calls-if : K → {rest : Body} → Opds K 𝓛 (asks-if φ ∷ Γ) E xs operands → Goes_on K Γ (λ v. lands 𝓣.C Λ E d v rest q) → Seq K 𝓛 (before ++ Γ) (runs 𝓣.C Λ E (seq (call g xs d) rest) q)
       calls-if t {rest} opds k = cut before (asks-if φ ∷ []) Γ (asked-if φ so h) $ calls_at t (fm_of 𝓤 H 𝓛.laws 𝓣) (met-if f 𝓤 φ 𝓛) known to-callee opds (comes_back t (λ v. lands 𝓣.C Λ E d v rest q) (λ _. tt) k)
 

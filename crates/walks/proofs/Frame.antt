@@ -16,7 +16,7 @@ use mathlib.Core.Option.{Option, none, some}
 use lib.Dec.{T as Holds}
 use lib.ListN.{get_or}
 use seplogic.Ra.Ura.{Ura}
-use seplogic.Ra.TreeShare.{full_share}
+use base.Fraction.{full_share}
 use mir.Syntax.{Ty, ty_enum, ttnil, Local, local, Sym, Tys, ty_struct, w64, Rv as RValue, addr_of, deref, field, Body, place, seq, return}
 use mir.Val.{Val, Vals, WT, has_ty, vint, vptr, vstruct}
 use mir.Fields.{get_v}

@@ -12,7 +12,7 @@ use mathlib.Core.List.{[], ◌∷◌, List}
 use lib.Dec.{T as Holds}
 use lib.ListN.{length}
 use seplogic.Ra.Ura.{Ura}
-use mir.Syntax.{Name, Fn, Body as Code, erased, mut, w64, ty_int, ty_bool, place, skip, cond, call, return, rv_opd, Local}
+use mir.Syntax.{Callee, Fn, Body as Code, erased, mut, w64, ty_int, ty_bool, place, skip, cond, call, return, rv_opd, Local}
 use mir.Val.{Val}
 use base.Logic.{SProp, ent}
 use base.Fml.{Lft, Share, flft}
@@ -24,14 +24,14 @@ use types.Run.{of_opd, and_then, no_more, first, branches, skips, exec}
 use denote.RattleType.{RattleType}
 use denote.Laws.{Is}
 use denote.Builtin.{usize, bool}
-use denote.Ref.{Bor}
-use denote.Slice.{Room, finally}
+use denote.Ref.{Bor, MutBor}
+use denote.Slice.{Room}
 use denote.Struct.Declared as D
 use denote.Triple.Statement.{Triple}
 use Rattle.walks.proofs.Plain.{ty, PlainType, has, uint, boolean}
 use Rattle.walks.proofs.Walk.{cell, room}
 use Rattle.walks.proofs.Steps.{it, len_of, sets, steps, by_values, ref-to, slice_of, hands_to, fits-slice, var, len, fills, lands-in, hands_on, lie-at, ends-in, ends-within}
-use Rattle.walks.proofs.Form.{Form, code_of, value, shown, handed, Passed, Fulfils, met, met-if, calls, calls-if, Post, exits, Walk, meets-form}
+use Rattle.walks.proofs.Form.{Form, code_of, value, shown, handed, Passed, Fulfils, met, met-if, calls, calls-if, Post, exits, Walk, meets-form, slice-last}
 use Rattle.walks.proofs.Callee.{Answers, Changes, OfFrame, FrameTold, of_one, on_row, on-frame, calls-one}
 use Rattle.walks.proofs.Lent.{settles}
 
@@ -44,12 +44,12 @@ pub record Shape : Type 2 where
   pub Z : RattleType
   pub Y : RattleType
   pub O : RattleType
-  pub f1 : Name
-  pub done-fn : Name
-  pub told-fn : Name
-  pub part : Name
-  pub f2 : Name
-  pub f3 : Name
+  pub f1 : Callee
+  pub done-fn : Callee
+  pub told-fn : Callee
+  pub part : Callee
+  pub f2 : Callee
+  pub f3 : Callee
   -- of the callees and of g: what is asked, whether that is enough and what it tells, what f3 needs, the answers, and what is left in the row and in the reply
   pub apart : List E.Denot → ℕ → X.Denot
   pub is-done : X.Denot → Bool
@@ -116,12 +116,12 @@ module _ {M : Type 1} {𝓤 : Ura M} (𝓛 : Logic 𝓤) (s : Shape) (k : Knows 
     (known₂ : Triple 𝓤 (𝓣.C s.f2) (met (acts s) 𝓤 𝓛)) (known₃ : Triple 𝓤 (𝓣.C s.f3) (met-if (puts s) 𝓤 (fits s) 𝓛)) where
   open 𝓛 use {H}
 
-  module _ (κ κ₁ κ₂ : Lft) (q q₁ q₂ : Share) (ys : Bor (List s.T.D)) (bs : Bor (List s.E.Denot)) (rs : Bor (List s.G.Denot)) where
+  module _ (κ κ₁ κ₂ : Lft) (q q₁ q₂ : Share) (ys : MutBor (List s.T.D)) (bs : Bor (List s.E.Denot)) (rs : MutBor (List s.G.Denot)) where
     abbrev Ends : Val → SProp 𝓤
     Ends = Post 𝓛 (form s) tt (κ, (κ₁, (κ₂, tt))) (q, (q₁, (q₂, tt))) (ys, (bs, (rs, tt)))
 
     done : (r : s.O.Denot) (zs : List s.T.D) (us : List s.G.Denot) → FrameTold s.answer-of s.row_of s.reply-of ys.now bs.now rs.now r zs us → length zs ≡ length ys.now → length us ≡ length rs.now → Is s.O r (k.plain-O.val r ∷ [])
-        → ent 𝓤 (⋆ 𝓛 (‵ (flft κ q) ∷ ‵ (flft κ₁ q₁) ∷ ‵ (flft κ₂ q₂) ∷ ‵ (finally (R s) ys.ghost_name zs) ∷ ‵ (finally s.G rs.ghost_name us) ∷ [])) (Ends (k.plain-O.val r))
+        → ent 𝓤 (⋆ 𝓛 (‵ (flft κ q) ∷ ‵ (flft κ₁ q₁) ∷ ‵ (flft κ₂ q₂) ∷ ‵ (slice-last (R s) κ ys zs) ∷ ‵ (slice-last s.G κ₂ rs us) ∷ [])) (Ends (k.plain-O.val r))
     done r zs us e l l₂ is = exits 𝓛 (form s) tt (κ, (κ₁, (κ₂, tt))) (q, (q₁, (q₂, tt))) (ys, (bs, (rs, tt))) k.plain-O (zs, (us, tt)) r _ e (l, (l₂, tt)) is
 
     walk : Room (R s) (length ys.now) → Room s.G (length rs.now) → Walk 𝓛 (form s) tt 𝓣 (ty s.O) (others s) (body s) (κ, (κ₁, (κ₂, tt))) (q, (q₁, (q₂, tt))) (ys, (bs, (rs, tt)))

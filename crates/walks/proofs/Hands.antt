@@ -7,7 +7,7 @@
 --     fresh, calling   the locals that a call takes, and its code
 --     Held, at-var     the values that were found, and the value and the type of one at hand
 --     plains, args, sure, Agree     what the callee is passed, and that the lifetimes are those that it names
---     kept, lent       what stays with the caller of what it was given, and that the rest is what the callee asks
+--     kept, lent       what stays with the caller of what it was given, and that the rest is what the callee asks.        Twices     that each slice shown can be handed on as a copy, which `lent` takes
 --     Quiet, restored  a call that is handed no `&mut`: all is there again afterwards
 --     ends_of, settled, lengths     the last values after the last call: what the callee left, and the rest as it was.        nows, let_go, lens-now     all as it was
 --     hands_in, calls-in     one step for the statements that hand on, and one for a call whose arguments lie in locals and whose result lands in one
@@ -16,10 +16,10 @@ use Prim.Native.Nat.{ℕ, suc, ◌≤◌}
 use mathlib.Core.List.{List, [], ◌∷◌, ◌++◌}
 use mathlib.Core.Option.{some}
 use seplogic.Ra.Ura.{Ura}
-use mir.Syntax.{Name, Local, Body, seq, call, named, erased, mut, place, deref, addr_of}
+use mir.Syntax.{Callee, Local, Body, seq, call, erased, mut, place, deref, addr_of}
 use mir.Val.{Val, vptr}
 use base.Logic.{SProp, ent, sep, via, id⊢, snd∗, emp∗, comm∗, assoc∗, assoc', mono_l, mono_r}
-use base.Fml.{Fml, Lft, fres}
+use base.Fml.{Fml, Lft}
 use prog.Wp.{Calls, Loops, Tables}
 use types.Logic.{Logic, sem}
 use types.Kit.{Go, Item, ‵, raw, ⋆, push, pop, ++⊢, ⊢++, cut⊢, drop⊢, Post as After, runs, Seq, ◌$◌, ! }
@@ -27,12 +27,12 @@ use types.Run.{addr}
 use contract.Lifetimes.{Lfts, Shares, Within, lft_at}
 use denote.RattleType.{RattleType, flat}
 use denote.Laws.{Is}
-use denote.Slice.{shr_slice_vals, finally, shr_slice_copy}
+use denote.Slice.{shr_slice_vals}
 use denote.Signature.{types_at}
 use denote.Triple.Statement.{Triple}
-use Rattle.walks.proofs.Plain.{ty, PlainType, has}
+use Rattle.walks.proofs.Plain.{ty, PlainType, Shown-twice, has}
 use Rattle.walks.proofs.Steps.{its, sets, steps, by_values, ref-to, slice_of, hands_to, fits-slice}
-use Rattle.walks.proofs.Form.{Form, Kind, value, shown, handed, behind, slots, param-types, Plains, Passed, machine, Lasting, Lens, Ends, ending, left_at, met, Facts, Sure, slice-val, shared, mut_slice, mut-ref, tokens, gives as given-of, finals, paired, listed, calls}
+use Rattle.walks.proofs.Form.{Form, Kind, value, shown, handed, behind, slots, param-types, Plains, Passed, machine, Lasting, Lens, Ends, ending, left_at, met, Facts, Sure, shared, mut_slice, mut-ref, tokens, gives as given-of, finals, paired, listed, calls, slice-last, ref-last, mut-slice-val}
 use Rattle.walks.proofs.Lent.{seen-row, seen_ref}
 use Rattle.walks.proofs.Frame.{one_more, less, Store, put, Same, put_same, then_same, Layout, frame, Local-is, Locals-are, Known, still, newly, Lie, lies, Params, still-params, vars-in, points-in, sets-in, slice_in, lands-in, turns}
 
@@ -114,7 +114,7 @@ module _ {n m : ℕ} {Qs : List RattleType} {all : List (Kind n)} where
   moves (lends {R = R} h) ms i k = let r = moves h ms (suc i) (suc k) in ((λ b. steps (sets k (addr_of (place i (deref (ty R) ∷ []))) ∷ []) (r.0 b)), k ∷ r.1)
 
 -- the call of g with these arguments, and others in the locals ps before them. Its result goes to the d-th local
-abbrev pub calling : {n m : ℕ} {Qs : List RattleType} {all ks : List (Kind n)} {ls : List (Kind m)} → Hands Qs all ks ls → List ℕ → Name → Spots Qs → (i d k : ℕ) → Body → Body
+abbrev pub calling : {n m : ℕ} {Qs : List RattleType} {all ks : List (Kind n)} {ls : List (Kind m)} → Hands Qs all ks ls → List ℕ → Callee → Spots Qs → (i d k : ℕ) → Body → Body
 calling h ps g ms i d k rest = let r = moves h ms i k in r.0 (seq (call g (its (ps ++ r.1)) (place d [])) rest)
 
 -- ---- what is known of the values at hand
@@ -140,6 +140,14 @@ module _ {M : Type 1} {𝓤 : Ura M} (𝓛 : Logic 𝓤) where
     at-var newest hs N a = hs.0
     at-var (older v) hs N a = at-var v hs.1 N a
 
+  -- what is shown can be handed on as a copy
+  abbrev pub Twices : {n : ℕ} → List (Kind n) → Type 1
+  Twices [] = Unit {1}
+  Twices (value R ∷ ks) = Twices ks
+  Twices (shown j ok R ∷ ks) = Shown-twice 𝓛 R × Twices ks
+  Twices (handed j ok R ∷ ks) = Twices ks
+  Twices (behind j ok R ∷ ks) = Twices ks
+
   -- ---- an item before a list: it goes to the callee, at the lifetime that the callee calls it by, or it stays, or it has come back
   passes : (F : Lft → Fml) {κ μ : Lft} → κ ≡ μ → (Γ Δ : List (Item 𝓤)) (Q : SProp 𝓤) → ent 𝓤 (⋆ 𝓛 Γ) (sep 𝓤 (⋆ 𝓛 Δ) Q) → ent 𝓤 (⋆ 𝓛 (‵ (F κ) ∷ Γ)) (sep 𝓤 (⋆ 𝓛 (‵ (F μ) ∷ Δ)) Q)
   passes F {κ} e Γ Δ Q g =
@@ -157,6 +165,9 @@ module _ {M : Type 1} {𝓤 : Ura M} (𝓛 : Logic 𝓤) where
   returns F Γ Δ Q g =
       let X : SProp 𝓤 = sem 𝓛 F in
       via 𝓤 (sep 𝓤 (sep 𝓤 X (⋆ 𝓛 Γ)) Q) (mono_l 𝓤 Q (pop 𝓛 (‵ F) Γ)) (via 𝓤 (sep 𝓤 X (sep 𝓤 (⋆ 𝓛 Γ) Q)) (assoc∗ 𝓤 X (⋆ 𝓛 Γ) Q) (listed 𝓛 F Δ (id⊢ 𝓤 X) g))
+
+  returns-at : (F : Lft → Fml) {κ μ : Lft} → κ ≡ μ → (Γ Δ : List (Item 𝓤)) (Q : SProp 𝓤) → ent 𝓤 (sep 𝓤 (⋆ 𝓛 Γ) Q) (⋆ 𝓛 Δ) → ent 𝓤 (sep 𝓤 (⋆ 𝓛 (‵ (F μ) ∷ Γ)) Q) (⋆ 𝓛 (‵ (F κ) ∷ Δ))
+  returns-at F {κ} e Γ Δ Q g = subst (λ (ν : Lft). ent 𝓤 (sep 𝓤 (⋆ 𝓛 (‵ (F ν) ∷ Γ)) Q) (⋆ 𝓛 (‵ (F κ) ∷ Δ))) e (returns (F κ) Γ Δ Q g)
 
   ends : (F F' : Fml) (Γ Δ : List (Item 𝓤)) (P : SProp 𝓤) → ent 𝓤 (sem 𝓛 F) (sem 𝓛 F') → ent 𝓤 (sep 𝓤 P (⋆ 𝓛 Γ)) (⋆ 𝓛 Δ) → ent 𝓤 (sep 𝓤 P (⋆ 𝓛 (‵ F ∷ Γ))) (⋆ 𝓛 (‵ F' ∷ Δ))
   ends F F' Γ Δ P f g =
@@ -185,13 +196,13 @@ module _ {M : Type 1} {𝓤 : Ura M} (𝓛 : Logic 𝓤) where
     let_go (value R ∷ ks) N a = let_go ks N.1 a.1
     let_go (shown j ok R ∷ ks) N a = drop⊢ 𝓛 (‵ (shared R (lft_at n j ok κs) a.0)) (given-of κs ks a.1) _ (let_go ks N a.1)
     let_go (handed j ok R ∷ ks) N a =
-        let F : Fml = finally R a.0.ghost_name a.0.now in
+        let F : Fml = slice-last R (lft_at n j ok κs) a.0 a.0.now in
         let Δ : List (Item 𝓤) = finals κs ks a.1 (ending 𝓛 κs ks N a.1 (nows ks a.1)) in
-        via 𝓤 (sep 𝓤 (sem 𝓛 (mut_slice R (lft_at n j ok κs) a.0)) (⋆ 𝓛 Δ)) (paired 𝓛 (mut_slice R (lft_at n j ok κs) a.0) (given-of κs ks a.1) (let_go ks N a.1)) (listed 𝓛 F Δ (seen-row {𝓛 = 𝓛} R a.0 (lft_at n j ok κs)) (id⊢ 𝓤 _))
+        via 𝓤 (sep 𝓤 (sem 𝓛 (mut_slice R (lft_at n j ok κs) a.0)) (⋆ 𝓛 Δ)) (paired 𝓛 (mut_slice R (lft_at n j ok κs) a.0) (given-of κs ks a.1) (let_go ks N a.1)) (listed 𝓛 F Δ (seen-row 𝓛 R a.0 (lft_at n j ok κs)) (id⊢ 𝓤 _))
     let_go (behind j ok R ∷ ks) N a =
-        let F : Fml = fres a.0.ghost_name (R.coded.code a.0.now) in
+        let F : Fml = ref-last R (lft_at n j ok κs) a.0 a.0.now in
         let Δ : List (Item 𝓤) = finals κs ks a.1 (ending 𝓛 κs ks N a.1 (nows ks a.1)) in
-        via 𝓤 (sep 𝓤 (sem 𝓛 (mut-ref R (lft_at n j ok κs) a.0)) (⋆ 𝓛 Δ)) (paired 𝓛 (mut-ref R (lft_at n j ok κs) a.0) (given-of κs ks a.1) (let_go ks N a.1)) (listed 𝓛 F Δ (seen_ref {𝓛 = 𝓛} R a.0 (lft_at n j ok κs)) (id⊢ 𝓤 _))
+        via 𝓤 (sep 𝓤 (sem 𝓛 (mut-ref R (lft_at n j ok κs) a.0)) (⋆ 𝓛 Δ)) (paired 𝓛 (mut-ref R (lft_at n j ok κs) a.0) (given-of κs ks a.1) (let_go ks N a.1)) (listed 𝓛 F Δ (seen_ref 𝓛 R a.0 (lft_at n j ok κs)) (id⊢ 𝓤 _))
 
   module _ {n m : ℕ} (κs : Lfts n) (μs : Lfts m) {Qs : List RattleType} {all : List (Kind n)} (x : (R : RattleType) → Var all Qs R → PlainType 𝓛 R × R.Denot) where
     -- the lifetimes of what is handed on are the callee's
@@ -256,22 +267,22 @@ module _ {M : Type 1} {𝓤 : Ura M} (𝓛 : Logic 𝓤) where
     kept (gives h) a = kept h a.1
     kept (lends h) a = kept h a.1
 
-    pub lent : {ks : List (Kind n)} {ls : List (Kind m)} (h : Hands Qs all ks ls) → Agree h → (a : Passed κs ks) → ent 𝓤 (⋆ 𝓛 (given-of κs ks a)) (sep 𝓤 (⋆ 𝓛 (given-of μs ls (args h a))) (⋆ 𝓛 (kept h a)))
-    lent (stop {ks = ks}) e a = emp∗ 𝓤 (⋆ 𝓛 (given-of κs ks a))
-    lent (found v h) e a = lent h e a
-    lent (same h) e a = lent h e a.1
-    lent (leave h) e a = lent h e a.1
-    lent (holds {R = R} {j = j} {ok = ok} {ks = ks} {ls = ls} h) e a = stays (mut-ref R (lft_at n j ok κs) a.0) (given-of κs ks a.1) (kept h a.1) (⋆ 𝓛 (given-of μs ls (args h a.1))) (lent h e a.1)
-    lent (rests {R = R} {j = j} {ok = ok} {ks = ks} {ls = ls} h) e a = stays (mut_slice R (lft_at n j ok κs) a.0) (given-of κs ks a.1) (kept h a.1) (⋆ 𝓛 (given-of μs ls (args h a.1))) (lent h e a.1)
-    lent (hides {R = R} {j = j} {ok = ok} {ks = ks} {ls = ls} h) e a = stays (shared R (lft_at n j ok κs) a.0) (given-of κs ks a.1) (kept h a.1) (⋆ 𝓛 (given-of μs ls (args h a.1))) (lent h e a.1)
-    lent (shows {R = R} {j = j} {ok = ok} {ks = ks} {ls = ls} h) e a =
+    pub lent : {ks : List (Kind n)} {ls : List (Kind m)} (h : Hands Qs all ks ls) → Twices ks → Agree h → (a : Passed κs ks) → ent 𝓤 (⋆ 𝓛 (given-of κs ks a)) (sep 𝓤 (⋆ 𝓛 (given-of μs ls (args h a))) (⋆ 𝓛 (kept h a)))
+    lent (stop {ks = ks}) w e a = emp∗ 𝓤 (⋆ 𝓛 (given-of κs ks a))
+    lent (found v h) w e a = lent h w e a
+    lent (same h) w e a = lent h w e a.1
+    lent (leave h) w e a = lent h w e a.1
+    lent (holds {R = R} {j = j} {ok = ok} {ks = ks} {ls = ls} h) w e a = stays (mut-ref R (lft_at n j ok κs) a.0) (given-of κs ks a.1) (kept h a.1) (⋆ 𝓛 (given-of μs ls (args h a.1))) (lent h w e a.1)
+    lent (rests {R = R} {j = j} {ok = ok} {ks = ks} {ls = ls} h) w e a = stays (mut_slice R (lft_at n j ok κs) a.0) (given-of κs ks a.1) (kept h a.1) (⋆ 𝓛 (given-of μs ls (args h a.1))) (lent h w e a.1)
+    lent (hides {R = R} {j = j} {ok = ok} {ks = ks} {ls = ls} h) w e a = stays (shared R (lft_at n j ok κs) a.0) (given-of κs ks a.1) (kept h a.1) (⋆ 𝓛 (given-of μs ls (args h a.1))) (lent h w.1 e a.1)
+    lent (shows {R = R} {j = j} {ok = ok} {ks = ks} {ls = ls} h) w e a =
         let κ : Lft = lft_at n j ok κs in
         let S : Fml = shared R κ a.0 in
         let Γ : List (Item 𝓤) = given-of κs ks a.1 in
-        via 𝓤 (⋆ 𝓛 (‵ S ∷ ‵ S ∷ Γ)) (cut⊢ 𝓛 (‵ S ∷ []) (‵ S ∷ ‵ S ∷ []) Γ (⋆ 𝓛 (‵ S ∷ ‵ S ∷ Γ)) ((shr_slice_copy 𝓛 (named 0) κ R).twice a.0 (shr_slice_vals a.0)) (id⊢ 𝓤 _))
-        (passes (λ μ. shared R μ a.0) e.0 (‵ S ∷ Γ) (given-of μs ls (args h a.1)) (⋆ 𝓛 (‵ S ∷ kept h a.1)) (stays S Γ (kept h a.1) (⋆ 𝓛 (given-of μs ls (args h a.1))) (lent h e.1 a.1)))
-    lent (gives {R = R} {ks = ks} {ls = ls} h) e a = passes (λ μ. mut_slice R μ a.0) e.0 (given-of κs ks a.1) (given-of μs ls (args h a.1)) (⋆ 𝓛 (kept h a.1)) (lent h e.1 a.1)
-    lent (lends {R = R} {ks = ks} {ls = ls} h) e a = passes (λ μ. mut-ref R μ a.0) e.0 (given-of κs ks a.1) (given-of μs ls (args h a.1)) (⋆ 𝓛 (kept h a.1)) (lent h e.1 a.1)
+        via 𝓤 (⋆ 𝓛 (‵ S ∷ ‵ S ∷ Γ)) (cut⊢ 𝓛 (‵ S ∷ []) (‵ S ∷ ‵ S ∷ []) Γ (⋆ 𝓛 (‵ S ∷ ‵ S ∷ Γ)) ((w.0 κ).twice a.0 (shr_slice_vals a.0)) (id⊢ 𝓤 _))
+        (passes (λ μ. shared R μ a.0) e.0 (‵ S ∷ Γ) (given-of μs ls (args h a.1)) (⋆ 𝓛 (‵ S ∷ kept h a.1)) (stays S Γ (kept h a.1) (⋆ 𝓛 (given-of μs ls (args h a.1))) (lent h w.1 e.1 a.1)))
+    lent (gives {R = R} {ks = ks} {ls = ls} h) w e a = passes (λ μ. mut_slice R μ a.0) e.0 (given-of κs ks a.1) (given-of μs ls (args h a.1)) (⋆ 𝓛 (kept h a.1)) (lent h w e.1 a.1)
+    lent (lends {R = R} {ks = ks} {ls = ls} h) w e a = passes (λ μ. mut-ref R μ a.0) e.0 (given-of κs ks a.1) (given-of μs ls (args h a.1)) (⋆ 𝓛 (kept h a.1)) (lent h w e.1 a.1)
 
     -- ---- a call that changes nothing: all that was given is there again
     abbrev pub Quiet : {ks : List (Kind n)} {ls : List (Kind m)} → Hands Qs all ks ls → Type 0
@@ -311,26 +322,26 @@ module _ {M : Type 1} {𝓤 : Ura M} (𝓛 : Logic 𝓤) where
     ends_of (gives h) a ws = (ws.0, ends_of h a.1 ws.1)
     ends_of (lends h) a ws = (ws.0, ends_of h a.1 ws.1)
 
-    pub settled : {ks : List (Kind n)} {ls : List (Kind m)} (h : Hands Qs all ks ls) (N : Plains 𝓛 ks) (a : Passed κs ks) (ws : Lasting μs ls (args h a))
+    pub settled : {ks : List (Kind n)} {ls : List (Kind m)} (h : Hands Qs all ks ls) → Agree h → (N : Plains 𝓛 ks) (a : Passed κs ks) (ws : Lasting μs ls (args h a))
         → ent 𝓤 (sep 𝓤 (⋆ 𝓛 (finals μs ls (args h a) ws)) (⋆ 𝓛 (kept h a))) (⋆ 𝓛 (finals κs ks a (ending 𝓛 κs ks N a (ends_of h a ws))))
-    settled (stop {ks = ks}) N a ws = via 𝓤 (⋆ 𝓛 (given-of κs ks a)) (snd∗ 𝓤 (⋆ 𝓛 []) (⋆ 𝓛 (given-of κs ks a))) (let_go κs ks N a)
-    settled (found v h) N a ws = settled h N a ws.1
-    settled (same h) N a ws = settled h N.1 a.1 ws.1
-    settled (leave h) N a ws = settled h N.1 a.1 ws
-    settled (holds {R = R} {j = j} {ok = ok} {ks = ks} {ls = ls} h) N a ws =
-        ends (mut-ref R (lft_at n j ok κs) a.0) (fres a.0.ghost_name (R.coded.code a.0.now)) (kept h a.1) (finals κs ks a.1 (ending 𝓛 κs ks N a.1 (ends_of h a.1 ws))) (⋆ 𝓛 (finals μs ls (args h a.1) ws)) (seen_ref {𝓛 = 𝓛} R a.0 (lft_at n j ok κs)) (settled h N a.1 ws)
-    settled (rests {R = R} {j = j} {ok = ok} {ks = ks} {ls = ls} h) N a ws =
-        ends (mut_slice R (lft_at n j ok κs) a.0) (finally R a.0.ghost_name a.0.now) (kept h a.1) (finals κs ks a.1 (ending 𝓛 κs ks N a.1 (ends_of h a.1 ws))) (⋆ 𝓛 (finals μs ls (args h a.1) ws)) (seen-row {𝓛 = 𝓛} R a.0 (lft_at n j ok κs)) (settled h N a.1 ws)
-    settled (hides {R = R} {j = j} {ok = ok} {ls = ls} h) N a ws =
+    settled (stop {ks = ks}) g N a ws = via 𝓤 (⋆ 𝓛 (given-of κs ks a)) (snd∗ 𝓤 (⋆ 𝓛 []) (⋆ 𝓛 (given-of κs ks a))) (let_go κs ks N a)
+    settled (found v h) g N a ws = settled h g N a ws.1
+    settled (same h) g N a ws = settled h g N.1 a.1 ws.1
+    settled (leave h) g N a ws = settled h g N.1 a.1 ws
+    settled (holds {R = R} {j = j} {ok = ok} {ks = ks} {ls = ls} h) g N a ws =
+        ends (mut-ref R (lft_at n j ok κs) a.0) (ref-last R (lft_at n j ok κs) a.0 a.0.now) (kept h a.1) (finals κs ks a.1 (ending 𝓛 κs ks N a.1 (ends_of h a.1 ws))) (⋆ 𝓛 (finals μs ls (args h a.1) ws)) (seen_ref 𝓛 R a.0 (lft_at n j ok κs)) (settled h g N a.1 ws)
+    settled (rests {R = R} {j = j} {ok = ok} {ks = ks} {ls = ls} h) g N a ws =
+        ends (mut_slice R (lft_at n j ok κs) a.0) (slice-last R (lft_at n j ok κs) a.0 a.0.now) (kept h a.1) (finals κs ks a.1 (ending 𝓛 κs ks N a.1 (ends_of h a.1 ws))) (⋆ 𝓛 (finals μs ls (args h a.1) ws)) (seen-row 𝓛 R a.0 (lft_at n j ok κs)) (settled h g N a.1 ws)
+    settled (hides {R = R} {j = j} {ok = ok} {ls = ls} h) g N a ws =
         let F : SProp 𝓤 = ⋆ 𝓛 (finals μs ls (args h a.1) ws) in
-        via 𝓤 (sep 𝓤 F (⋆ 𝓛 (kept h a.1))) (mono_r 𝓤 F (drop⊢ 𝓛 (‵ (shared R (lft_at n j ok κs) a.0)) (kept h a.1) (⋆ 𝓛 (kept h a.1)) (id⊢ 𝓤 _))) (settled h N a.1 ws)
-    settled (shows {R = R} {j = j} {ok = ok} {ls = ls} h) N a ws =
+        via 𝓤 (sep 𝓤 F (⋆ 𝓛 (kept h a.1))) (mono_r 𝓤 F (drop⊢ 𝓛 (‵ (shared R (lft_at n j ok κs) a.0)) (kept h a.1) (⋆ 𝓛 (kept h a.1)) (id⊢ 𝓤 _))) (settled h g N a.1 ws)
+    settled (shows {R = R} {j = j} {ok = ok} {ls = ls} h) g N a ws =
         let F : SProp 𝓤 = ⋆ 𝓛 (finals μs ls (args h a.1) ws.1) in
-        via 𝓤 (sep 𝓤 F (⋆ 𝓛 (kept h a.1))) (mono_r 𝓤 F (drop⊢ 𝓛 (‵ (shared R (lft_at n j ok κs) a.0)) (kept h a.1) (⋆ 𝓛 (kept h a.1)) (id⊢ 𝓤 _))) (settled h N a.1 ws.1)
-    settled (gives {R = R} {ks = ks} {ls = ls} h) N a ws =
-        returns (finally R a.0.ghost_name ws.0) (finals μs ls (args h a.1) ws.1) (finals κs ks a.1 (ending 𝓛 κs ks N a.1 (ends_of h a.1 ws.1))) (⋆ 𝓛 (kept h a.1)) (settled h N a.1 ws.1)
-    settled (lends {R = R} {ks = ks} {ls = ls} h) N a ws =
-        returns (fres a.0.ghost_name (R.coded.code ws.0)) (finals μs ls (args h a.1) ws.1) (finals κs ks a.1 (ending 𝓛 κs ks N a.1 (ends_of h a.1 ws.1))) (⋆ 𝓛 (kept h a.1)) (settled h N a.1 ws.1)
+        via 𝓤 (sep 𝓤 F (⋆ 𝓛 (kept h a.1))) (mono_r 𝓤 F (drop⊢ 𝓛 (‵ (shared R (lft_at n j ok κs) a.0)) (kept h a.1) (⋆ 𝓛 (kept h a.1)) (id⊢ 𝓤 _))) (settled h g.1 N a.1 ws.1)
+    settled (gives {R = R} {j = j} {i = i} {ok = ok} {ok' = ok'} {ks = ks} {ls = ls} h) g N a ws =
+        returns-at (λ μ. slice-last R μ a.0 ws.0) g.0 (finals μs ls (args h a.1) ws.1) (finals κs ks a.1 (ending 𝓛 κs ks N a.1 (ends_of h a.1 ws.1))) (⋆ 𝓛 (kept h a.1)) (settled h g.1 N a.1 ws.1)
+    settled (lends {R = R} {j = j} {i = i} {ok = ok} {ok' = ok'} {ks = ks} {ls = ls} h) g N a ws =
+        returns-at (λ μ. ref-last R μ a.0 ws.0) g.0 (finals μs ls (args h a.1) ws.1) (finals κs ks a.1 (ending 𝓛 κs ks N a.1 (ends_of h a.1 ws.1))) (⋆ 𝓛 (kept h a.1)) (settled h g.1 N a.1 ws.1)
 
     pub lengths : {ks : List (Kind n)} {ls : List (Kind m)} (h : Hands Qs all ks ls) (N : Plains 𝓛 ks) (a : Passed κs ks) (ws : Lasting μs ls (args h a)) → Lens μs ls (args h a) ws → Lens κs ks a (ending 𝓛 κs ks N a (ends_of h a ws))
     lengths (stop {ks = ks}) N a ws l = lens-now κs ks N a
@@ -380,14 +391,14 @@ module _ {M : Type 1} {𝓤 : Ura M} (𝓛 : Logic 𝓤) {C : Calls 𝓤 𝓛.H}
   hands_in (hides h) N a so us i k ps vs ts c = hands_in h N a.1 so.1 us (suc i) k ps.1 vs ts c
   hands_in (shows h) N a so us i k ps vs ts c = hands_in h N a.1 so.1 us (suc i) k ps.1 vs ts (λ us' s l. c us' s (lies s ps.0, l))
   hands_in (gives {R = R} {ks = ks} h) N a so us i k ps vs ts c =
-      let us₁ : Store = put k (some (vptr a.0.ptr.0 a.0.ptr.1)) us in
-      let us₂ : Store = put (suc k) (some (slice-val a.0)) us₁ in
-      let s₂ : Same k us us₂ = then_same (one_more k) (put_same k (some (vptr a.0.ptr.0 a.0.ptr.1)) us) (put_same (suc k) (some (slice-val a.0)) us₁) in
+      let us₁ : Store = put k (some (vptr a.0.ref_ptr.0 a.0.ref_ptr.1)) us in
+      let us₂ : Store = put (suc k) (some (mut-slice-val a.0)) us₁ in
+      let s₂ : Same k us us₂ = then_same (one_more k) (put_same k (some (vptr a.0.ref_ptr.0 a.0.ref_ptr.1)) us) (put_same (suc k) (some (mut-slice-val a.0)) us₁) in
       let l₂ : k ≤ suc (suc k) = less (one_more (suc k)) in
       slice_in ! E us i k R ps.0 ts.0 (tt, tt) ts.1.0 (fits-slice so.0.0) $
-      hands_in h N a.1 so.1 us₂ (suc i) (suc (suc k)) (still-params E s₂ l₂ (suc i) (param-types ks) (words 𝓛 κs ks N a.1) ps.1) (λ R v. still s₂ l₂ (vs R v)) ts.1.1 (λ us' s l. c us' (then_same l₂ s₂ s) (lies s (newly (slice-val a.0) us₁ ts.1.0), l))
+      hands_in h N a.1 so.1 us₂ (suc i) (suc (suc k)) (still-params E s₂ l₂ (suc i) (param-types ks) (words 𝓛 κs ks N a.1) ps.1) (λ R v. still s₂ l₂ (vs R v)) ts.1.1 (λ us' s l. c us' (then_same l₂ s₂ s) (lies s (newly (mut-slice-val a.0) us₁ ts.1.0), l))
   hands_in (lends {R = R} {ks = ks} h) N a so us i k ps vs ts c =
-      let v : Val = vptr a.0.ptr.0 a.0.ptr.1 in
+      let v : Val = vptr a.0.ref_ptr.0 a.0.ref_ptr.1 in
       let us₁ : Store = put k (some v) us in
       let s₁ : Same k us us₁ = put_same k (some v) us in
       sets-in ! E us k ts.0 (tt, tt) (addr ! (points-in ! E us i ps.0)) $
@@ -397,7 +408,7 @@ module _ {M : Type 1} {𝓤 : Ura M} (𝓛 : Logic 𝓤) {C : Calls 𝓤 𝓛.H}
 module _ {M : Type 1} {𝓤 : Ura M} (𝓛 : Logic 𝓤) (𝓣 : Tables 𝓤 𝓛.H) (E : Layout) (f : Form) (N : Plains 𝓛 f.params) (μs : Lfts f.lifetimes) (qs : Shares f.lifetimes) (a : Passed μs f.params) (P : PlainType 𝓛 f.result) where
   open 𝓛 use {H}
 
-  pub calls-in : {g : Name} → Triple 𝓤 (𝓣.C g) (met f 𝓤 𝓛) → Sure 𝓛 μs f.params N a → (us : Store) (ps : List ℕ) → Lie E us ps (words 𝓛 μs f.params N a) → (d : ℕ) → Local-is E d (ty f.result) → (X Z : SProp 𝓤) → ent 𝓤 X (sep 𝓤 (⋆ 𝓛 (tokens f.lifetimes μs qs ++ given-of μs f.params a)) Z) → {rest : Body} {q : After 𝓤 H}
+  pub calls-in : {g : Callee} → Triple 𝓤 (𝓣.C g) (met f 𝓤 𝓛) → Sure 𝓛 μs f.params N a → (us : Store) (ps : List ℕ) → Lie E us ps (words 𝓛 μs f.params N a) → (d : ℕ) → Local-is E d (ty f.result) → (X Z : SProp 𝓤) → ent 𝓤 X (sep 𝓤 (⋆ 𝓛 (tokens f.lifetimes μs qs ++ given-of μs f.params a)) Z) → {rest : Body} {q : After 𝓤 H}
       → ((r : f.result.Denot) (ws : Lasting μs f.params a) → f.says_of μs a r (left_at f μs a ws) → Lens μs f.params a ws → Is f.result r (P.val r ∷ [])
       → Seq (Go {0}) 𝓛 (raw (frame 𝓤 H E (put d (some (P.val r)) us)) ∷ raw (sep 𝓤 (⋆ 𝓛 (tokens f.lifetimes μs qs ++ finals μs f.params a ws)) Z) ∷ []) (runs 𝓣.C 𝓣.Λ E rest q))
       → Seq (Go {0}) 𝓛 (raw (frame 𝓤 H E us) ∷ raw X ∷ []) (runs 𝓣.C 𝓣.Λ E (seq (call g (its ps) (place d [])) rest) q)

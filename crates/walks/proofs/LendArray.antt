@@ -3,7 +3,7 @@
 --     MadeOf           that what is returned is made of the array and the answer
 --     first-many, first-room     the first k of N are k, and have room
 --     lends_first, first_home     [the array's cell] to [the new token; what the `&mut [T]` owns; what the lender keeps], and back with what the callee left
---     shows_first, shown-home     the same with a `&[T]`, and back as it was
+--     shows_first, shown-home     the same with a `&[T]`, and back as it was.        first-as, first-shown     the first of it as a `&mut [T]` and as a `&[T]`
 --     parts, wholes    the array's cell is the first k elements and the others, and back at other elements
 --     PlainMade, has-made     a declared struct of an array of records and an answer
 --     array-into       the relation of an array of a declared type is that of the array as a field of a struct
@@ -14,7 +14,7 @@ use mathlib.Core.List.{List, [], ◌∷◌, ◌++◌, map}
 use lib.Dec.{T as Holds}
 use lib.ListN.{length, take, length-take, drop as drop_n, take-append-drop, length-map}
 use seplogic.Ra.Ura.{Ura}
-use seplogic.Ra.TreeShare.{full_share}
+use base.Fraction.{full_share}
 use mir.Syntax.{Ty, named}
 use mir.Val.{Val, WT, has_ty, vstruct, vcons, vnil}
 use base.Logic.{ent, sep, ex}
@@ -30,8 +30,8 @@ use denote.Laws.{Is, shows}
 use denote.Memory.{mem, part_at, shares}
 use denote.Array.{Array, each}
 use denote.ArrayMemory.{Single, Array-apart, Array-whole}
-use denote.Ref.{MutBor}
-use denote.Slice.{Room, finally}
+use denote.Ref.{MutBor, Bor}
+use denote.Slice.{Room}
 use denote.Lend.{Held, lends_slice, slice_back, lends_shr_slice}
 use denote.Index.{row, whole_out, whole_in}
 use denote.Steps.{only, owned, facts}
@@ -39,7 +39,7 @@ use denote.Struct.Declared as D
 use borrow.Table.Elements.{at, cut_app, join_app, same_len}
 use borrow.Table.OneValue.{part_in, part_out}
 use Rattle.walks.proofs.Plain.{ty, PlainType, has-at, pair-ty, array-val, array}
-use Rattle.walks.proofs.Form.{shared, mut_slice}
+use Rattle.walks.proofs.Form.{shared, mut_slice, slice-last}
 
 -- what is returned is made of the array, with what was left of its first n, and of the answer
 abbrev pub MadeOf : {Y O Q : Type 0} → (List Y → O → Q) → List Y → ℕ → (List Y → O) → (List Y → List Y) → Q → Type 0
@@ -62,6 +62,9 @@ module _ (R : RattleType) (N b : ℕ) where
 
   abbrev pub first-as : GName → List R.Denot → MutBor (List R.Denot)
   first-as γ l = record { ref_ptr = (b, 0); ghost_name = γ; now = l }
+
+  abbrev pub first-shown : List R.Denot → Bor (List R.Denot)
+  first-shown l = record { ref_ptr = (b, 0); now = l }
 
   module _ (xs : List R.Denot) (k : ℕ) where
     -- the elements past k, and with them the way back of the first k
@@ -125,16 +128,17 @@ module _ {M : Type 1} {𝓤 : Ura M} {𝓛 : Logic 𝓤} {K : Type 0} {Γ : List
       move t (1 ∷ 3 ∷ []) $ fjoin t $ move t (2 ∷ 1 ∷ 0 ∷ []) $ go ν γ))
 
   pub first_home : K → Soaks G → (ν : ℕ) (γ : GName) (zs : List R.Denot) → length xs ≡ N
-      → (Is-array R P N (zs ++ drop_n k xs) → Seq K 𝓛 (holds R P N b (zs ++ drop_n k xs) ∷ Γ) G) → Seq K 𝓛 (‵ (flft (ν ∷ []) full_share) ∷ ‵ (finally R γ zs) ∷ ‵ (FirstKept R N b xs k ν γ) ∷ Γ) G
+      → (Is-array R P N (zs ++ drop_n k xs) → Seq K 𝓛 (holds R P N b (zs ++ drop_n k xs) ∷ Γ) G) → Seq K 𝓛 (‵ (flft (ν ∷ []) full_share) ∷ ‵ (slice-last R (ν ∷ []) (first-as R N b γ (take k xs)) zs) ∷ ‵ (FirstKept R N b xs k ν γ) ∷ Γ) G
   first_home t z ν γ zs l go =
-      lft_end t z $ move t (2 ∷ []) $ fsplit t $ move t (2 ∷ 0 ∷ 3 ∷ []) $ use3 𝓛 (later (‵ ((Arr (mem R) (length (take k xs))).own_at zs b 0))) (slice_back 𝓛 R (ν ∷ []) γ zs (length (take k xs)) b 0) $ await t z $ fsplit t $ feq_l t (λ e. wholes R P N b xs k t zs e l go)
+      lft_end t z $ move t (1 ∷ []) $ fsplit t $ move t (1 ∷ []) $ drop t $ move t (1 ∷ 0 ∷ []) $ move t (2 ∷ []) $ fsplit t $ move t (2 ∷ 0 ∷ 3 ∷ []) $ use3 𝓛 (later (‵ ((Arr (mem R) (length (take k xs))).own_at zs b 0))) (slice_back 𝓛 R (ν ∷ []) γ zs (length (take k xs)) b 0) $ await t z $ fsplit t $ feq_l t (λ e. wholes R P N b xs k t zs e l go)
 
   pub shows_first : K → Soaks G → Single R.mir → Is-array R P N xs → Room R (length (take k xs))
-      → ((ν : ℕ) (γ : GName) → Seq K 𝓛 (‵ (flft (ν ∷ []) full_share) ∷ ‵ (shared R (ν ∷ []) (first-as R N b γ (take k xs))) ∷ ‵ (ShownKept R N b xs k ν) ∷ Γ) G) → Seq K 𝓛 (holds R P N b xs ∷ Γ) G
+      → ((ν : ℕ) → Seq K 𝓛 (‵ (flft (ν ∷ []) full_share) ∷ ‵ (shared R (ν ∷ []) (first-shown R N b (take k xs))) ∷ ‵ (ShownKept R N b xs k ν) ∷ Γ) G) → Seq K 𝓛 (holds R P N b xs ∷ Γ) G
   shows_first t z single is room go =
-      parts R P N b xs k t single is $ use1 𝓛 (‵ (row R full_share (take k xs) b 0)) (whole_out 𝓛 R (take k xs) b 0) $ feq_i t ℕ (length (take k xs)) (length (take k xs)) refl $ fjoin t $ lft_new t z (λ ν. move t (1 ∷ []) $
-      use1 𝓛 (later (some (λ (γ : GName). ‵ (shared R (ν ∷ []) (first-as R N b γ (take k xs))) ⊛ ‵ (shared-way R N b xs k ν)))) (lends_shr_slice 𝓛 R (named 0) (ν ∷ []) full_share (take k xs) b 0 room) $ await t z $ pick t (λ γ. split t $
-      move t (1 ∷ 3 ∷ []) $ fjoin t $ move t (2 ∷ 1 ∷ 0 ∷ []) $ go ν γ))
+      parts R P N b xs k t single is $ use1 𝓛 (‵ (row R full_share (take k xs) b 0)) (whole_out 𝓛 R (take k xs) b 0) $ feq_i t ℕ (length (take k xs)) (length (take k xs)) refl $ fjoin t $ lft_new t z (λ ν. move t (1 ∷ 0 ∷ []) $
+      use2 𝓛 (later ((‵ (shared R (ν ∷ []) (first-shown R N b (take k xs))) ⊛ ‵ (shared-way R N b xs k ν)) ⊛ ‵ (flft (ν ∷ []) full_share)))
+      (lends_shr_slice 𝓛 R (named 0) (ν ∷ []) full_share (take k xs) b 0 room (ν ∷ []) (P.copied.shares full_share (ν ∷ [])) ((ν ∷ [], full_share) ∷ []) (λ x m. m) (λ x m. m)) $ await t z $ split t $ split t $
+      move t (1 ∷ 3 ∷ []) $ fjoin t $ move t (2 ∷ 1 ∷ 0 ∷ []) $ go ν)
 
   -- what was shown need not come home: its token and what the lender keeps do
   pub shown-home : K → Soaks G → (ν : ℕ) → length xs ≡ N

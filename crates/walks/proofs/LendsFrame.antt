@@ -9,8 +9,8 @@ use Prim.Native.Nat.{ℕ, ◌≤◌}
 use mathlib.Core.List.{[], ◌∷◌, ◌++◌, List}
 use lib.ListN.{length, take, drop as drop_n}
 use seplogic.Ra.Ura.{Ura}
-use seplogic.Ra.TreeShare.{full_share}
-use mir.Syntax.{Name, Fn, erased, mut, w64, place, local, memory_slot, call, return, rv_opd, aggregate, Local, Body}
+use base.Fraction.{full_share}
+use mir.Syntax.{Callee, Fn, erased, mut, w64, place, local, memory_slot, call, return, rv_opd, aggregate, Local, Body}
 use base.Fml.{Lft, Share}
 use prog.Wp.{Tables}
 use types.Logic.{Logic}
@@ -21,7 +21,7 @@ use denote.RattleType.{RattleType}
 use denote.Laws.{Is}
 use denote.Array.{Array}
 use denote.Builtin.{usize}
-use denote.Ref.{Bor}
+use denote.Ref.{Bor, MutBor}
 use denote.Slice.{Room}
 use denote.Struct.Declared as D
 use denote.Triple.Statement.{Triple}
@@ -40,7 +40,7 @@ pub record Shape : Type 2 where
   pub O : RattleType
   pub Q : D.Declared
   pub N : ℕ
-  pub f : Name
+  pub f : Callee
   -- what f says, what is made of the array and f's answer, and what g says of its result and of the reply
   pub answer-of : OfFrame T.D E.Denot G.Denot O.Denot
   pub row_of : OfFrame T.D E.Denot G.Denot (List T.D)
@@ -95,7 +95,7 @@ module _ {M : Type 1} {𝓤 : Ura M} (𝓛 : Logic 𝓤) (s : Shape) (d : Knows 
   abbrev N : Plains 𝓛 (form s).params
   N = (At, (uint 𝓛 w64, tt))
 
-  walk : (κ κ₁ : Lft) (q q₁ : Share) (ys : List s.T.D) (n : ℕ) (cs : Bor (List s.E.Denot)) (rs : Bor (List s.G.Denot)) → Is (Arr s) ys (At.val ys ∷ []) → Is usize n ((uint 𝓛 w64).val n ∷ []) → Room s.G (length rs.now) → n ≤ s.N
+  walk : (κ κ₁ : Lft) (q q₁ : Share) (ys : List s.T.D) (n : ℕ) (cs : Bor (List s.E.Denot)) (rs : MutBor (List s.G.Denot)) → Is (Arr s) ys (At.val ys ∷ []) → Is usize n ((uint 𝓛 w64).val n ∷ []) → Room s.G (length rs.now) → n ≤ s.N
       → Walk 𝓛 (form s) N 𝓣 (pair-ty s.Q (Arr s) s.O) (others s) (body s) (κ, (κ₁, tt)) (q, (q₁, tt)) (ys, (n, (cs, (rs, tt))))
   walk κ κ₁ q q₁ ys n cs rs is_a n-is space₁ few bs =
       -- [_11: 0; _10: 2; _9: 4; _8: 6; _7: 8; _6: 10; _5: 12; _4: 14; _3: 16; _2: 18; _1: 20; _0: 22; the bytes' token; the reply's; the bytes; the reply]

@@ -9,8 +9,8 @@ use Prim.Native.Nat.{ℕ, ◌≤◌}
 use mathlib.Core.List.{[], ◌∷◌, ◌++◌, List}
 use lib.ListN.{length, take, drop as drop_n}
 use seplogic.Ra.Ura.{Ura}
-use seplogic.Ra.TreeShare.{full_share}
-use mir.Syntax.{Name, Fn, erased, mut, w64, place, local, memory_slot, call, return, rv_opd, aggregate, Local, Body}
+use base.Fraction.{full_share}
+use mir.Syntax.{Callee, Fn, erased, mut, w64, place, local, memory_slot, call, return, rv_opd, aggregate, Local, Body}
 use base.Fml.{Lft, Share}
 use prog.Wp.{Tables}
 use types.Logic.{Logic}
@@ -21,7 +21,7 @@ use denote.RattleType.{RattleType}
 use denote.Laws.{Is}
 use denote.Array.{Array}
 use denote.Builtin.{usize}
-use denote.Ref.{Bor}
+use denote.Ref.{Bor, MutBor}
 use denote.Slice.{Room}
 use denote.Struct.Declared as D
 use denote.Triple.Statement.{Triple}
@@ -41,7 +41,7 @@ pub record Shape : Type 2 where
   pub O : RattleType
   pub Q : D.Declared
   pub N : ℕ
-  pub f : Name
+  pub f : Callee
   -- what f's contract says, what is made of the array and f's result, and what g's contract says
   pub answer-of : OfLine T.D S.Denot E.Denot G.Denot O.Denot
   pub row_of : OfLine T.D S.Denot E.Denot G.Denot (List T.D)
@@ -97,7 +97,7 @@ module _ {M : Type 1} {𝓤 : Ura M} (𝓛 : Logic 𝓤) (s : Shape) (d : Knows 
   abbrev N : Plains 𝓛 (form s).params
   N = (At, (uint 𝓛 w64, (d.plain-S, tt)))
 
-  walk : (κ κ₁ : Lft) (q q₁ : Share) (ys : List s.T.D) (n : ℕ) (x : s.S.Denot) (cs : Bor (List s.E.Denot)) (rs : Bor (List s.G.Denot)) → Is (Arr s) ys (At.val ys ∷ []) → Is usize n ((uint 𝓛 w64).val n ∷ []) → Is s.S x (d.plain-S.val x ∷ [])
+  walk : (κ κ₁ : Lft) (q q₁ : Share) (ys : List s.T.D) (n : ℕ) (x : s.S.Denot) (cs : Bor (List s.E.Denot)) (rs : MutBor (List s.G.Denot)) → Is (Arr s) ys (At.val ys ∷ []) → Is usize n ((uint 𝓛 w64).val n ∷ []) → Is s.S x (d.plain-S.val x ∷ [])
       → Room s.G (length rs.now) → n ≤ s.N → Walk 𝓛 (form s) N 𝓣 (pair-ty s.Q (Arr s) s.O) (others s) (body s) (κ, (κ₁, tt)) (q, (q₁, tt)) (ys, (n, (x, (cs, (rs, tt)))))
   walk κ κ₁ q q₁ ys n x cs rs is_a n-is x-is space₁ few bs =
       -- [_12: 0; _11: 2; _10: 4; _9: 6; _8: 8; _7: 10; _6: 12; _5: 14; _4: 16; _3: 18; _2: 20; _1: 22; _0: 24; the block's token; the output's; the block; the output]

@@ -9,8 +9,8 @@ use Prim.Native.Nat.{ℕ, ◌≤◌}
 use mathlib.Core.List.{[], ◌∷◌, List}
 use lib.ListN.{take}
 use seplogic.Ra.Ura.{Ura}
-use seplogic.Ra.TreeShare.{full_share}
-use mir.Syntax.{Name, Fn, erased, imm, w64, place, local, memory_slot, call, return, rv_opd, Local, Body}
+use base.Fraction.{full_share}
+use mir.Syntax.{Callee, Fn, erased, imm, w64, place, local, memory_slot, call, return, rv_opd, Local, Body}
 use prog.Wp.{Tables}
 use types.Logic.{Logic}
 use types.Kit.{◌$◌, !, by, move}
@@ -27,14 +27,14 @@ use Rattle.walks.proofs.Walk.{cell}
 use Rattle.walks.proofs.Steps.{it, sets, steps, by_values, ref-to, slice_of, firsts-of, fits-slice, var, fills, lands-in, takes-firsts, ends-in}
 use Rattle.walks.proofs.Form.{Form, code_of, value, Plains, FulfilsIf, met, calls, exits, Walk, meets-if}
 use Rattle.walks.proofs.Callee.{of-slice}
-use Rattle.walks.proofs.LendArray.{first-many, first-room, first-as, shows_first, shown-home}
+use Rattle.walks.proofs.LendArray.{first-many, first-room, first-shown, shows_first, shown-home}
 
 pub record Shape : Type 2 where
   -- the record, the answer and the array's length
   pub T : D.Declared
   pub O : RattleType
   pub N : ℕ
-  pub f : Name
+  pub f : Callee
   -- what f's contract says, and what g's says
   pub F : List T.D → O.Denot
   pub all : List T.D → ℕ → O.Denot
@@ -76,9 +76,9 @@ module _ {M : Type 1} {𝓤 : Ura M} (𝓛 : Logic 𝓤) (s : Shape) (k : Knows 
   walk ys n is_a n-is few bs =
       -- [_5: 0; _4: 2; _3: 4; _2: 6; _1: 8; _0: 10]
       fills ! (of_opd ! (var ! 8 refl)) 4 refl (has At ys is_a) $ takes-firsts ! 2 0 refl (tt, tt) (first-many ys n s.N is_a.1.0.1 few) refl (var ! 6 refl) refl (fits-slice (first-room (R s) ys n s.N k.room is_a.1.0.1 few).0) $
-      move ! (4 ∷ []) $ shows_first (R s) k.plain-T s.N bs.1.1.1.0 ys n ! tt tt is_a (first-room (R s) ys n s.N k.room is_a.1.0.1 few) (λ ν γ.
+      move ! (4 ∷ []) $ shows_first (R s) k.plain-T s.N bs.1.1.1.0 ys n ! tt tt is_a (first-room (R s) ys n s.N k.room is_a.1.0.1 few) (λ ν.
       -- [ν's token; the slice; what the lender keeps; _5: 3; ..]
-      calls 𝓛 (of-slice s.O (R s) s.F) tt (ν ∷ [], tt) (full_share, tt) (first-as (R s) s.N bs.1.1.1.0 γ (take n ys), tt) k.plain-O 𝓣 known tt ! (and_then ! (var ! 2 refl) (no_more !)) (λ r _ e _ is. lands-in ! 11 refl (has k.plain-O r is) $
+      calls 𝓛 (of-slice s.O (R s) s.F) tt (ν ∷ [], tt) (full_share, tt) (first-shown (R s) s.N bs.1.1.1.0 (take n ys), tt) k.plain-O 𝓣 known tt ! (and_then ! (var ! 2 refl) (no_more !)) (λ r _ e _ is. lands-in ! 11 refl (has k.plain-O r is) $
       shown-home (R s) k.plain-T s.N bs.1.1.1.0 ys n ! tt ν is_a.1.0.1 (λ _. move ! (1 ∷ 2 ∷ 3 ∷ 4 ∷ 0 ∷ []) $ ends-in ! 10 refl (cell, (cell, (cell, (cell, (cell, (cell, tt)))))) $
       by ! (exits 𝓛 (form s) N tt tt (ys, (n, tt)) k.plain-O tt r _ (e ∙ k.says_all ys n) tt is))))
 

@@ -9,8 +9,8 @@ use Prim.Native.Nat.{ℕ, ◌≤◌}
 use mathlib.Core.List.{[], ◌∷◌, ◌++◌, List}
 use lib.ListN.{take, drop as drop_n}
 use seplogic.Ra.Ura.{Ura}
-use seplogic.Ra.TreeShare.{full_share}
-use mir.Syntax.{Name, Fn, erased, mut, w64, place, local, memory_slot, call, return, rv_opd, aggregate, Local, Body}
+use base.Fraction.{full_share}
+use mir.Syntax.{Callee, Fn, erased, mut, w64, place, local, memory_slot, call, return, rv_opd, aggregate, Local, Body}
 use base.Fml.{Lft, Share}
 use prog.Wp.{Tables}
 use types.Logic.{Logic}
@@ -37,7 +37,7 @@ pub record Shape : Type 2 where
   pub O : RattleType
   pub Q : D.Declared
   pub N : ℕ
-  pub f : Name
+  pub f : Callee
   -- what f says, what is made of the array and f's answer, and what g says of its result
   pub answer_at : List T.D → List E.Denot → O.Denot
   pub row-at : List T.D → List E.Denot → List T.D

@@ -9,7 +9,7 @@ use mathlib.Core.Path.{◌≡◌, refl, ◌∙◌}
 use mathlib.Core.List.{[], ◌∷◌, List}
 use lib.ListN.{length}
 use seplogic.Ra.Ura.{Ura}
-use mir.Syntax.{Name, Fn, erased, mut, place, call, return, Local, Body}
+use mir.Syntax.{Callee, Fn, erased, mut, place, call, return, Local, Body}
 use base.Fml.{Lft, Share}
 use prog.Wp.{Tables}
 use types.Logic.{Logic}
@@ -17,7 +17,7 @@ use types.Kit.{◌$◌, !, by, move}
 use types.Run.{and_then, no_more}
 use denote.RattleType.{RattleType}
 use denote.Laws.{Is}
-use denote.Ref.{Bor}
+use denote.Ref.{Bor, MutBor}
 use denote.Slice.{Room}
 use denote.Struct.Declared as D
 use denote.Triple.Statement.{Triple}
@@ -37,10 +37,10 @@ pub record Shape : Type 2 where
   pub Z : RattleType
   pub Y : RattleType
   pub O : RattleType
-  pub f1 : Name
-  pub part : Name
-  pub f2 : Name
-  pub f3 : Name
+  pub f1 : Callee
+  pub part : Callee
+  pub f2 : Callee
+  pub f3 : Callee
   -- of f1, part, f2 and f3, and of g: what is asked, its part, the answers, and what is left in the row and in the output
   pub asks : S.Denot → List E.Denot → X.Denot
   pub part_of : X.Denot → Z.Denot
@@ -94,7 +94,7 @@ pub record Knows {M : Type 1} {𝓤 : Ura M} (𝓛 : Logic 𝓤) (s : Shape) : T
 
 module _ {M : Type 1} {𝓤 : Ura M} (𝓛 : Logic 𝓤) (s : Shape) (k : Knows 𝓛 s) (𝓣 : Tables 𝓤 𝓛.H)
     (known₁ : Triple 𝓤 (𝓣.C s.f1) (met (takes-line s) 𝓤 𝓛)) (known-part : Triple 𝓤 (𝓣.C s.part) (met (of_one s.Z s.X s.part_of) 𝓤 𝓛)) (known₂ : Triple 𝓤 (𝓣.C s.f2) (met (acts s) 𝓤 𝓛)) (known₃ : Triple 𝓤 (𝓣.C s.f3) (met (puts s) 𝓤 𝓛)) where
-  walk : (κ κ₁ κ₂ : Lft) (q q₁ q₂ : Share) (ys : Bor (List s.T.D)) (x : s.S.Denot) (bs : Bor (List s.E.Denot)) (rs : Bor (List s.G.Denot)) → Room (R s) (length ys.now) → Is s.S x (k.plain-S.val x ∷ []) → Room s.G (length rs.now)
+  walk : (κ κ₁ κ₂ : Lft) (q q₁ q₂ : Share) (ys : MutBor (List s.T.D)) (x : s.S.Denot) (bs : Bor (List s.E.Denot)) (rs : MutBor (List s.G.Denot)) → Room (R s) (length ys.now) → Is s.S x (k.plain-S.val x ∷ []) → Room s.G (length rs.now)
       → Walk 𝓛 (form s) (k.plain-S, tt) 𝓣 (ty s.O) (others s) (body s) (κ, (κ₁, (κ₂, tt))) (q, (q₁, (q₂, tt))) (ys, (x, (bs, (rs, tt))))
   walk κ κ₁ κ₂ q q₁ q₂ ys x bs rs space x-is space₂ _ =
       move ! (25 ∷ 28 ∷ 24 ∷ 27 ∷ 26 ∷ 29 ∷ []) $

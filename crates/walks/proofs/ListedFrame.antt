@@ -10,8 +10,8 @@ use Prim.Native.Nat.{ℕ, ◌≤◌}
 use mathlib.Core.List.{[], ◌∷◌, List}
 use lib.ListN.{length, take}
 use seplogic.Ra.Ura.{Ura}
-use seplogic.Ra.TreeShare.{full_share}
-use mir.Syntax.{Name, Fn, erased, mut, imm, w64, ty_int, place, Local, local, value_local, memory_slot, call, return, rv_opd, Body}
+use base.Fraction.{full_share}
+use mir.Syntax.{Callee, Fn, erased, mut, imm, w64, ty_int, place, Local, local, value_local, memory_slot, call, return, rv_opd, Body}
 use base.Fml.{Lft, Share}
 use prog.Wp.{Tables}
 use types.Logic.{Logic}
@@ -22,7 +22,7 @@ use denote.Laws.{Is}
 use denote.Array.{Array}
 use denote.ArrayMemory.{Single}
 use denote.Builtin.{usize}
-use denote.Ref.{Bor}
+use denote.Ref.{MutBor}
 use denote.Slice.{Room}
 use denote.Struct.Declared as D
 use denote.Triple.Statement.{Triple}
@@ -31,7 +31,7 @@ use Rattle.walks.proofs.Walk.{cell}
 use Rattle.walks.proofs.Steps.{it, sets, steps, by_values, ref-to, slice_of, hands_to, firsts-of, fits-slice, var, fills, lands-in, hands_on, takes-firsts, ends-in}
 use Rattle.walks.proofs.Form.{Form, code_of, Fulfils, met, calls, exits, Walk, meets-form}
 use Rattle.walks.proofs.Callee.{Answers, Changes, Told, OfFrame, a-value, of_one, on_row, on-frame, calls-nothing, calls-one}
-use Rattle.walks.proofs.LendArray.{first-many, first-room, first-as, lends_first, first_home, shows_first, shown-home}
+use Rattle.walks.proofs.LendArray.{first-many, first-room, first-as, first-shown, lends_first, first_home, shows_first, shown-home}
 
 pub record Shape : Type 2 where
   -- the record, what is asked, an element of the bytes and how many there are, an element of the reply and how many it has, what f answers, and the answer
@@ -43,12 +43,12 @@ pub record Shape : Type 2 where
   pub L : ℕ
   pub Y : RattleType
   pub O : RattleType
-  pub f1 : Name
-  pub f2 : Name
-  pub f3 : Name
-  pub f4 : Name
-  pub f : Name
-  pub h : Name
+  pub f1 : Callee
+  pub f2 : Callee
+  pub f3 : Callee
+  pub f4 : Callee
+  pub f : Callee
+  pub h : Callee
   -- what the contracts of f1 to f4, f and h say, and what g's says
   pub bytes : X.Denot → List E.Denot
   pub many : X.Denot → ℕ
@@ -113,7 +113,7 @@ module _ {M : Type 1} {𝓤 : Ura M} (𝓛 : Logic 𝓤) (s : Shape) (k : Knows 
   abbrev Gt : PlainType 𝓛 (Reply s)
   Gt = array 𝓛 s.G k.plain-G s.L
 
-  module _ (κ : Lft) (q : Share) (ys : Bor (List s.T.D)) (x : s.X.Denot) where
+  module _ (κ : Lft) (q : Share) (ys : MutBor (List s.T.D)) (x : s.X.Denot) where
     -- the bytes that are shown, and the reply that is lent
     abbrev us : List s.E.Denot
     us = take (s.many x) (s.bytes x)
@@ -145,11 +145,11 @@ module _ {M : Type 1} {𝓤 : Ura M} (𝓛 : Logic 𝓤) (s : Shape) (k : Knows 
         calls-one ! 𝓣 k.plain-X (uint 𝓛 w64) s.lent known₄ x x-is (and_then ! (var ! 29 refl) (no_more !)) (λ l-is. lands-in ! 20 refl (tt, record { fits = l-is.1 }) $
         hands_on ! 30 12 10 refl refl refl refl refl refl (tt, tt) (fits-slice space.0) $ takes-firsts ! 8 6 refl (tt, tt) (many is_b.1.0.1) refl (var ! 24 refl) refl (fits-slice (room is_b.1.0.1).0) $
         takes-firsts ! 4 2 refl (tt, tt) (many₂ is_g.1.0.1) refl (var ! 20 refl) refl (fits-slice (room₂ is_g.1.0.1).0) $
-        move ! (26 ∷ []) $ shows_first s.E k.plain-E s.K bs.1.1.1.0 (s.bytes x) (s.many x) ! tt k.single-E is_b (room is_b.1.0.1) (λ ν γ.
+        move ! (26 ∷ []) $ shows_first s.E k.plain-E s.K bs.1.1.1.0 (s.bytes x) (s.many x) ! tt k.single-E is_b (room is_b.1.0.1) (λ ν.
         -- [ν's token; the bytes; what their lender keeps; the token; the row; _15: 5; ..; _5: 25; ..]
         move ! (25 ∷ []) $ lends_first s.G k.plain-G s.L bs.1.1.1.1.1.0 s.blank (s.lent x) ! tt k.single-G is_g (room₂ is_g.1.0.1) (λ ν₂ γ₂. move ! (6 ∷ 3 ∷ 0 ∷ 7 ∷ 4 ∷ 1 ∷ []) $
         -- [the token; ν's token; ν₂'s; the row; the bytes; the reply; what the reply's lender keeps; what the bytes' keeps; _15: 8; ..]
-        calls 𝓛 (inner s) tt (κ, (ν ∷ [], (ν₂ ∷ [], tt))) (q, (full_share, (full_share, tt))) (ys, (first-as s.E s.K bs.1.1.1.0 γ us, (first-as s.G s.L bs.1.1.1.1.1.0 γ₂ vs, tt))) k.plain-Y 𝓣 known tt !
+        calls 𝓛 (inner s) tt (κ, (ν ∷ [], (ν₂ ∷ [], tt))) (q, (full_share, (full_share, tt))) (ys, (first-shown s.E s.K bs.1.1.1.0 us, (first-as s.G s.L bs.1.1.1.1.1.0 γ₂ vs, tt))) k.plain-Y 𝓣 known tt !
         (and_then ! (var ! 11 refl) (and_then ! (var ! 7 refl) (and_then ! (var ! 3 refl) (no_more !)))) (λ y ws e l y-is. lands-in ! 23 refl (has k.plain-Y y y-is) $
         move ! (2 ∷ 4 ∷ 5 ∷ []) $ first_home s.G k.plain-G s.L bs.1.1.1.1.1.0 s.blank (s.lent x) ! tt ν₂ γ₂ ws.1.1.0 is_g.1.0.1 (λ _.
         move ! (2 ∷ 4 ∷ []) $ shown-home s.E k.plain-E s.K bs.1.1.1.0 (s.bytes x) (s.many x) ! tt ν is_b.1.0.1 (λ _.

@@ -10,8 +10,8 @@ use Prim.Native.Nat.{ℕ, ◌≤◌}
 use mathlib.Core.List.{[], ◌∷◌, List}
 use lib.ListN.{length, take}
 use seplogic.Ra.Ura.{Ura}
-use seplogic.Ra.TreeShare.{full_share}
-use mir.Syntax.{Name, Fn, erased, mut, imm, w64, ty_int, place, local, memory_slot, call, return, rv_opd, Local, Body}
+use base.Fraction.{full_share}
+use mir.Syntax.{Callee, Fn, erased, mut, imm, w64, ty_int, place, local, memory_slot, call, return, rv_opd, Local, Body}
 use base.Fml.{Lft, Share}
 use prog.Wp.{Tables}
 use types.Logic.{Logic}
@@ -22,7 +22,7 @@ use denote.Laws.{Is}
 use denote.Array.{Array}
 use denote.ArrayMemory.{Single}
 use denote.Builtin.{usize}
-use denote.Ref.{Bor}
+use denote.Ref.{MutBor}
 use denote.Slice.{Room}
 use denote.Struct.Declared as D
 use denote.Triple.Statement.{Triple}
@@ -31,7 +31,7 @@ use Rattle.walks.proofs.Walk.{cell}
 use Rattle.walks.proofs.Steps.{it, sets, steps, by_values, ref-to, slice_of, hands_to, firsts-of, fits-slice, var, fills, lands-in, hands_on, takes-firsts, ends-in}
 use Rattle.walks.proofs.Form.{Form, handed, shown, code_of, Fulfils, met, calls, exits, Walk, meets-form}
 use Rattle.walks.proofs.Callee.{Answers, Changes, Told, of_one, on_row, calls-one}
-use Rattle.walks.proofs.LendArray.{first-many, first-room, first-as, shows_first, shown-home}
+use Rattle.walks.proofs.LendArray.{first-many, first-room, first-shown, shows_first, shown-home}
 
 pub record Shape : Type 2 where
   -- the record, what is asked, an element of the array and its length, what f answers, and the answer
@@ -41,10 +41,10 @@ pub record Shape : Type 2 where
   pub K : ℕ
   pub Y : RattleType
   pub O : RattleType
-  pub f1 : Name
-  pub f2 : Name
-  pub f : Name
-  pub h : Name
+  pub f1 : Callee
+  pub f2 : Callee
+  pub f : Callee
+  pub h : Callee
   -- what the contracts of f1, f2, f and h say, and what g's says
   pub cells : X.Denot → List E.Denot
   pub many : X.Denot → ℕ
@@ -95,7 +95,7 @@ module _ {M : Type 1} {𝓤 : Ura M} (𝓛 : Logic 𝓤) (s : Shape) (k : Knows 
   abbrev At : PlainType 𝓛 (Arr s)
   At = array 𝓛 s.E k.plain-E s.K
 
-  module _ (κ : Lft) (q : Share) (ys : Bor (List s.T.D)) (x : s.X.Denot) where
+  module _ (κ : Lft) (q : Share) (ys : MutBor (List s.T.D)) (x : s.X.Denot) where
     -- the cells that are shown
     abbrev us : List s.E.Denot
     us = take (s.many x) (s.cells x)
@@ -113,9 +113,9 @@ module _ {M : Type 1} {𝓤 : Ura M} (𝓛 : Logic 𝓤) (s : Shape) (k : Knows 
         calls-one ! 𝓣 k.plain-X At s.cells known₁ x x-is (and_then ! (var ! 19 refl) (no_more !)) (λ is_a. lands-in ! 10 refl (has At (s.cells x) is_a) $ fills ! (of_opd ! (var ! 10 refl)) 16 refl (has At (s.cells x) is_a) $
         calls-one ! 𝓣 k.plain-X (uint 𝓛 w64) s.many known₂ x x-is (and_then ! (var ! 19 refl) (no_more !)) (λ m-is. lands-in ! 14 refl (tt, record { fits = m-is.1 }) $
         hands_on ! 20 8 6 refl refl refl refl refl refl (tt, tt) (fits-slice space.0) $ takes-firsts ! 4 2 refl (tt, tt) (many is_a.1.0.1) refl (var ! 14 refl) refl (fits-slice (room is_a.1.0.1).0) $
-        move ! (16 ∷ []) $ shows_first s.E k.plain-E s.K bs.1.1.1.0 (s.cells x) (s.many x) ! tt k.single-E is_a (room is_a.1.0.1) (λ ν γ. move ! (3 ∷ 0 ∷ 4 ∷ 1 ∷ []) $
+        move ! (16 ∷ []) $ shows_first s.E k.plain-E s.K bs.1.1.1.0 (s.cells x) (s.many x) ! tt k.single-E is_a (room is_a.1.0.1) (λ ν. move ! (3 ∷ 0 ∷ 4 ∷ 1 ∷ []) $
         -- [the token; ν's token; the row; the cells; what the lender keeps; _10: 5; ..]
-        calls 𝓛 (inner s) tt (κ, (ν ∷ [], tt)) (q, (full_share, tt)) (ys, (first-as s.E s.K bs.1.1.1.0 γ us, tt)) k.plain-Y 𝓣 known tt !
+        calls 𝓛 (inner s) tt (κ, (ν ∷ [], tt)) (q, (full_share, tt)) (ys, (first-shown s.E s.K bs.1.1.1.0 us, tt)) k.plain-Y 𝓣 known tt !
         (and_then ! (var ! 6 refl) (and_then ! (var ! 2 refl) (no_more !))) (λ y ws e l y-is. lands-in ! 14 refl (has k.plain-Y y y-is) $
         move ! (1 ∷ 3 ∷ []) $ shown-home s.E k.plain-E s.K bs.1.1.1.0 (s.cells x) (s.many x) ! tt ν is_a.1.0.1 (λ _.
         -- [_3; the token; the last row; _10: 3; _9: 5; _8: 7; _7: 9; _6: 11; _5: 13; _4: 15; ..; _2: 18; ..; _0: 22], and in their order again

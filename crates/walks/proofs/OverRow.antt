@@ -20,22 +20,22 @@ use lib.ListN.{length, get_or}
 use lib.WfN.{lt-wf_rel}
 use borrow.Author.Tests.{lt-ltb, le-ltb}
 use seplogic.Ra.Ura.{Ura}
-use seplogic.Ra.TreeShare.{full_share}
+use base.Fraction.{full_share}
 use mir.Syntax.{Ty, Body as Code, w64, unsigned, lt, add, ty_int, ty_bool, ty_ptr, deref, place, copy, int, skip, seq, cond, block, loop, exit, rv_opd, op2}
 use mir.Val.{Val, WT, has_ty, vint, vptr, vbool}
 use base.Logic.{SProp}
-use base.Fml.{Lft, Share, fobor, flft}
+use base.Fml.{Lft, Share, flft}
 use prog.Wp.{Env, Wp, Tables, spot_of, after_seq, after_block, after_turn, at_return, returns as returned, next, exits}
 use types.Logic.{Logic}
 use types.Kit.{Go, Goal, Soaks, Item, ‵, prop, runs, any_q, at_ret, post, Post, Seq, Step, step, ◌$◌, !, move, drop, fsplit, rewrite}
 use types.Run.{Below, look, look_raw, store, forget, stop, hop, from, load, lit, of_opd, bin, assigns_last, first, blocks, loops, again, stays, leaves_loop, exec}
-use types.Share.{arr_parts}
 use denote.RattleType.{RattleType}
 use denote.Laws.{Is, shows}
 use denote.Memory.{mem, cell_at, shares}
 use denote.Steps.{owned}
 use denote.Ref.{Bor}
 use denote.Slice.{slice_ty, Room}
+use denote.Opens.{Shut}
 use denote.Index.{row, others, elem_out, elem_back, looks_slice}
 use denote.Index as Index
 use denote.Struct.Declared as D
@@ -110,14 +110,14 @@ module _ {M : Type 1} {𝓤 : Ura M} (𝓛 : Logic 𝓤) (T : D.Declared) (P : P
 
     abbrev pub Filled : ℕ → List (Item 𝓤)
     Filled x = elems ∷ slice ∷ index x ∷ Has 𝓤 H E L.n full_share (vint w64 (x * (mem R).size)) ∷ Has 𝓤 H E L.c full_share (vbool true)
-        ∷ Has 𝓤 H E L.p full_share (vptr y.ptr.0 (Index.place (mem R).size y.ptr.1 x)) ∷ Has 𝓤 H E L.r full_share (P.val (h x)) ∷ []
+        ∷ Has 𝓤 H E L.p full_share (vptr y.ref_ptr.0 (Index.place (mem R).size y.ref_ptr.1 x)) ∷ Has 𝓤 H E L.r full_share (P.val (h x)) ∷ []
 
     abbrev pub Over : ℕ → List (Item 𝓤)
     Over x = elems ∷ slice ∷ index x ∷ Has 𝓤 H E L.n full_share (vint w64 (length y.now)) ∷ Has 𝓤 H E L.c full_share (vbool false) ∷ Free 𝓤 H E L.p ∷ Free 𝓤 H E L.r ∷ []
 
     -- the borrow of the row, open for the loop
     abbrev pub opened : Item 𝓤
-    opened = ‵ (fobor κ q ((arr_parts (shares R) (length y.now)).part q' y.now y.ref_ptr.0 y.ref_ptr.1))
+    opened = Shut 𝓛 κ q (row R q' y.now y.ref_ptr.0 y.ref_ptr.1)
 
     word : (v : Val) → Holds (has_ty (ty_int w64) v) × WT v → Holds (has_ty (spot_of 𝓤 H E L.n).0 v) × WT v
     word v ok = typed-as v at.n-is ok
@@ -189,6 +189,6 @@ module _ {M : Type 1} {𝓤 : Ura M} (𝓛 : Logic 𝓤) (T : D.Declared) (P : P
 module _ {M : Type 1} {𝓤 : Ura M} {𝓛 : Logic 𝓤} {K : Type 0} {Γ : List (Item 𝓤)} {G : Goal 𝓤 𝓛.H} where
   -- a shared row is looked into: [the token; the row]  to  [its elements, at some share; the open borrow]
   pub looks-into : K → Soaks G → (R : RattleType) (P : PlainType 𝓛 R) (y : Bor (List R.Denot)) {κ : Lft} {q : Share}
-      → ((s : Share) → Seq K 𝓛 (‵ (row R s y.now y.ref_ptr.0 y.ref_ptr.1) ∷ ‵ (fobor κ q ((arr_parts (shares R) (length y.now)).part s y.now y.ref_ptr.0 y.ref_ptr.1)) ∷ Γ) G) → Seq K 𝓛 (‵ (flft κ q) ∷ ‵ (shared R κ y) ∷ Γ) G
+      → ((s : Share) → Seq K 𝓛 (‵ (row R s y.now y.ref_ptr.0 y.ref_ptr.1) ∷ Shut 𝓛 κ q (row R s y.now y.ref_ptr.0 y.ref_ptr.1) ∷ Γ) G) → Seq K 𝓛 (‵ (flft κ q) ∷ ‵ (shared R κ y) ∷ Γ) G
   looks-into t z R P y k =
-      move t (1 ∷ []) $ fsplit t $ drop t $ fsplit t $ drop t $ looks_slice t z R (Is R) (shows 𝓛 R) (λ x. P.val x ∷ []) P.tells P.copies y.now y.ref_ptr.0 y.ref_ptr.1 (λ s. move t (2 ∷ []) $ drop t $ k s)
+      move t (1 ∷ []) $ fsplit t $ drop t $ looks_slice t z R P.copied y.now y.ref_ptr.0 y.ref_ptr.1 (λ s. move t (2 ∷ []) $ drop t $ k s)

@@ -22,7 +22,7 @@ use mathlib.Core.Option.{some}
 use mathlib.Core.Bool.{Bool, false, not}
 use lib.Dec.{T as Holds}
 use seplogic.Ra.Ura.{Ura}
-use mir.Syntax.{Name, Fn, Local, Body, place, ty_bool, opd_false, rv_opd, skip, cond, seq, call, return}
+use mir.Syntax.{Callee, Fn, Local, Body, place, ty_bool, opd_false, rv_opd, skip, cond, seq, call, return}
 use mir.Val.{Val, vbool}
 use base.Logic.{SProp, ent, sep, emp, via, fst∗, snd∗, emp∗, comm∗, assoc∗, assoc', mono∗, mono_l, mono_r}
 use prog.Wp.{Tables, at_return, returns as returned}
@@ -41,7 +41,7 @@ use Rattle.walks.proofs.Steps.{it, sets, by_values, lie-at}
 use Rattle.walks.proofs.Form.{Said, Form, Kind, value, slots, param-types, Passed, Plains, Facts, Lasting, Lens, Ends, ending, left_at, met, Post, exits, code_of, Fulfils, meets-form, tokens, gives as given-of, finals}
 use Rattle.walks.proofs.Callee.{a-value, of_one, of_two}
 use Rattle.walks.proofs.Frame.{itself, one_more, less, up_to, past, past-le, past-both, Store, put, put-here, Same, put_same, then_same, Layout, frame, Local-is, Locals-are, laid, parted, Known, still, newly, lies, Params, still-params, start, gathers, begun, turns, var-in, sets-in, returns-in}
-use Rattle.walks.proofs.Hands.{By-value, at, after-value, after-shown, after-handed, after-behind, Var, param, newest, older, Hands, stop, found, every, every-agrees, Spots, number, place_of, fresh, moves, calling, Held, word, at-param, at-var, Values, words, nows, lens-now, let_go, Agree, plains, args, sure, kept, lent, Quiet, restored, ends_of, settled, lengths, hands_in, calls-in}
+use Rattle.walks.proofs.Hands.{By-value, at, after-value, after-shown, after-handed, after-behind, Var, param, newest, older, Hands, stop, found, every, every-agrees, Spots, number, place_of, fresh, moves, calling, Held, Twices, word, at-param, at-var, Values, words, nows, lens-now, let_go, Agree, plains, args, sure, kept, lent, Quiet, restored, ends_of, settled, lengths, hands_in, calls-in}
 
 -- ---- a function at the arguments of one call of it
 pub record Scene {M : Type 1} {𝓤 : Ura M} (𝓛 : Logic 𝓤) (g : Form) : Type 2 where
@@ -52,6 +52,7 @@ pub record Scene {M : Type 1} {𝓤 : Ura M} (𝓛 : Logic 𝓤) (g : Form) : Ty
   pub qs : Shares g.lifetimes
   pub passed : Passed κs g.params
   pub so : Facts 𝓛 κs g.params plain passed
+  pub twice : Twices 𝓛 g.params
 
 module _ {M : Type 1} {𝓤 : Ura M} {𝓛 : Logic 𝓤} {g : Form} (c : Scene 𝓛 g) where
   open 𝓛 use {H}
@@ -77,10 +78,10 @@ module _ {M : Type 1} {𝓤 : Ura M} {𝓛 : Logic 𝓤} {g : Form} (c : Scene �
   Says r z = g.says_of c.κs c.passed r (left_at g c.κs c.passed (lasting z))
 
   abbrev pub End : Val → SProp 𝓤
-  End = Post c.W g c.plain c.κs c.qs c.passed
+  End = Post 𝓛 g c.plain c.κs c.qs c.passed
 
   abbrev pub Runs : Layout → Store → SProp 𝓤 → Body → After 𝓤 H → Type 1
-  Runs E us X b q = Seq (Go {0}) c.W (raw (frame 𝓤 H E us) ∷ raw X ∷ []) (runs c.𝓣.C c.𝓣.Λ E b q)
+  Runs E us X b q = Seq (Go {0}) 𝓛 (raw (frame 𝓤 H E us) ∷ raw X ∷ []) (runs c.𝓣.C c.𝓣.Λ E b q)
 
   -- ---- the values at hand
   abbrev pub values : {Qs : List RattleType} → Held 𝓛 Qs → Values 𝓛 c.κs Qs g.params
@@ -163,7 +164,7 @@ module _ {M : Type 1} {𝓤 : Ura M} {𝓛 : Logic 𝓤} {g : Form} {c : Scene �
       first ! $ branches ! (var-in ! zero E us t refl (is.inside, t-is)) (λ y. (p₁ y).walks E us ms j k _ (up_to (past-le ns₂ (past ns₁ j)) le₂) h names.0 parts.0 e)
       (λ y. skips ! $ exec ! c.𝓣.C c.𝓣.Λ E (b₂ ms (past ns₁ j) (past ts₁ k)) q $ (p₂ y).walks E us ms (past ns₁ j) (past ts₁ k) q (up_to le₂ (past-le ts₁ k)) (still-hand c (λ _ _. refl) (past-le ns₁ j) h) names.1 parts.1 e)
 
-  pub branch : {z : Bool} {ls ns₁ ns₂ ts₁ ts₂ : List Local} {l : Spots Qs → ℕ → ℕ → Body → Body} {b₁ b₂ : Spots Qs → ℕ → ℕ → Body} → Look c Qs hs bool (boolean c.W) z ls l → (Holds z → Piece c Qs hs ns₁ ts₁ b₁) → (Holds (not z) → Piece c Qs hs ns₂ ts₂ b₂)
+  pub branch : {z : Bool} {ls ns₁ ns₂ ts₁ ts₂ : List Local} {l : Spots Qs → ℕ → ℕ → Body → Body} {b₁ b₂ : Spots Qs → ℕ → ℕ → Body} → Look c Qs hs bool (boolean 𝓛) z ls l → (Holds z → Piece c Qs hs ns₁ ts₁ b₁) → (Holds (not z) → Piece c Qs hs ns₂ ts₂ b₂)
       → Piece c Qs hs (ns₁ ++ ns₂) (by_values (ty_bool ∷ []) ++ (ls ++ (ts₁ ++ ts₂))) (λ ms j k. l ms k (suc k) (seq (cond (it k) (b₁ ms j (past ls (suc k))) skip) (b₂ ms (past ns₁ j) (past ts₁ (past ls (suc k))))))
   branch {z} {ls} {ns₁} {ns₂} {ts₁} {ts₂} l p₁ p₂ = record {
     walks = λ E us ms j k q le h named are e.
@@ -181,8 +182,8 @@ module _ {M : Type 1} {𝓤 : Ura M} {𝓛 : Logic 𝓤} {g : Form} {c : Scene �
         let G : List (Item 𝓤) = given-of c.κs g.params c.passed in
         let as_is : Ends c.κs g.params = nows 𝓛 c.κs g.params c.passed in
         returns-in ! E (put zero (some (c.answer.val z)) us') (End c) e h.result refl
-        (via 𝓤 (sep 𝓤 T (⋆ 𝓛 G)) (⊢++ 𝓛 (keys c) G) (via 𝓤 (sep 𝓤 T (⋆ 𝓛 (last c as_is))) (mono_r 𝓤 T (let_go c.W c.κs g.params c.plain c.passed))
-        (via 𝓤 (⋆ 𝓛 (keys c ++ last c as_is)) (++⊢ 𝓛 (keys c) (last c as_is)) (exits c.W g c.plain c.κs c.qs c.passed c.answer as_is z (c.answer.val z) y (lens-now 𝓛 c.κs g.params c.plain c.passed) is)))));
+        (via 𝓤 (sep 𝓤 T (⋆ 𝓛 G)) (⊢++ 𝓛 (keys c) G) (via 𝓤 (sep 𝓤 T (⋆ 𝓛 (last c as_is))) (mono_r 𝓤 T (let_go 𝓛 c.κs g.params c.plain c.passed))
+        (via 𝓤 (⋆ 𝓛 (keys c ++ last c as_is)) (++⊢ 𝓛 (keys c) (last c as_is)) (exits 𝓛 g c.plain c.κs c.qs c.passed c.answer as_is z (c.answer.val z) y (lens-now 𝓛 c.κs g.params c.plain c.passed) is)))));
   }
 
 -- ---- the tokens that a callee is handed of the caller's, and the rest, which stay
@@ -227,7 +228,7 @@ module _ {M : Type 1} {𝓤 : Ura M} {𝓛 : Logic 𝓤} {g : Form} (c : Scene �
   Suits S = (r : g.result.Denot) (ws : Lasting t.lfts ls sent) → S t.lfts sent r (outs t.lfts (slots ls) (all yes (slots ls)) sent ws) → Says c r (ends_by ws)
 
   -- one step for it, at a result of the type O. The caller then makes Δ of what comes back beside the tokens
-  calls-h : Fit → (O : RattleType) (P : PlainType 𝓛 O) (S : Said ls O) (f : Name) → Triple 𝓤 (c.𝓣.C f) (met (record { lifetimes = m; params = ls; result = O; says_of = S }) 𝓤 𝓛) → (E : Layout) (us : Store) (ms : Spots Qs) (d k : ℕ) (q : After 𝓤 H) (rest : Body) → Hand c Qs ms hs E us k → Locals-are E k (fresh h) → Local-is E d (ty O)
+  calls-h : Fit → (O : RattleType) (P : PlainType 𝓛 O) (S : Said ls O) (f : Callee) → Triple 𝓤 (c.𝓣.C f) (met (record { lifetimes = m; params = ls; result = O; says_of = S }) 𝓤 𝓛) → (E : Layout) (us : Store) (ms : Spots Qs) (d k : ℕ) (q : After 𝓤 H) (rest : Body) → Hand c Qs ms hs E us k → Locals-are E k (fresh h) → Local-is E d (ty O)
       → (Δ : Lasting t.lfts ls sent → List (Item 𝓤)) → ((ws : Lasting t.lfts ls sent) → ent 𝓤 (sep 𝓤 (⋆ 𝓛 (finals t.lfts ls sent ws)) left_here) (⋆ 𝓛 (Δ ws)))
       → ((us' : Store) (r : O.Denot) (ws : Lasting t.lfts ls sent) → Same k us us' → S t.lfts sent r (outs t.lfts (slots ls) (all yes (slots ls)) sent ws) → Lens t.lfts ls sent ws → Is O r (P.val r ∷ []) → Runs c E (put d (some (P.val r)) us') (⋆ 𝓛 (keys c ++ Δ ws)) rest q)
       → Runs c E us (whole c) (calling h [] f ms 1 d k rest) q
@@ -238,9 +239,9 @@ module _ {M : Type 1} {𝓤 : Ura M} {𝓛 : Logic 𝓤} {g : Form} (c : Scene �
       let G : List (Item 𝓤) = given-of c.κs g.params c.passed in
       let G' : List (Item 𝓤) = given-of t.lfts ls sent in
       let Z : SProp 𝓤 = sep 𝓤 t.others left_here in
-      hands_in c.W E c.κs t.lfts (values c hs) ms h c.plain c.passed c.so us 1 k h₀.params (λ R v. (x R v).0) are (λ us' s lie.
-      calls-in c.W c.𝓣 E (record { lifetimes = m; params = ls; result = O; says_of = S }) (plains 𝓛 c.κs t.lfts (values c hs) h c.plain) t.lfts t.shares sent P meets (sure 𝓛 c.κs t.lfts (values c hs) (λ R v. (x R v).1) h c.plain c.passed c.so) us' (moves h ms 1 k).1 lie d d-is (whole c) Z
-      (via 𝓤 (sep 𝓤 T (⋆ 𝓛 G)) (⊢++ 𝓛 (keys c) G) (via 𝓤 (sep 𝓤 (sep 𝓤 (⋆ 𝓛 T') t.others) (sep 𝓤 (⋆ 𝓛 G') left_here)) (mono∗ 𝓤 t.parts (lent c.W c.κs t.lfts (values c hs) h e c.passed))
+      hands_in 𝓛 E c.κs t.lfts (values c hs) ms h c.plain c.passed c.so us 1 k h₀.params (λ R v. (x R v).0) are (λ us' s lie.
+      calls-in 𝓛 c.𝓣 E (record { lifetimes = m; params = ls; result = O; says_of = S }) (plains 𝓛 c.κs t.lfts (values c hs) h c.plain) t.lfts t.shares sent P meets (sure 𝓛 c.κs t.lfts (values c hs) (λ R v. (x R v).1) h c.plain c.passed c.so) us' (moves h ms 1 k).1 lie d d-is (whole c) Z
+      (via 𝓤 (sep 𝓤 T (⋆ 𝓛 G)) (⊢++ 𝓛 (keys c) G) (via 𝓤 (sep 𝓤 (sep 𝓤 (⋆ 𝓛 T') t.others) (sep 𝓤 (⋆ 𝓛 G') left_here)) (mono∗ 𝓤 t.parts (lent 𝓛 c.κs t.lfts (values c hs) h c.twice e c.passed))
       (via 𝓤 (sep 𝓤 (sep 𝓤 (⋆ 𝓛 T') (⋆ 𝓛 G')) Z) (crossed 𝓤 (⋆ 𝓛 T') t.others (⋆ 𝓛 G') left_here) (mono_l 𝓤 Z (++⊢ 𝓛 T' G')))))
       (λ r ws says l is.
       let F : List (Item 𝓤) = finals t.lfts ls sent ws in
@@ -251,47 +252,47 @@ module _ {M : Type 1} {𝓤 : Ura M} {𝓛 : Logic 𝓤} {g : Form} (c : Scene �
 module _ {M : Type 1} {𝓤 : Ura M} {𝓛 : Logic 𝓤} {g : Form} {c : Scene 𝓛 g} {Qs : List RattleType} {hs : Held 𝓛 Qs} {m : ℕ} (ls : List (Kind m)) (t : Keys c m) (h : Hands Qs g.params g.params ls) where
   open 𝓛 use {H}
 
-  pub calls-on : (S : Said ls g.result) (f : Name) → Triple 𝓤 (c.𝓣.C f) (met (record { lifetimes = m; params = ls; result = g.result; says_of = S }) 𝓤 𝓛) → Fit c hs ls t h → Suits c hs ls t h S → Piece c Qs hs [] (fresh h) (λ ms j k. calling h [] f ms 1 zero k return)
+  pub calls-on : (S : Said ls g.result) (f : Callee) → Triple 𝓤 (c.𝓣.C f) (met (record { lifetimes = m; params = ls; result = g.result; says_of = S }) 𝓤 𝓛) → Fit c hs ls t h → Suits c hs ls t h S → Piece c Qs hs [] (fresh h) (λ ms j k. calling h [] f ms 1 zero k return)
   calls-on S f meets e y = record {
     walks = λ E us ms j k q le h₀ named are w.
-        calls-h c hs ls t h e g.result c.answer S f meets E us ms zero k q return (still-hand c (λ _ _. refl) le h₀) are h₀.result (λ ws. last c (ends_by c hs ls t h ws)) (settled c.W c.κs t.lfts (values c hs) h c.plain c.passed) (λ us' r ws s says l is.
+        calls-h c hs ls t h e g.result c.answer S f meets E us ms zero k q return (still-hand c (λ _ _. refl) le h₀) are h₀.result (λ ws. last c (ends_by c hs ls t h ws)) (settled 𝓛 c.κs t.lfts (values c hs) h e c.plain c.passed) (λ us' r ws s says l is.
         returns-in ! E (put zero (some (c.answer.val r)) us') (End c) w h₀.result refl
-        (exits c.W g c.plain c.κs c.qs c.passed c.answer (ends_by c hs ls t h ws) r (c.answer.val r) (y r ws says) (lengths 𝓛 c.κs t.lfts (values c hs) h c.plain c.passed ws l) is));
+        (exits 𝓛 g c.plain c.κs c.qs c.passed c.answer (ends_by c hs ls t h ws) r (c.answer.val r) (y r ws says) (lengths 𝓛 c.κs t.lfts (values c hs) h c.plain c.passed ws l) is));
   }
 
-  pub tells-on : {Y : RattleType} (P : PlainType 𝓛 Y) (S : Said ls Y) (f : Name) → Triple 𝓤 (c.𝓣.C f) (met (record { lifetimes = m; params = ls; result = Y; says_of = S }) 𝓤 𝓛) → Fit c hs ls t h → (F : Y.Denot → g.result.Denot) (tell : Name) → Triple 𝓤 (c.𝓣.C tell) (met (of_one g.result Y F) 𝓤 𝓛)
+  pub tells-on : {Y : RattleType} (P : PlainType 𝓛 Y) (S : Said ls Y) (f : Callee) → Triple 𝓤 (c.𝓣.C f) (met (record { lifetimes = m; params = ls; result = Y; says_of = S }) 𝓤 𝓛) → Fit c hs ls t h → (F : Y.Denot → g.result.Denot) (tell : Callee) → Triple 𝓤 (c.𝓣.C tell) (met (of_one g.result Y F) 𝓤 𝓛)
       → ((r : Y.Denot) (ws : Lasting t.lfts ls (sent c hs ls t h)) → S t.lfts (sent c hs ls t h) r (outs t.lfts (slots ls) (all yes (slots ls)) (sent c hs ls t h) ws) → Says c (F r) (ends_by c hs ls t h ws))
       → Piece c Qs hs (by_values (ty Y ∷ [])) (fresh h) (λ ms j k. calling h [] f ms 1 j k (seq (call tell (it j ∷ []) (place zero [])) return))
   tells-on {Y} P S f meets e F tell meets' y = record {
     walks = λ E us ms j k q le h₀ named are w.
-        calls-h c hs ls t h e Y P S f meets E us ms j k q _ (still-hand c (λ _ _. refl) (less le) h₀) are named.0 (λ ws. last c (ends_by c hs ls t h ws)) (settled c.W c.κs t.lfts (values c hs) h c.plain c.passed) (λ us' r ws s says l is.
+        calls-h c hs ls t h e Y P S f meets E us ms j k q _ (still-hand c (λ _ _. refl) (less le) h₀) are named.0 (λ ws. last c (ends_by c hs ls t h ws)) (settled 𝓛 c.κs t.lfts (values c hs) h e c.plain c.passed) (λ us' r ws s says l is.
         let us₁ : Store = put j (some (P.val r)) us' in
         let X : SProp 𝓤 = ⋆ 𝓛 (keys c ++ last c (ends_by c hs ls t h ws)) in
-        calls-in c.W c.𝓣 E (of_one g.result Y F) (P, tt) tt tt (r, tt) c.answer meets' (is, tt) us₁ (j ∷ []) ((named.0.inside, put-here j (some (P.val r)) us'), tt) zero h₀.result X X (emp∗ 𝓤 X) (λ z _ told _ z-is.
+        calls-in 𝓛 c.𝓣 E (of_one g.result Y F) (P, tt) tt tt (r, tt) c.answer meets' (is, tt) us₁ (j ∷ []) ((named.0.inside, put-here j (some (P.val r)) us'), tt) zero h₀.result X X (emp∗ 𝓤 X) (λ z _ told _ z-is.
         turns (raw (frame 𝓤 H E (put zero (some (c.answer.val z)) us₁)) ∷ raw X ∷ []) (mono_r 𝓤 (frame 𝓤 H E (put zero (some (c.answer.val z)) us₁)) (snd∗ 𝓤 (emp 𝓤) X)) $
         returns-in ! E (put zero (some (c.answer.val z)) us₁) (End c) w h₀.result refl
-        (exits c.W g c.plain c.κs c.qs c.passed c.answer (ends_by c hs ls t h ws) z (c.answer.val z) (subst (λ (v : g.result.Denot). Says c v (ends_by c hs ls t h ws)) (sym told) (y r ws says)) (lengths 𝓛 c.κs t.lfts (values c hs) h c.plain c.passed ws l) z-is)));
+        (exits 𝓛 g c.plain c.κs c.qs c.passed c.answer (ends_by c hs ls t h ws) z (c.answer.val z) (subst (λ (v : g.result.Denot). Says c v (ends_by c hs ls t h ws)) (sym told) (y r ws says)) (lengths 𝓛 c.κs t.lfts (values c hs) h c.plain c.passed ws l) z-is)));
   }
 
   -- of a value at hand too
-  pub tells-with : {X Y : RattleType} (v : Var g.params Qs X) (P : PlainType 𝓛 Y) (S : Said ls Y) (f : Name) → Triple 𝓤 (c.𝓣.C f) (met (record { lifetimes = m; params = ls; result = Y; says_of = S }) 𝓤 𝓛) → Fit c hs ls t h → (F : X.Denot → Y.Denot → g.result.Denot) (tell : Name) → Triple 𝓤 (c.𝓣.C tell) (met (of_two g.result X Y F) 𝓤 𝓛)
+  pub tells-with : {X Y : RattleType} (v : Var g.params Qs X) (P : PlainType 𝓛 Y) (S : Said ls Y) (f : Callee) → Triple 𝓤 (c.𝓣.C f) (met (record { lifetimes = m; params = ls; result = Y; says_of = S }) 𝓤 𝓛) → Fit c hs ls t h → (F : X.Denot → Y.Denot → g.result.Denot) (tell : Callee) → Triple 𝓤 (c.𝓣.C tell) (met (of_two g.result X Y F) 𝓤 𝓛)
       → ((r : Y.Denot) (ws : Lasting t.lfts ls (sent c hs ls t h)) → S t.lfts (sent c hs ls t h) r (outs t.lfts (slots ls) (all yes (slots ls)) (sent c hs ls t h) ws) → Says c (F (values c hs X v).1 r) (ends_by c hs ls t h ws))
       → Piece c Qs hs (by_values (ty Y ∷ [])) (fresh h) (λ ms j k. calling h [] f ms 1 j k (seq (call tell (it (place_of v ms) ∷ it j ∷ []) (place zero [])) return))
   tells-with {X} {Y} v P S f meets e F tell meets' y = record {
     walks = λ E us ms j k q le h₀ named are w.
-        calls-h c hs ls t h e Y P S f meets E us ms j k q _ (still-hand c (λ _ _. refl) (less le) h₀) are named.0 (λ ws. last c (ends_by c hs ls t h ws)) (settled c.W c.κs t.lfts (values c hs) h c.plain c.passed) (λ us' r ws s says l is.
+        calls-h c hs ls t h e Y P S f meets E us ms j k q _ (still-hand c (λ _ _. refl) (less le) h₀) are named.0 (λ ws. last c (ends_by c hs ls t h ws)) (settled 𝓛 c.κs t.lfts (values c hs) h e c.plain c.passed) (λ us' r ws s says l is.
         let us₁ : Store = put j (some (P.val r)) us' in
         let x = values c hs X v in
         let x-is = known-var c E us j h₀ X v in
         let same : Same j us us₁ = λ n b. put_same j (some (P.val r)) us' n b ∙ s n (up_to b (less le)) in
         let Z : SProp 𝓤 = ⋆ 𝓛 (keys c ++ last c (ends_by c hs ls t h ws)) in
-        calls-in c.W c.𝓣 E (of_two g.result X Y F) (x.0, (P, tt)) tt tt (x.1, (r, tt)) c.answer meets' (x-is.1, (is, tt)) us₁ (place_of v ms ∷ j ∷ []) (lies same x-is.0, ((named.0.inside, put-here j (some (P.val r)) us'), tt)) zero h₀.result Z Z (emp∗ 𝓤 Z) (λ z _ told _ z-is.
+        calls-in 𝓛 c.𝓣 E (of_two g.result X Y F) (x.0, (P, tt)) tt tt (x.1, (r, tt)) c.answer meets' (x-is.1, (is, tt)) us₁ (place_of v ms ∷ j ∷ []) (lies same x-is.0, ((named.0.inside, put-here j (some (P.val r)) us'), tt)) zero h₀.result Z Z (emp∗ 𝓤 Z) (λ z _ told _ z-is.
         turns (raw (frame 𝓤 H E (put zero (some (c.answer.val z)) us₁)) ∷ raw Z ∷ []) (mono_r 𝓤 (frame 𝓤 H E (put zero (some (c.answer.val z)) us₁)) (snd∗ 𝓤 (emp 𝓤) Z)) $
         returns-in ! E (put zero (some (c.answer.val z)) us₁) (End c) w h₀.result refl
-        (exits c.W g c.plain c.κs c.qs c.passed c.answer (ends_by c hs ls t h ws) z (c.answer.val z) (subst (λ (a : g.result.Denot). Says c a (ends_by c hs ls t h ws)) (sym told) (y r ws says)) (lengths 𝓛 c.κs t.lfts (values c hs) h c.plain c.passed ws l) z-is)));
+        (exits 𝓛 g c.plain c.κs c.qs c.passed c.answer (ends_by c hs ls t h ws) z (c.answer.val z) (subst (λ (a : g.result.Denot). Says c a (ends_by c hs ls t h ws)) (sym told) (y r ws says)) (lengths 𝓛 c.κs t.lfts (values c hs) h c.plain c.passed ws l) z-is)));
   }
 
-  pub asks : {Q : RattleType} {P : PlainType 𝓛 Q} (F : (μs : Lfts m) → Passed μs ls → Q.Denot) (f : Name) → Triple 𝓤 (c.𝓣.C f) (met (record { lifetimes = m; params = ls; result = Q; says_of = λ μs a r e. r ≡ F μs a }) 𝓤 𝓛) → Fit c hs ls t h → Quiet 𝓛 c.κs t.lfts (values c hs) h
+  pub asks : {Q : RattleType} {P : PlainType 𝓛 Q} (F : (μs : Lfts m) → Passed μs ls → Q.Denot) (f : Callee) → Triple 𝓤 (c.𝓣.C f) (met (record { lifetimes = m; params = ls; result = Q; says_of = λ μs a r e. r ≡ F μs a }) 𝓤 𝓛) → Fit c hs ls t h → Quiet 𝓛 c.κs t.lfts (values c hs) h
       → Look c Qs hs Q P (F t.lfts (sent c hs ls t h)) (fresh h) (λ ms d k rest. calling h [] f ms 1 d k rest)
   asks {Q} {P} F f meets e quiet = record {
     looks = λ E us ms d k q rest h₀ are d-is go.
@@ -306,30 +307,30 @@ module _ {M : Type 1} {𝓤 : Ura M} {𝓛 : Logic 𝓤} {g : Form} {c : Scene �
 abbrev all-fresh : Form → List RattleType → List Local
 all-fresh g Qs = fresh (every {Qs = Qs} {all = g.params} g.params)
 
-abbrev all-passed : (g : Form) (Qs : List RattleType) → Name → Spots Qs → ℕ → ℕ → Body
+abbrev all-passed : (g : Form) (Qs : List RattleType) → Callee → Spots Qs → ℕ → ℕ → Body
 all-passed g Qs f ms j k = calling (every {Qs = Qs} {all = g.params} g.params) [] f ms 1 zero k return
 
 -- the calls that are made most: of no argument, of one value at hand, and of all parameters in their order
 module _ {M : Type 1} {𝓤 : Ura M} {𝓛 : Logic 𝓤} {g : Form} {c : Scene 𝓛 g} {Qs : List RattleType} {hs : Held 𝓛 Qs} where
-  pub nothing : {Q : RattleType} {P : PlainType 𝓛 Q} (z : Q.Denot) (f : Name) → Triple 𝓤 (c.𝓣.C f) (met (a-value Q z) 𝓤 𝓛) → Look c Qs hs Q P z [] (λ ms d k rest. seq (call f [] (place d [])) rest)
+  pub nothing : {Q : RattleType} {P : PlainType 𝓛 Q} (z : Q.Denot) (f : Callee) → Triple 𝓤 (c.𝓣.C f) (met (a-value Q z) 𝓤 𝓛) → Look c Qs hs Q P z [] (λ ms d k rest. seq (call f [] (place d [])) rest)
   nothing z f meets = asks [] no_keys stop (λ _ _. z) f meets tt tt
 
-  pub no : Look c Qs hs bool (boolean c.W) false [] (λ ms d k rest. seq (sets d (rv_opd opd_false)) rest)
+  pub no : Look c Qs hs bool (boolean 𝓛) false [] (λ ms d k rest. seq (sets d (rv_opd opd_false)) rest)
   no = record { looks = λ E us ms d k q rest h are d-is go. sets-in ! E us d d-is (tt, tt) (of_opd ! (false_lit !)) $ go us (λ _ _. refl) refl }
 
-  pub asks_of : {Q R : RattleType} {P : PlainType 𝓛 Q} (v : Var g.params Qs R) (F : R.Denot → Q.Denot) (f : Name) → Triple 𝓤 (c.𝓣.C f) (met (of_one Q R F) 𝓤 𝓛) → Look c Qs hs Q P (F (values c hs R v).1) [] (λ ms d k rest. seq (call f (it (place_of v ms) ∷ []) (place d [])) rest)
+  pub asks_of : {Q R : RattleType} {P : PlainType 𝓛 Q} (v : Var g.params Qs R) (F : R.Denot → Q.Denot) (f : Callee) → Triple 𝓤 (c.𝓣.C f) (met (of_one Q R F) 𝓤 𝓛) → Look c Qs hs Q P (F (values c hs R v).1) [] (λ ms d k rest. seq (call f (it (place_of v ms) ∷ []) (place d [])) rest)
   asks_of {R = R} v F f meets = asks (value R ∷ []) no_keys (found v stop) (λ _ x. F x.0) f meets tt tt
 
-  pub calls-all : let h : Hands Qs g.params g.params g.params = every g.params in (S : Said g.params g.result) (f : Name) → Triple 𝓤 (c.𝓣.C f) (met (record { lifetimes = g.lifetimes; params = g.params; result = g.result; says_of = S }) 𝓤 𝓛)
+  pub calls-all : let h : Hands Qs g.params g.params g.params = every g.params in (S : Said g.params g.result) (f : Callee) → Triple 𝓤 (c.𝓣.C f) (met (record { lifetimes = g.lifetimes; params = g.params; result = g.result; says_of = S }) 𝓤 𝓛)
       → Suits c hs g.params all-keys h S → Piece c Qs hs [] (all-fresh g Qs) (all-passed g Qs f)
   calls-all S f meets y = calls-on g.params all-keys (every g.params) S f meets (every-agrees 𝓛 c.κs (values c hs) g.params) y
 
 -- ---- a function whose body is a piece
-module _ {M : Type 1} {𝓤 : Ura M} (𝓛 : Logic 𝓤) (𝓣 : Tables 𝓤 𝓛.H) (g : Form) (N : Plains 𝓛 g.params) (P : PlainType 𝓛 g.result) where
+module _ {M : Type 1} {𝓤 : Ura M} (𝓛 : Logic 𝓤) (𝓣 : Tables 𝓤 𝓛.H) (g : Form) (N : Plains 𝓛 g.params) (w : Twices 𝓛 g.params) (P : PlainType 𝓛 g.result) where
   open 𝓛 use {H}
 
   abbrev scene : (κs : Lfts g.lifetimes) (qs : Shares g.lifetimes) (a : Passed κs g.params) → Facts 𝓛 κs g.params N a → Scene 𝓛 g
-  scene κs qs a so = record { W = 𝓛; 𝓣 = 𝓣; plain = N; answer = P; κs = κs; qs = qs; passed = a; so = so }
+  scene κs qs a so = record { 𝓣 = 𝓣; plain = N; answer = P; κs = κs; qs = qs; passed = a; so = so; twice = w }
 
   abbrev body_of : (ns ts : List Local) → (Unit {0} → ℕ → ℕ → Body) → Fn
   body_of ns ts b = let j = past (by_values (param-types g.params)) 1 in code_of g (ty g.result) (ns ++ ts) (b tt j (past ns j))

@@ -1,7 +1,8 @@
 -- Plain types: what a walk uses of a type that owns only facts and has one machine value.
 -- Assumes nothing.
 --     ty R             the MIR type of a local of the type R
---     PlainType R      the machine value, that the relation tells it, that the relation makes what is owned, that the value has the type, that it is copied, and that it leaves a function as it came
+--     PlainType R      the machine value, that the relation tells it, that the relation makes what is owned, that the value has the type, that it is copied, that it leaves a function as it came, that it has one MIR type, and that a share of it is cut, lent and looked into
+--     Shown-twice, shown-twice     that a `&[R]` can be handed on as a copy, as it can where R is plain
 --     has-at, has, last, silent     the same as a store, the end of a walk and the law of a parameter ask for them
 --     uint, sint, boolean, struct, enumeration, array     a number, unsigned or signed, a bool, a declared struct or enum of plain fields, an array of a plain type.        array-val     the machine value of an array
 --     PlainPair, has-pair     a declared struct of exactly two plain fields, as a function by value returns the record and the answer
@@ -10,11 +11,17 @@ use Prim.Native.Nat.{ℕ}
 use mathlib.Core.List.{List, [], ◌∷◌}
 use lib.Dec.{T as Holds}
 use seplogic.Ra.Ura.{Ura}
-use mir.Syntax.{Ty, ty_struct, tcons, tnil, Width}
+use mir.Syntax.{Ty, named, ty_struct, tcons, tnil, Width}
 use mir.Val.{Val, WT, has_ty, of_z, vint, vbool, vstruct, vcons, vnil}
-use base.Fml.{ftrue}
+use base.Fml.{Lft, ftrue}
 use types.Logic.{Logic}
 use denote.RattleType.{RattleType}
+use denote.ArrayMemory.{Single}
+use denote.Copied.{Copied, uint_Copied, sint_Copied, bool_Copied, Array-Copied, each_Twice}
+use denote.Slice.{ShrSlice, shr_slice_at, elements_shared}
+use denote.Shadow.{pure_l, pure_i}
+use denote.Opens.{twice_dup}
+use types.Kit.{‵, ◌$◌, ◌∵◌, !, qed, fsplit, fjoin, frame, done}
 use denote.Exit.{Exit, unchanged, each_of, yes, Last, left}
 use denote.Laws.{Is, Typed, Tells, Makes, Lawful, Copy}
 use denote.Plain.{UInt, Boolean, uint_Tells, uint_Makes, uint_Lawful, uint_copy, bool_Tells, bool_Makes, bool_Lawful, bool-copy}
@@ -34,6 +41,17 @@ use denote.Triple.Walked.{Silent}
 abbrev pub ty : RattleType → Ty
 ty R = lone R.mir
 
+-- a `&[R]` can be handed on as a copy
+abbrev pub Shown-twice : {M : Type 1} {𝓤 : Ura M} → Logic 𝓤 → RattleType → Type 1
+Shown-twice 𝓛 R = (κ : Lft) → Copy 𝓛 (ShrSlice (named 0) κ R)
+
+pub shown-twice : {M : Type 1} {𝓤 : Ura M} (𝓛 : Logic 𝓤) (R : RattleType) → Copied 𝓛 R → Shown-twice 𝓛 R
+shown-twice 𝓛 R c κ = record {
+  twice = λ x vs. qed 𝓛 (‵ ((ShrSlice (named 0) κ R).own_val x vs) ∷ []) ∵ fsplit ! $ pure_l ! (shr_slice_at R x vs) (λ p.
+      twice_dup ! (elements_shared R x.now x.ref_ptr.0 x.ref_ptr.1) (each_Twice 𝓛 R c x.now x.ref_ptr.0 x.ref_ptr.1) κ $
+      pure_i ! (shr_slice_at R x vs) (tt, (tt, tt)) p $ fjoin ! $ frame ! $ pure_i ! (shr_slice_at R x vs) (tt, (tt, tt)) p $ done !);
+}
+
 module _ {M : Type 1} {𝓤 : Ura M} (𝓛 : Logic 𝓤) (R : RattleType) where
   pub record PlainType : Type 1 where
     pub val : R.Denot → Val
@@ -42,6 +60,8 @@ module _ {M : Type 1} {𝓤 : Ura M} (𝓛 : Logic 𝓤) (R : RattleType) where
     pub lawful : Lawful 𝓛 R
     pub copies : Copy 𝓛 R
     pub still : R.exit yes ≡ unchanged
+    pub alone : Single R.mir
+    pub copied : Copied 𝓛 R
 
 one_typed : (τs : List Ty) (v : Val) → Typed τs (v ∷ []) → Holds (has_ty (lone τs) v) × WT v
 one_typed [] v h = absurd h
@@ -85,22 +105,49 @@ array-val val l = only (array_vals (λ x. val x ∷ []) l)
 module _ {M : Type 1} {𝓤 : Ura M} (𝓛 : Logic 𝓤) where
   module _ (w : Width) where
     abbrev pub uint : PlainType 𝓛 (UInt w)
-    uint = record { val = vint w; tells = uint_Tells w; makes = uint_Makes 𝓛 w; lawful = uint_Lawful 𝓛 w; copies = uint_copy 𝓛 w; still = refl }
+    uint = record { val = vint w; tells = uint_Tells w; makes = uint_Makes 𝓛 w; lawful = uint_Lawful 𝓛 w; copies = uint_copy 𝓛 w; still = refl; alone = tt; copied = uint_Copied 𝓛 w }
 
     abbrev pub sint : PlainType 𝓛 (SInt w)
-    sint = record { val = λ z. vint w (of_z w z); tells = sint_Tells w; makes = sint_Makes 𝓛 w; lawful = sint_Lawful 𝓛 w; copies = sint_copy 𝓛 w; still = refl }
+    sint = record { val = λ z. vint w (of_z w z); tells = sint_Tells w; makes = sint_Makes 𝓛 w; lawful = sint_Lawful 𝓛 w; copies = sint_copy 𝓛 w; still = refl; alone = tt; copied = sint_Copied 𝓛 w }
 
   abbrev pub boolean : PlainType 𝓛 Boolean
-  boolean = record { val = vbool; tells = bool_Tells; makes = bool_Makes 𝓛; lawful = bool_Lawful 𝓛; copies = bool-copy 𝓛; still = refl }
+  boolean = record { val = vbool; tells = bool_Tells; makes = bool_Makes 𝓛; lawful = bool_Lawful 𝓛; copies = bool-copy 𝓛; still = refl; alone = tt; copied = bool_Copied 𝓛 }
 
   -- of T's module `Laws` it takes `the_laws`, `the_plain` and `the_copy`, here and for an enum
   abbrev pub struct : (T : D.Declared) → LL.Laws T → Plains (D.fields T) → LL.Copyables T.parts → PlainType 𝓛 (D.row T)
-  struct T L pl cp = record { val = LL.val T L; tells = LL.tells T L; makes = LL.makes T pl 𝓛; lawful = LL.lawful T L 𝓛; copies = LL.copy T cp 𝓛; still = LL.still T cp yes }
+  struct T L pl cp = record {
+    val = LL.val T L;
+    tells = LL.tells T L;
+    makes = LL.makes T pl 𝓛;
+    lawful = LL.lawful T L 𝓛;
+    copies = LL.copy T cp 𝓛;
+    still = LL.still T cp yes;
+    alone = tt;
+    copied = LL.copied T cp 𝓛;
+  }
 
   -- `Few` computes: it is `tt`
   abbrev pub enumeration : (T : ED.Declared) → EL.Laws T → Plainss (ED.variants T) → EL.Copyabless T.parts → Few (ED.shape T) → PlainType 𝓛 (ED.row T)
-  enumeration T L pl cp few = record { val = EL.val T L; tells = EL.tells T L; makes = EL.makes T pl 𝓛; lawful = EL.lawful T L 𝓛 few; copies = EL.copy T cp 𝓛; still = EL.still T cp yes }
+  enumeration T L pl cp few = record {
+    val = EL.val T L;
+    tells = EL.tells T L;
+    makes = EL.makes T pl 𝓛;
+    lawful = EL.lawful T L 𝓛 few;
+    copies = EL.copy T cp 𝓛;
+    still = EL.still T cp yes;
+    alone = tt;
+    copied = EL.copied T cp 𝓛;
+  }
 
   module _ (R : RattleType) (P : PlainType 𝓛 R) (n : ℕ) where
     abbrev pub array : PlainType 𝓛 (Array R n)
-    array = record { val = array-val P.val; tells = Array-Tells R (λ x. P.val x ∷ []) P.tells n; makes = Array-Makes 𝓛 R P.makes n; lawful = Array-Lawful 𝓛 R P.lawful n; copies = array_copy 𝓛 R P.copies n; still = λ i. each_of (P.still i) }
+    array = record {
+      val = array-val P.val;
+      tells = Array-Tells R (λ x. P.val x ∷ []) P.tells n;
+      makes = Array-Makes 𝓛 R P.makes n;
+      lawful = Array-Lawful 𝓛 R P.lawful n;
+      copies = array_copy 𝓛 R P.copies n;
+      still = λ i. each_of (P.still i);
+      alone = tt;
+      copied = Array-Copied 𝓛 R P.copied P.alone n;
+    }

@@ -31,8 +31,8 @@ use lib.Seq.{drop-cons}
 use lib.WfN.{lt-wf_rel}
 use borrow.Author.Tests.{lt-ltb, le-ltb}
 use seplogic.Ra.Ura.{Ura}
-use seplogic.Ra.TreeShare.{full_share}
-use mir.Syntax.{Name, Fn, Body as Code, w64, unsigned, lt, add, ty_int, ty_bool, ty_ptr, place, int, skip, cond as condition, block, loop, exit, call, return, rv_opd, op2, Local}
+use base.Fraction.{full_share}
+use mir.Syntax.{Callee, Fn, Body as Code, w64, unsigned, lt, add, ty_int, ty_bool, ty_ptr, place, int, skip, cond as condition, block, loop, exit, call, return, rv_opd, op2, Local}
 use mir.Val.{Val, vint, vbool}
 use base.Logic.{SProp}
 use base.Fml.{Lft, Share}
@@ -59,10 +59,10 @@ pub record Shape : Type 2 where
   -- the record and the answer
   pub T : D.Declared
   pub O : RattleType
-  pub no : Name
-  pub size : Name
-  pub hit : Name
-  pub at : Name
+  pub no : Callee
+  pub size : Callee
+  pub hit : Callee
+  pub at : Callee
   pub none : O.Denot
   pub size_of : T.D → ℕ
   pub is-hit : T.D → ℕ → Bool

@@ -16,7 +16,7 @@ use mathlib.Core.List.{List, [], ◌∷◌}
 use mathlib.Core.Option.{some}
 use lib.Dec.{T as Holds}
 use seplogic.Ra.Ura.{Ura}
-use seplogic.Ra.TreeShare.{full_share}
+use base.Fraction.{full_share}
 use mir.Syntax.{Sym, Ty, Tys, ty_struct, Lifetime, Mutability, place, Opd as Operand, copy, Rv as RValue, op2, addr_of, aggregate, deref, field, Body, seq, assign, return, Local, local, value_local, Fn, w64, unsigned, mul, offset, ty_ref}
 use mir.Val.{Val, Vals, Fits, WT, has_ty, vint, vptr, vstruct}
 use mir.Fields.{get_v, set_v}

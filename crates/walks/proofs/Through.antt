@@ -7,8 +7,8 @@
 use mathlib.Core.Path.{◌≡◌, refl, ap}
 use mathlib.Core.List.{[], ◌∷◌, List}
 use seplogic.Ra.Ura.{Ura}
-use seplogic.Ra.TreeShare.{full_share}
-use mir.Syntax.{Name, Fn, deref, field, place, copy, assign, call, return, rv_opd, Local, Body}
+use base.Fraction.{full_share}
+use mir.Syntax.{Callee, Fn, deref, field, place, copy, assign, call, return, rv_opd, Local, Body}
 use mir.Val.{Val}
 use base.Fml.{Lft, Share, fat}
 use prog.Wp.{Tables}
@@ -17,7 +17,7 @@ use types.Kit.{‵, ◌$◌, !, move, by, rewrite}
 use types.Run.{look, look_raw, store_raw, stop, hop, from, load, of_opd, and_then, no_more, assigns}
 use denote.RattleType.{RattleType}
 use denote.Laws.{Is}
-use denote.Ref.{Bor}
+use denote.Ref.{MutBor}
 use denote.Struct.Declared as D
 use denote.Triple.Statement.{Triple}
 use Rattle.walks.proofs.Plain.{ty, PlainType, pair-ty, PlainPair, has, has-pair}
@@ -33,7 +33,7 @@ pub record Shape : Type 2 where
   pub X : RattleType
   pub Q : D.Declared
   pub O : RattleType
-  pub f : Name
+  pub f : Callee
   pub F : OfOne T.D X.Denot Q.D
   pub record_of : Q.D → T.D
   pub answer-of : Q.D → O.Denot
@@ -63,7 +63,7 @@ pub record Knows {M : Type 1} {𝓤 : Ura M} (𝓛 : Logic 𝓤) (s : Shape) : T
   pub pair-Q : PlainPair 𝓛 s.Q (D.row s.T) s.O s.record_of s.answer-of
 
 module _ {M : Type 1} {𝓤 : Ura M} (𝓛 : Logic 𝓤) (s : Shape) (k : Knows 𝓛 s) (𝓣 : Tables 𝓤 𝓛.H) (known : Triple 𝓤 (𝓣.C s.f) (met (by_value s) 𝓤 𝓛)) where
-  walk : (κ : Lft) (q : Share) (y : Bor s.T.D) (x : s.X.Denot) → Is s.X x (k.plain-X.val x ∷ []) → Walk 𝓛 (form s) (k.plain-X, tt) 𝓣 (ty s.O) (others s) (body s) (κ, tt) (q, tt) (y, (x, tt))
+  walk : (κ : Lft) (q : Share) (y : MutBor s.T.D) (x : s.X.Denot) → Is s.X x (k.plain-X.val x ∷ []) → Walk 𝓛 (form s) (k.plain-X, tt) 𝓣 (ty s.O) (others s) (body s) (κ, tt) (q, tt) (y, (x, tt))
   walk κ q y x x-is bs =
       move ! (10 ∷ 11 ∷ []) $ opens-ref (R s) k.pair-Q.first y ! tt (λ g.
       -- [the record's cell; the open borrow; _4: 2; _3: 4; _2: 6; _1: 8; _0: 10]

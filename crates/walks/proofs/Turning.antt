@@ -15,8 +15,8 @@ use mathlib.Core.List.{[], ◌∷◌, List}
 use lib.ListN.{length}
 use lib.WfN.{lt-wf_rel}
 use seplogic.Ra.Ura.{Ura}
-use seplogic.Ra.TreeShare.{full_share}
-use mir.Syntax.{Name, Fn, Body as Code, erased, mut, ty_bool, place, skip, seq, cond, call, block, loop, exit, return, rv_opd, Local}
+use base.Fraction.{full_share}
+use mir.Syntax.{Callee, Fn, Body as Code, erased, mut, ty_bool, place, skip, seq, cond, call, block, loop, exit, return, rv_opd, Local}
 use mir.Val.{Val, vbool}
 use base.Logic.{SProp}
 use base.Fml.{Lft, Share, flft}
@@ -31,12 +31,12 @@ use denote.Ref.{Bor, MutBor}
 use denote.Slice.{slice_val, Room}
 use denote.Struct.Declared as D
 use denote.Triple.Statement.{Triple}
-use Rattle.walks.proofs.Plain.{ty, PlainType, has, boolean}
+use Rattle.walks.proofs.Plain.{ty, PlainType, has, boolean, Shown-twice}
 use Rattle.walks.proofs.Walk.{decide, cell, room}
 use Rattle.walks.proofs.Steps.{it, sets, steps, by_values, ref-to, slice_of, hands_to, fits-slice, Has, Free, Dies, var, fills, lands-in, hands_on, Blocks, lie-at, ends-in}
-use Rattle.walks.proofs.Form.{Form, code_of, Fulfils, met, slice-val, shared, mut_slice, calls_last, Post, exits, Walk, meets-form}
+use Rattle.walks.proofs.Form.{Form, code_of, Fulfils, met, slice-val, shared, mut_slice, calls_last, Post, exits, Walk, meets-form, mut-slice-val}
 use Rattle.walks.proofs.Callee.{OfLine, LineTold, of_one, on_line, keeps-copy, calls-one}
-use Rattle.walks.proofs.Lent.{lent-as, settles, lends_row, lent-home}
+use Rattle.walks.proofs.Lent.{lent-as, settles-as, lends_row, lent-home}
 
 pub record Shape : Type 2 where
   -- the record, the state, an element of the block and of the output
@@ -44,8 +44,8 @@ pub record Shape : Type 2 where
   pub S : RattleType
   pub E : RattleType
   pub G : RattleType
-  pub more : Name
-  pub f : Name
+  pub more : Callee
+  pub f : Callee
   -- what the contracts of more and f say, what g's says, and the turns that are left
   pub goes_on : S.Denot → Bool
   pub state-at : OfLine T.D S.Denot E.Denot G.Denot S.Denot
@@ -92,6 +92,7 @@ pub record Knows {M : Type 1} {𝓤 : Ura M} (𝓛 : Logic 𝓤) (s : Shape) : T
       → Same s ys x bs rs (s.row-at ys x bs rs) (s.state-at ys x bs rs) (s.out_at ys x bs rs)
   pub falls : (ys : List s.T.D) (x : s.S.Denot) (bs : List s.E.Denot) (rs : List s.G.Denot) → s.goes_on x ≡ true → s.left (s.state-at ys x bs rs) (length bs) < s.left x (length bs)
   pub plain-S : PlainType 𝓛 s.S
+  pub twice-E : Shown-twice 𝓛 s.E
 
 module _ {M : Type 1} {𝓤 : Ura M} (𝓛 : Logic 𝓤) (s : Shape) (k : Knows 𝓛 s) (𝓣 : Tables 𝓤 𝓛.H) (known_more : Triple 𝓤 (𝓣.C s.more) (met (of_one bool s.S s.goes_on) 𝓤 𝓛)) (known : Triple 𝓤 (𝓣.C s.f) (met (one s) 𝓤 𝓛)) where
   open 𝓛 use {H}
@@ -99,7 +100,7 @@ module _ {M : Type 1} {𝓤 : Ura M} (𝓛 : Logic 𝓤) (s : Shape) (k : Knows 
   abbrev St : PlainType 𝓛 s.S
   St = k.plain-S
 
-  module _ (κ κ₁ κ₂ : Lft) (q q₁ q₂ : Share) (ys : Bor (List s.T.D)) (x : s.S.Denot) (bs : Bor (List s.E.Denot)) (rs : Bor (List s.G.Denot)) (space : Room (D.row s.T) (length ys.now)) (space₂ : Room s.G (length rs.now)) where
+  module _ (κ κ₁ κ₂ : Lft) (q q₁ q₂ : Share) (ys : MutBor (List s.T.D)) (x : s.S.Denot) (bs : Bor (List s.E.Denot)) (rs : MutBor (List s.G.Denot)) (space : Room (D.row s.T) (length ys.now)) (space₂ : Room s.G (length rs.now)) where
     record State : Type 0 where
       row : List s.T.D
       st : s.S.Denot
@@ -161,8 +162,8 @@ module _ {M : Type 1} {𝓤 : Ura M} (𝓛 : Logic 𝓤) (s : Shape) (k : Knows 
       abbrev Γ : State → List (Item 𝓤)
       Γ t =
           ‵ (flft κ q) ∷ ‵ (mut_slice (R s) κ (row_now t)) ∷ ‵ (flft κ₂ q₂) ∷ ‵ (mut_slice s.G κ₂ (out-now t)) ∷ ‵ (flft κ₁ q₁) ∷ ‵ (shared s.E κ₁ bs) ∷ Free 𝓤 H En 10 ∷ Dies 𝓤 H En 10 ∷ Free 𝓤 H En 9 ∷ Dies 𝓤 H En 9 ∷ Free 𝓤 H En 8 ∷ Dies 𝓤 H En 8 ∷ Free 𝓤 H En 7 ∷ Dies 𝓤 H En 7
-          ∷ Free 𝓤 H En 6 ∷ Dies 𝓤 H En 6 ∷ Has 𝓤 H En 5 full_share (St.val t.st) ∷ Dies 𝓤 H En 5 ∷ Has 𝓤 H En 4 full_share (slice-val rs) ∷ Dies 𝓤 H En 4 ∷ Has 𝓤 H En 3 full_share (slice-val bs) ∷ Dies 𝓤 H En 3
-          ∷ Has 𝓤 H En 2 full_share (St.val x) ∷ Dies 𝓤 H En 2 ∷ Has 𝓤 H En 1 full_share (slice-val ys) ∷ Dies 𝓤 H En 1 ∷ Free 𝓤 H En 0 ∷ Dies 𝓤 H En 0 ∷ []
+          ∷ Free 𝓤 H En 6 ∷ Dies 𝓤 H En 6 ∷ Has 𝓤 H En 5 full_share (St.val t.st) ∷ Dies 𝓤 H En 5 ∷ Has 𝓤 H En 4 full_share (mut-slice-val rs) ∷ Dies 𝓤 H En 4 ∷ Has 𝓤 H En 3 full_share (slice-val bs) ∷ Dies 𝓤 H En 3
+          ∷ Has 𝓤 H En 2 full_share (St.val x) ∷ Dies 𝓤 H En 2 ∷ Has 𝓤 H En 1 full_share (mut-slice-val ys) ∷ Dies 𝓤 H En 1 ∷ Free 𝓤 H En 0 ∷ Dies 𝓤 H En 0 ∷ []
 
       abbrev After : State → AtEnd 𝓤 H
       After t = any_q (after_turn 𝓤 H (Below 𝓛 fewer Γ t) (after_block 𝓤 H (after_seq 𝓤 H (Wp 𝓤 H 𝓣.C 𝓣.Λ En (returned s) (at_return 𝓤 H En Ends)) (at_return 𝓤 H En Ends))))
@@ -171,11 +172,11 @@ module _ {M : Type 1} {𝓤 : Ura M} (𝓛 : Logic 𝓤) (s : Shape) (k : Knows 
       unfolding after_turn
       goes-round t so =
           calls-one ! 𝓣 St (boolean 𝓛) s.goes_on known_more t.st t.is (and_then ! (var ! 17 refl) (no_more !)) (λ _. lands-in ! 14 refl (tt, tt) $ rewrite ! 14 (λ (y : Bool). Has 𝓤 H En 6 full_share (vbool y)) so refl $ stays ! (var ! 14 refl) $
-          hands_on ! 24 12 10 refl refl refl refl refl refl (tt, tt) (fits-slice space.0) $ rewrite ! 10 (λ (m : ℕ). Has 𝓤 H En 8 full_share (slice_val ys.ptr m)) (sym t.row-long) refl $
-          hands_on ! 18 8 6 refl refl refl refl refl refl (tt, tt) (fits-slice space₂.0) $ rewrite ! 6 (λ (m : ℕ). Has 𝓤 H En 10 full_share (slice_val rs.ptr m)) (sym t.out-long) refl $
+          hands_on ! 24 12 10 refl refl refl refl refl refl (tt, tt) (fits-slice space.0) $ rewrite ! 10 (λ (m : ℕ). Has 𝓤 H En 8 full_share (slice_val ys.ref_ptr m)) (sym t.row-long) refl $
+          hands_on ! 18 8 6 refl refl refl refl refl refl (tt, tt) (fits-slice space₂.0) $ rewrite ! 6 (λ (m : ℕ). Has 𝓤 H En 10 full_share (slice_val rs.ref_ptr m)) (sym t.out-long) refl $
           lends_row (R s) (row_now t) ! tt (row_room t) (λ ν δ. move ! (3 ∷ 4 ∷ []) $ lends_row s.G (out-now t) ! tt (out-room t) (λ ν₂ δ₂.
           -- [ν₂'s token; the output; what its lender keeps; ν's token; the row; what its lender keeps; the block's token; the block; _10: 8; ..]
-          move ! (7 ∷ []) $ keeps-copy ! s.E κ₁ bs $ move ! (5 ∷ 8 ∷ 2 ∷ 6 ∷ 0 ∷ 3 ∷ []) $
+          move ! (7 ∷ []) $ keeps-copy ! s.E k.twice-E κ₁ bs $ move ! (5 ∷ 8 ∷ 2 ∷ 6 ∷ 0 ∷ 3 ∷ []) $
           calls_last 𝓛 (one s) (St, tt) (ν ∷ [], (κ₁, (ν₂ ∷ [], tt))) (full_share, (q₁, (full_share, tt))) (lent-as (R s) ys δ t.row, (t.st, (bs, (lent-as s.G rs δ₂ t.out, tt)))) St 𝓣 known (t.is, tt) !
           (and_then ! (var ! 8 refl) (and_then ! (var ! 14 refl) (and_then ! (var ! 18 refl) (and_then ! (var ! 4 refl) (no_more !))))) (λ z ws e l is.
           -- [ν's token; the block's; ν₂'s; the last row; the last output; the block; what the output's lender keeps; what the row's keeps; _10: 8; ..]
@@ -187,7 +188,7 @@ module _ {M : Type 1} {𝓤 : Ura M} (𝓛 : Logic 𝓤) (s : Shape) (k : Knows 
       unfolding after_turn
       is-over t over =
           calls-one ! 𝓣 St (boolean 𝓛) s.goes_on known_more t.st t.is (and_then ! (var ! 17 refl) (no_more !)) (λ _. lands-in ! 14 refl (tt, tt) $ rewrite ! 14 (λ (y : Bool). Has 𝓤 H En 6 full_share (vbool y)) over refl $ leaves_loop ! (var ! 14 refl) $
-          exec ! 𝓣.C 𝓣.Λ En (returned s) (at_ret En Ends) $ fills ! (of_opd ! (var ! 16 refl)) 26 refl (has St t.st t.is) $ move ! (1 ∷ []) $ settles (R s) (row_now t) ! κ $ move ! (3 ∷ []) $ settles s.G (out-now t) ! κ₂ $
+          exec ! 𝓣.C 𝓣.Λ En (returned s) (at_ret En Ends) $ fills ! (of_opd ! (var ! 16 refl)) 26 refl (has St t.st t.is) $ move ! (1 ∷ []) $ settles-as (R s) ys ! κ t.row t.row-long $ move ! (3 ∷ []) $ settles-as s.G rs ! κ₂ t.out t.out-long $
           -- [the last output; the last row; the row's token; the output's; the block's; the block; ..]
           ends-in ! 26 refl (cell, (cell, (cell, (cell, (cell, (cell, (cell, (room, (room, (room, (room, tt))))))))))) $ keep ! (2 ∷ 4 ∷ 3 ∷ 1 ∷ 0 ∷ []) $
           by ! (exits 𝓛 (form s) (St, tt) (κ, (κ₁, (κ₂, tt))) (q, (q₁, (q₂, tt))) (ys, (x, (bs, (rs, tt)))) St (t.row, (t.out, tt)) t.st _ (told t over) (t.row-long, (t.out-long, tt)) t.is))

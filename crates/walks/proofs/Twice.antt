@@ -15,8 +15,8 @@ use mathlib.Core.Path.{◌≡◌, refl, ap, ◌∙◌}
 use mathlib.Core.Bool.{Bool, true, false}
 use mathlib.Core.List.{[], ◌∷◌, List}
 use seplogic.Ra.Ura.{Ura}
-use seplogic.Ra.TreeShare.{full_share}
-use mir.Syntax.{Name, Fn, erased, mut, ty_bool, deref, field, place, copy, assign, addr_of, call, cond, skip, seq, return, rv_opd, Local, Body}
+use base.Fraction.{full_share}
+use mir.Syntax.{Callee, Fn, erased, mut, ty_bool, deref, field, place, copy, assign, addr_of, call, cond, skip, seq, return, rv_opd, Local, Body}
 use mir.Val.{Val}
 use base.Logic.{SProp}
 use base.Fml.{Lft, Share, fat}
@@ -27,7 +27,7 @@ use types.Run.{look, look_raw, store_raw, stop, hop, from, load, addr, of_opd, a
 use denote.RattleType.{RattleType}
 use denote.Laws.{Is}
 use denote.Builtin.{bool}
-use denote.Ref.{Bor}
+use denote.Ref.{Bor, MutBor}
 use denote.Struct.Declared as D
 use denote.Triple.Statement.{Triple}
 use Rattle.walks.proofs.Plain.{ty, PlainType, pair-ty, PlainPair, has, has-pair, boolean}
@@ -46,10 +46,10 @@ pub record Shape : Type 2 where
   pub Q : D.Declared
   pub N : RattleType
   pub O : RattleType
-  pub f : Name
-  pub done : Name
-  pub told : Name
-  pub h : Name
+  pub f : Callee
+  pub done : Callee
+  pub told : Callee
+  pub h : Callee
   pub F : OfFound T.D X.Denot Z.Denot E.Denot Q.D
   pub record_of : Q.D → T.D
   pub note-of : Q.D → N.Denot
@@ -104,7 +104,7 @@ module _ {M : Type 1} {𝓤 : Ura M} (𝓛 : Logic 𝓤) (s : Shape) (k : Knows 
     (known-told : Triple 𝓤 (𝓣.C s.told) (met (of_one s.O s.N s.tells) 𝓤 𝓛)) (known_on : Triple 𝓤 (𝓣.C s.h) (met (goes_on s) 𝓤 𝓛)) where
   open 𝓛 use {H}
 
-  module _ (κ κ₁ : Lft) (q q₁ : Share) (y : Bor s.T.D) (x : s.X.Denot) (z : s.Z.Denot) (cs : Bor (List s.E.Denot)) where
+  module _ (κ κ₁ : Lft) (q q₁ : Share) (y : MutBor s.T.D) (x : s.X.Denot) (z : s.Z.Denot) (cs : Bor (List s.E.Denot)) where
     abbrev Ends : Val → SProp 𝓤
     Ends = Post 𝓛 (form s) (k.plain-X, (k.plain-Z, tt)) (κ, (κ₁, tt)) (q, (q₁, tt)) (y, (x, (z, (cs, tt))))
 

@@ -13,7 +13,7 @@ use native.Mathlib.Omega.{arith}
 use mathlib.Core.List.{List, [], ◌∷◌}
 use lib.Dec.{T, ltb, lt→ltb, ltb→lt, nltb→le}
 use seplogic.Ra.Ura.{Ura}
-use seplogic.Ra.TreeShare.{full_share}
+use base.Fraction.{full_share}
 use mir.Syntax.{Opd as Operand, Ty, int, int_big, w64}
 use mir.Val.{Val, Fits, vint}
 use base.Logic.{ent, sep, via, guard_i, id⊢, mono_l, mono_r, assoc'}

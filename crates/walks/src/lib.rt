@@ -1,6 +1,6 @@
 // Theorems on thin routines over lent records. The crate has no function of its own.
 //
-// The prover does not cover a function with a record behind a reference. Write such a function with every decision in a function by value, in one of two ways.
+// The prover writes the walk of a function over lent records by itself. Where a function is to be proved by a theorem on its shape, write it with every decision in a function by value, in one of two ways.
 //
 // Where it looks, branches, and ends with a call, it is put together of pieces, for any list of parameters: by value, `&[T]`, `&mut [T]` and `&mut T`. Its file names the form
 // of the function and writes the body as a term; the locals and the code are read off that term (proofs/Pieces.antt, proofs/Rows.antt and, for the arguments of a call, proofs/Hands.antt).
