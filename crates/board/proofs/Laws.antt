@@ -8,14 +8,14 @@ use lib.Dec.{ltb, leb}
 use borrow.Author.Tests.{le-leb, lt-leb, ltb-true, ltb-false}
 use Rattle.lists.proofs.Split.{split}
 use Rattle.refusal.proofs.Laws.{said-refused}
-use Rattle.settings.specs.Faults.{Fault, OV, UV}
+use Rattle.settings.specs.Faults.{Fault}
 use Rattle.cells.specs.Cells.{high_of, span_of}
 use Rattle.cells.proofs.Ends.{every-within, all-below-release, all-above-release}
 use Rattle.board.specs.declared.Board.{Board}
 use Rattle.board.specs.declared.Readings.{Readings}
 use Rattle.board.specs.declared.Answer.{Answer}
 use Rattle.board.specs.declared.Answer.TheVariants.{Sampled, Refused}
-use Rattle.latches.specs.Latches.{latch, latches, latch_next, latches_of}
+use Rattle.latches.specs.Latches.{latch, latch_next, latches_of}
 use Rattle.board.specs.Sample.{answer_said, answer_saying, swept_at, latches_after, latches_next, board_with, entered, runs_next, currents_next, stands, lets_go, out_of_range}
 use Rattle.board.specs.Host.{holds_on}
 use Rattle.board.specs.Way.{out_of_range_by, latches_by, latches_left}

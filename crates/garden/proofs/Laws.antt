@@ -1,23 +1,21 @@
 -- The laws of the garden packs' counts: they fit a byte; the cells, one by one; and what is inside.
 -- Assumes nothing.
-use Prim.Native.Nat.{ℕ, zero, suc, ◌+◌, ◌-◌, min, ◌<◌, ◌≤◌}
+use Prim.Native.Nat.{ℕ, zero, suc, ◌+◌, ◌-◌, ◌<◌, ◌≤◌}
 use native.Mathlib.Nat.{not-suc-le-zero}
 use native.Mathlib.Omega.{arith}
-use mathlib.Core.Path.{◌≡◌, refl, sym, ap, ap₂, ◌∙◌}
-use mathlib.Core.Bool.{Bool, true, false, cond, not, ◌&&◌}
-use mathlib.Core.List.{List, [], ◌∷◌, ◌++◌}
-use lib.Dec.{ltb}
+use mathlib.Core.Path.{◌≡◌, refl, sym, ap, ap₂}
+use mathlib.Core.Bool.{Bool, true, false, not, ◌&&◌}
+use mathlib.Core.List.{List, ◌++◌}
 use lib.ListN.{length, get_or, take, drop, set, take-append-drop}
 use Rattle.lists.specs.Each.{each}
 use Rattle.lists.proofs.Each.{each-down, each_none, set_front}
 use Rattle.cells.specs.declared.Cell.{Cell}
-use Rattle.cells.specs.declared.Span.{Span}
-use Rattle.cells.specs.Cells.{span_of, cell_count}
+use Rattle.cells.specs.Cells.{span_of}
 use Rattle.cells.proofs.Ends.{every-below, every-above}
 use Rattle.garden.specs.declared.Garden.{Garden}
 use Rattle.garden.specs.declared.Device.{Device}
 use Rattle.garden.specs.Device.{device, devices, device_of, ov_inner, uv_inner}
-use Rattle.garden.specs.Filter.{count_next, cell_after, cells_after, grow_with, grow_of}
+use Rattle.garden.specs.Filter.{count_next, cell_after, grow_with, grow_of}
 use Rattle.garden.specs.Way.{grow_by}
 
 -- ---- a count

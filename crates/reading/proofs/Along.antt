@@ -9,7 +9,6 @@ use lib.ListN.{length, get_or, drop as drop_n, drop_of_length-le}
 use lib.Seq.{drop-cons}
 use Rattle.board.specs.declared.Board.{Board}
 use Rattle.reading.specs.declared.Place.{Place}
-use Rattle.reading.specs.declared.Line.{Line}
 use Rattle.reading.specs.Reading.{summary_of, place}
 use Rattle.reading.specs.Way.{first_on, first_from, place_at, line_from, up_at, none_up}
 use Rattle.lists.specs.Marks.{marked}

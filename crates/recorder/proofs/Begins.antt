@@ -2,9 +2,9 @@
 -- Assumes nothing.
 use Prim.Native.Nat.{ℕ, ◌+◌, ◌*◌, ◌<◌, ◌≤◌}
 use native.Mathlib.Omega.{arith}
-use mathlib.Core.Path.{◌≡◌, refl, sym, ap, ◌∙◌}
+use mathlib.Core.Path.{◌≡◌, refl, ap, ◌∙◌}
 use mathlib.Core.Bool.{Bool, true, false, true≢false, not, ◌||◌}
-use mathlib.Core.List.{List, [], ◌∷◌, ◌++◌, append-nil, map}
+use mathlib.Core.List.{List, [], ◌++◌, append-nil}
 use lib.ListN.{length, length-map}
 use lib.Dec.{ltb}
 use borrow.Author.Tests.{ne_eqb, lt-ltb, le-ltb, ltb-false}
@@ -13,7 +13,6 @@ use Rattle.puts.specs.Put.{Put}
 use Rattle.puts.proofs.Puts.{put_then}
 use Rattle.format.specs.Format.{header, board_bytes, all_bytes, recording}
 use Rattle.format.proofs.Sizes.{all_map, recording-length}
-use Rattle.stack.specs.Row.{bad_count}
 use Rattle.stack.specs.Open.{good_plans, bad_plans}
 use Rattle.recorder.specs.declared.Recorder.{Recorder}
 use Rattle.recorder.specs.Recorder.{recorder, end, listed_of, boards_of, opening, has_garden, begin_bars, unbegun, begin_recorder, begin_memory}

@@ -1,12 +1,10 @@
 -- An act noted: it can not be recorded, there is no room, or it is written; the three are all that a note does.
 -- Assumes nothing.
-use Prim.Native.Nat.{ℕ, ◌+◌, ◌≤◌}
-use native.Mathlib.Omega.{arith}
+use Prim.Native.Nat.{ℕ, ◌+◌}
 use mathlib.Core.Path.{◌≡◌, sym, ap, ◌∙◌}
 use mathlib.Core.Bool.{Bool, true, false}
 use mathlib.Core.List.{List}
 use lib.ListN.{length}
-use lib.Seq.{sets}
 use borrow.Author.Tests.{ne_eqb}
 use Rattle.puts.specs.Put.{Put}
 use Rattle.puts.proofs.Puts.{put_then}

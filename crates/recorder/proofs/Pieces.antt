@@ -1,11 +1,11 @@
 -- Pieces of a recording put one after the other; and what was sent with its answer behind it is the act.
 -- Assumes nothing.
-use Prim.Native.Nat.{ℕ, zero, suc, ◌+◌, ◌*◌, ◌<◌, ◌≤◌}
+use Prim.Native.Nat.{ℕ, suc, ◌+◌, ◌<◌, ◌≤◌}
 use native.Mathlib.Omega.{arith}
 use native.Mathlib.Numerals.{add-one}
 use native.Mathlib.Nat.{add-zero}
 use mathlib.Core.Path.{◌≡◌, refl, sym, ap, ◌∙◌}
-use mathlib.Core.Bool.{Bool, true, false, cond}
+use mathlib.Core.Bool.{cond}
 use mathlib.Core.List.{List, [], ◌∷◌, ◌++◌, append_assoc, append-nil}
 use lib.Dec.{eqb}
 use lib.ListN.{length, get_or, take, length-append}
@@ -14,7 +14,7 @@ use borrow.Author.Tests.{eqb-true, eq-eqb, ne_eqb}
 use Rattle.lists.proofs.Split.{split}
 use Rattle.puts.specs.Put.{Put}
 use Rattle.puts.proofs.Puts.{put_then}
-use Rattle.format.specs.Format.{little, all_bytes, Sent, noted, kind_of, body_of, widths, fields, valued, answer_bytes, act_bytes}
+use Rattle.format.specs.Format.{little, all_bytes, Sent, noted, kind_of, body_of, widths, fields, answer_bytes, act_bytes}
 use Rattle.format.proofs.Sizes.{all_append}
 use Rattle.recorder.specs.Recorder.{answer_of}
 use Rattle.recorder.specs.Way.{sent_bytes, answered}

@@ -2,9 +2,9 @@
 -- Assumes nothing.
 use Prim.Native.Nat.{ℕ, ◌+◌, ◌*◌, ◌^◌, ◌<◌, ◌≤◌}
 use native.Mathlib.Omega.{arith}
-use mathlib.Core.Path.{◌≡◌, refl, sym, ◌∙◌}
+use mathlib.Core.Path.{◌≡◌, refl, sym}
 use mathlib.Core.Bool.{Bool, true, false, true≢false, cond, not, ◌&&◌, and-true, and-false}
-use mathlib.Core.List.{List, [], ◌∷◌}
+use mathlib.Core.List.{List}
 use lib.Dec.{ltb}
 use lib.IntN.{ℤ}
 use lib.ListN.{length}
@@ -13,7 +13,7 @@ use mir.Syntax.{w32}
 use mir.Val.{SFits}
 use Rattle.lists.specs.Every.{every}
 use Rattle.lists.proofs.Split.{split}
-use Rattle.format.specs.Format.{fits, fits_signed, sample, body_of, recordable}
+use Rattle.format.specs.Format.{fits, sample, body_of, recordable}
 use Rattle.format.proofs.Sizes.{sample-length}
 use Rattle.recorder.specs.Way.{sample_fits}
 use Rattle.recorder.proofs.Numbers.{signed-fits}

@@ -1,6 +1,5 @@
 -- Refused, or quiet, or a garden board's, or it may change the board.
 use Rattle.std.proofs.Common.{◌≡◌, ◌∙◌, sym, ap, true, false}
-use Rattle.board.specs.declared.Found.{Found}
 use Rattle.board.specs.Way.{look_of, is_refused, is_quiet, is_growing, answer_of, span_found, rested_of, accepted_by, grown_of, entering}
 use Rattle.board.proofs.Looking.{look-refused, look-quiet, look-grows, look-changes}
 use Rattle.board.proofs.sample_board.Goals as goal

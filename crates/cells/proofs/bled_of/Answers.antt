@@ -1,4 +1,4 @@
-use Rattle.std.proofs.Common.{◌%◌, ◌&&◌, eqb, arith, rules}
+use Rattle.std.proofs.Common.{◌%◌, ◌&&◌, eqb, rules}
 use Rattle.cells.proofs.Bleed.{bled-start, bled-turn, few-bled, search-within}
 use Rattle.cells.proofs.bled_of.Goals as goal
 

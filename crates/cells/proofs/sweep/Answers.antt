@@ -21,13 +21,12 @@ mark_next-low-requires c = few-lower _ _ _ _ _ _ c.loop-i.invariant.3 (omega ari
 
 pub loop-i-preserved : goal.loop-i-preserved
 loop-i-preserved c =
-    let h = c.loop-i in
-    (
+    let h = c.loop-i in (
       search rules,
       h.invariant.1,
       h.invariant.2,
       rw (c.mark_next-ov_stood.ensures, c.mark_next-uv_stood.ensures, c.mark_next-low.ensures)
-      (turn _ _ _ _ _ _ _ _ _ _ h.invariant.3 c.advance-ov_run.ensures c.advance-uv_run.ensures c.has_stood.ensures c.has_stood-in-loop-i.ensures (omega arith) (omega arith) (omega arith)),
+          (turn _ _ _ _ _ _ _ _ _ _ h.invariant.3 c.advance-ov_run.ensures c.advance-uv_run.ensures c.has_stood.ensures c.has_stood-in-loop-i.ensures (omega arith) (omega arith) (omega arith)),
     )
 
 pub flags_next-flagged-requires : goal.flags_next-flagged-requires

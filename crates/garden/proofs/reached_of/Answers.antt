@@ -1,5 +1,5 @@
 -- From the highest cell down, the lowest that reaches the trigger so far.
-use Rattle.std.proofs.Common.{◌≡◌, ℕ, ◌-◌, Bool, length, arith, rules}
+use Rattle.std.proofs.Common.{◌≡◌, ℕ, Bool, length, arith, rules}
 use Rattle.cells.specs.Cells.{cell_count}
 use Rattle.cells.proofs.Sets.{lowest-none, lowest-down}
 use Rattle.garden.specs.Filter.{reaches, ov_count_at, uv_count_at}

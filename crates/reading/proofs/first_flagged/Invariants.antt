@@ -1,4 +1,4 @@
-use Rattle.std.proofs.Common.{◌≡◌, ◌+◌, ◌<◌, ◌≤◌, ◌-◌, length, drop}
+use Rattle.std.proofs.Common.{◌≡◌, ◌+◌, ◌≤◌, ◌-◌, length, drop}
 use Rattle.reading.specs.Reading.{place}
 use Rattle.reading.specs.Way.{first_on, first_from}
 use Rattle.reading.proofs.first_flagged.Given as goal

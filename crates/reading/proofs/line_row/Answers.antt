@@ -1,4 +1,4 @@
-use Rattle.std.proofs.Common.{◌≡◌, ◌∙◌, sym, rules, arith}
+use Rattle.std.proofs.Common.{◌∙◌, sym, rules, arith}
 use Rattle.board.specs.Sample.{fresh}
 use Rattle.reading.proofs.Along.{latched-here, latched-on, lines-end}
 use Rattle.reading.proofs.line_row.Goals as goal

@@ -1,8 +1,7 @@
-use Rattle.std.proofs.Common.{◌≡◌, ◌∙◌, sym, ap, rules, arith}
+use Rattle.std.proofs.Common.{◌∙◌, rules, arith}
 use Rattle.board.specs.Sample.{fresh}
-use Rattle.reading.specs.declared.Seen.{Seen}
 use Rattle.reading.specs.Way.{seen_with}
-use Rattle.reading.proofs.Along.{folded, folded_on, folded-ends}
+use Rattle.reading.proofs.Along.{folded_on, folded-ends}
 use Rattle.reading.proofs.Scanned.{row-folds}
 use Rattle.reading.proofs.see_row.Goals as goal
 

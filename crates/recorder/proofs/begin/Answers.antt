@@ -1,5 +1,5 @@
 use Rattle.std.proofs.Common.{◌≡◌, ◌<◌, ℕ, sym, ◌∙◌, length, arith}
-use Rattle.recorder.proofs.Begins.{few, begin-bad, begin-garden, begin-full, begin-room, begin-left, begin-written}
+use Rattle.recorder.proofs.Begins.{begin-bad, begin-garden, begin-full, begin-room, begin-left, begin-written}
 use Rattle.recorder.proofs.begin.Goals as goal
 
 some : (v : ℕ) → 0 < v → v ≡ 0 → ⊥

@@ -1,4 +1,4 @@
-use Rattle.std.proofs.Common.{◌≡◌, ℕ, ◌+◌, ◌*◌, refl, sym, ap, ◌∙◌, cond, eqb, List, [], ◌∷◌, length, arith}
+use Rattle.std.proofs.Common.{◌≡◌, ℕ, ◌+◌, ◌*◌, refl, sym, ◌∙◌, cond, eqb, List, [], ◌∷◌, length, arith}
 use lib.IntN.{ℤ}
 use mir.Facts.{to_z-of_z}
 use Rattle.format.specs.Format.{sample, fields, little, noted, act_bytes}

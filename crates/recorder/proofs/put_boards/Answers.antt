@@ -1,4 +1,4 @@
-use Rattle.std.proofs.Common.{◌≡◌, ℕ, List, refl, ◌∙◌, arith, rules}
+use Rattle.std.proofs.Common.{ℕ, List, refl, ◌∙◌, arith, rules}
 use Rattle.puts.proofs.Puts.{put_same}
 use Rattle.format.specs.Format.{board_bytes}
 use Rattle.recorder.specs.Recorder.{listed_of}

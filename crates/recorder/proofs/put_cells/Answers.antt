@@ -1,4 +1,4 @@
-use Rattle.std.proofs.Common.{◌≡◌, ◌^◌, refl, ◌∙◌, get_or, arith, rules}
+use Rattle.std.proofs.Common.{◌^◌, refl, ◌∙◌, get_or, arith, rules}
 use borrow.Author.Tests.{ltb-true}
 use Rattle.lists.proofs.Every.{every-at}
 use Rattle.puts.proofs.Puts.{put_same}

@@ -1,4 +1,4 @@
-use Rattle.std.proofs.Common.{◌≡◌, ◌<◌, ◌≤◌, ◌+◌, ◌∙◌, ℕ, List, length, get_or, drop, sym, rules, arith, true, false, not}
+use Rattle.std.proofs.Common.{◌≡◌, ◌<◌, ◌+◌, ◌∙◌, ℕ, List, length, get_or, drop, sym, rules, arith, true, false, not}
 use Rattle.board.specs.declared.Board.{Board}
 use Rattle.board.specs.Sample.{bad_board}
 use Rattle.lists.proofs.Every.{every-turn, every-done}

@@ -1,5 +1,4 @@
-use Rattle.std.proofs.Common.{sym, ◌∙◌, ap, rules}
-use Rattle.stack.specs.Way.{more, left, fill_at, fill_row_at, fill_end, fill_row}
+use Rattle.std.proofs.Common.{sym, ◌∙◌}
 use Rattle.stack.proofs.Fills.{fill_stops, fill-falls, fill-turns}
 use Rattle.stack.proofs.fill.Goals as goal
 

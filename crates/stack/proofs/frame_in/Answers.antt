@@ -1,8 +1,7 @@
 -- What the frame itself decides is answered before a board is looked for.
-use Rattle.std.proofs.Common.{◌≡◌, ◌∙◌, ◌≤◌, ℕ, List, length, ap, sym, true, false}
+use Rattle.std.proofs.Common.{◌≡◌, ◌∙◌, ℕ, List, length, ap, sym, true, false}
 use Rattle.board.specs.declared.Board.{Board}
 use Rattle.frame.specs.declared.Taken.{Taken}
-use Rattle.frame.specs.declared.Outcome.{Outcome}
 use Rattle.frame.specs.declared.Reply.{Reply}
 use Rattle.frame.specs.declared.Reply.TheVariants.{Refused}
 use Rattle.frame.proofs.Laws.{room_for}

@@ -1,4 +1,3 @@
-use Rattle.std.proofs.Common.{rules, sym, ◌∙◌}
 use Rattle.stack.specs.Row.{good_row}
 use Rattle.stack.proofs.good_row.Goals as goal
 

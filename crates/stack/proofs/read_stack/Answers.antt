@@ -1,4 +1,4 @@
-use Rattle.std.proofs.Common.{sym, ap, ◌∙◌}
+use Rattle.std.proofs.Common.{sym, ◌∙◌}
 use Rattle.stack.proofs.Scanned.{read-good, read-bad}
 use Rattle.stack.proofs.read_stack.Goals as goal
 

@@ -1,4 +1,4 @@
-use Rattle.std.proofs.Common.{sym, ap, ◌∙◌}
+use Rattle.std.proofs.Common.{sym, ◌∙◌}
 use Rattle.stack.proofs.Scanned.{up-good, up-bad}
 use Rattle.stack.proofs.up_stack.Goals as goal
 
