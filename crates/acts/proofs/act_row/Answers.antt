@@ -1,6 +1,6 @@
 -- `act_row`: a sample goes one way, and any other act the other.
 -- Assumes nothing.
-use Rattle.std.proofs.Common.{◌≡◌, Bool, true, false, cond, List, refl, sym, ◌∙◌}
+use Rattle.std.proofs.Common.{◌≡◌, true, false, cond, List, refl, sym, ◌∙◌}
 use mathlib.Core.Bool.{true≢false}
 use Rattle.board.specs.declared.Board.{Board}
 use Rattle.acts.specs.declared.Act.{Act}

@@ -1,6 +1,6 @@
 -- `other_row`: a frame goes one way, and a reading the other.
 -- Assumes nothing.
-use Rattle.std.proofs.Common.{◌≡◌, Bool, true, false, List, sym, ◌∙◌}
+use Rattle.std.proofs.Common.{◌≡◌, true, false, List, sym, ◌∙◌}
 use Rattle.board.specs.declared.Board.{Board}
 use Rattle.acts.specs.declared.Act.{Act}
 use Rattle.acts.specs.declared.ActKind.TheVariants as kind
