@@ -4,12 +4,12 @@
 #     make install TARGET=thumbv7em-none-eabi PREFIX=DIR    the same for another processor (ports/targets has them all);
 #                              FLAGS='-O2 -mcpu=cortex-m7' are clang's words beside those of the target, and win
 # And for whoever works on it, each over a script that can be called by itself:
-#     make check               proves every crate, runs the programs
+#     make check               proves every crate
 #     make test                the references' own tests, the bench and the workshop against them, and the three below
 #     make faces               the C and Rust faces against the reference
 #     make ports               the library on every processor, on emulators
 #     make fuzz                about a minute of fuzzing, the C face and the workshop's lines
-#     make refused             the wrong programs that the gate leaves out; CRATES='cells board' only theirs and of crates below
+#     make refused             the wrong programs that the gate leaves out; CRATES='cells board' only theirs
 #     make perf                the benchmarks
 #     make gate                what has to pass before anything lands
 PREFIX ?= /usr/local
@@ -23,7 +23,7 @@ BUILT := target/ports/$(TARGET)
 
 .PHONY: all install uninstall check test faces ports fuzz refused perf gate
 
-# rt itself knows what has changed since it last proved a crate
+# what was compiled stays while nothing that it is made from has changed
 all:
 	ports/build $(TARGET) $(FLAGS)
 
@@ -44,7 +44,7 @@ uninstall:
 	rm -rf $(INTO)/lib/cmake/adomvik $(INTO)/lib/adomvik
 
 check:
-	rt check
+	rt all check
 
 test: faces ports fuzz
 	python3 tests/reference/selftest.py && tests/stored && tests/differential 3000
