@@ -2,16 +2,15 @@
 -- Assumes nothing.
 use Prim.Native.Nat.{ℕ, zero, suc, ◌+◌, ◌-◌, ◌≤◌}
 use native.Mathlib.Omega.{arith}
-use mathlib.Core.Path.{◌≡◌, refl, sym, ap, ap₂, ◌∙◌}
-use mathlib.Core.Bool.{Bool, true, false, cond, not, ◌&&◌, ◌||◌}
+use mathlib.Core.Path.{◌≡◌, refl, sym, ap, ◌∙◌}
+use mathlib.Core.Bool.{Bool, true, false, cond, not}
 use mathlib.Core.List.{List, [], ◌∷◌, map}
-use lib.Dec.{eqb, ltb}
+use lib.Dec.{eqb}
 use lib.ListN.{length, drop, length-drop}
 use lib.Seq.{drop-drop}
-use borrow.Author.Tests.{le-ltb, lt-ltb, eq-eqb, ne_eqb}
+use borrow.Author.Tests.{lt-ltb}
 use Rattle.lists.proofs.Split.{split}
 use Rattle.refusal.specs.Said.{Said, first}
-use Rattle.refusal.specs.Refusals.{number_of}
 use Rattle.refusal.proofs.Laws.{number-not-zero}
 use Rattle.format.specs.Format.{Sent, sample, frame, reading, widths}
 use Rattle.format.specs.Read.{numbers_in, kind_in, long_in, sent_in, widths_by, answer_in, act_in, act_long, acts_from, bar_of, act_tests, acts_tests}
@@ -33,8 +32,8 @@ use Rattle.stack.specs.Sample.{sample_answer}
 use Rattle.stack.specs.Frame.{frame_answer}
 use Rattle.acts.specs.InPlace.{act_told}
 use Rattle.replay.specs.declared.Pace.{Pace}
-use Rattle.replay.specs.Check.{readings_by, lent, said_on, row_on, same, right, wrong_after, row_after, checked}
-use Rattle.replay.specs.Way.{act_at, padded, told_said, same_answer, pace_at, turn_of, judged_by, state_acted, row_acted, state_at, row_at, goes_on, ran_state, ran_row, checked_by}
+use Rattle.replay.specs.Check.{readings_by, lent, said_on, row_on, right, wrong_after, row_after, checked}
+use Rattle.replay.specs.Way.{act_at, padded, told_said, same_answer, pace_at, turn_of, judged_by, state_at, row_at, goes_on, ran_state, ran_row, checked_by}
 use Rattle.replay.proofs.Same.{act-alike, same-five}
 use Rattle.replay.proofs.Turns.{taken}
 use Rattle.replay.proofs.Acted.{acted, by-act}

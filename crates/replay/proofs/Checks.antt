@@ -1,30 +1,29 @@
 -- A check as a whole: what is told where it can not be made, and what the run tells where it is.
 -- Assumes nothing.
-use Prim.Native.Nat.{ℕ, zero, suc, ◌+◌, ◌*◌, ◌-◌, ◌/◌, ◌%◌, ◌≤◌, min}
+use Prim.Native.Nat.{ℕ, zero, suc, ◌+◌, ◌*◌, ◌/◌, ◌%◌, ◌≤◌, min}
 use native.Mathlib.Omega.{arith}
 use mathlib.Core.Path.{◌≡◌, refl, sym, ap, ◌∙◌}
-use mathlib.Core.Bool.{Bool, true, false, true≢false, cond, not, ◌&&◌, ◌||◌}
-use mathlib.Core.List.{List, [], ◌∷◌, map}
+use mathlib.Core.Bool.{Bool, true, false, true≢false, not, ◌||◌}
+use mathlib.Core.List.{List, map}
 use lib.Dec.{eqb, ltb}
-use lib.ListN.{length, take, drop, length-map, length-drop}
+use lib.ListN.{length, take, drop, length-drop}
 use lib.Seq.{take_all}
 use borrow.Author.Tests.{eqb-true, eqb-false, eq-eqb, ne_eqb, le-ltb, ltb-false}
 use Rattle.lists.specs.Compare.{◌above◌, outside}
 use Rattle.lists.specs.Every.{every}
 use Rattle.lists.proofs.Split.{split}
 use Rattle.refusal.specs.Said.{first}
-use Rattle.format.specs.Read.{board_count, act_count, board_in, boards_from, boards_in, acts_from, acts_in, acts_at, bar_of, head_tests, boards_tests, acts_tests, read_tests, reads}
+use Rattle.format.specs.Read.{board_count, act_count, board_in, boards_from, boards_in, acts_in, acts_at, bar_of, head_tests, boards_tests, acts_tests, read_tests, reads}
 use Rattle.format.proofs.WrittenAgain.{board-clear, boards-clear, head_clear, reads-clear, boards-read}
 use Rattle.reader.specs.declared.Read.{Read}
 use Rattle.reader.specs.Reader.{stop_of, read_of}
 use Rattle.reader.proofs.Whole.{number-first, few, boards-room}
 use Rattle.board.specs.declared.Board.{Board}
 use Rattle.board.specs.Plan.{bad_plan, plan_of}
-use Rattle.stack.specs.declared.Opening.TheVariants as opening
 use Rattle.stack.specs.Open.{good_plans, opened, open_answer, open_row}
 use Rattle.replay.specs.declared.Pace.{Pace}
 use Rattle.replay.specs.Check.{plan_by, plans_in, row_unfit, wrong_after, row_after, checked, check_of, check_row}
-use Rattle.replay.specs.Way.{front, boards_at, count_in, opened_by, row_opened, after_open, state_at, row_at, goes_on, ran_state, ran_row, held, cannot, refused_check, start_of, checked_by}
+use Rattle.replay.specs.Way.{front, boards_at, count_in, opened_by, row_opened, after_open, state_at, row_at, ran_state, ran_row, held, cannot, refused_check, start_of, checked_by}
 use Rattle.replay.proofs.Places.{plans-length}
 use Rattle.replay.proofs.Same.{front-first}
 use Rattle.replay.proofs.Acted.{by-opening}

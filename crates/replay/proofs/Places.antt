@@ -5,11 +5,10 @@ use native.Mathlib.Nat.{not-suc-le-zero, le_of_suc-le-suc}
 use native.Mathlib.Omega.{arith}
 use mathlib.Core.Path.{◌≡◌, refl, sym, ap, ◌∙◌}
 use mathlib.Core.List.{List, map}
-use lib.ListN.{length, get_or, take, drop, replicate, length-map}
+use lib.ListN.{length, get_or, take, drop, length-map}
 use lib.Seq.{drop-drop, get_or-take, get_or-drop}
 use Rattle.lists.proofs.Fill.{filled}
 use Rattle.format.specs.Read.{number_in, pairs_in, boards_from, board_in}
-use Rattle.format.proofs.Fronts.{pairs-length}
 use Rattle.format.proofs.WrittenAgain.{boards-length}
 use Rattle.reader.proofs.Numbers.{one_in}
 use Rattle.replay.specs.Check.{plan_by}

@@ -1,22 +1,18 @@
 -- An act as the code does it again says and does what the act as it was sent does, and two answers in five places are the same just where they are.
 -- Assumes nothing.
-use Prim.Native.Nat.{ℕ, zero, suc, ◌+◌, ◌-◌, ◌/◌, ◌≤◌, min}
-use native.Mathlib.Nat.{not-suc-le-zero, le_of_suc-le-suc}
+use Prim.Native.Nat.{ℕ, zero, suc, ◌-◌, ◌/◌, ◌≤◌, min}
+use native.Mathlib.Nat.{not-suc-le-zero}
 use native.Mathlib.Omega.{arith}
-use mathlib.Core.Path.{◌≡◌, refl, sym, ap, ap₂, ◌∙◌}
-use mathlib.Core.Bool.{Bool, true, false, cond, ◌&&◌, and-true}
+use mathlib.Core.Path.{◌≡◌, refl, sym, ap, ◌∙◌}
+use mathlib.Core.Bool.{Bool, true, false, ◌&&◌, and-true}
 use mathlib.Core.List.{List, [], ◌∷◌, ◌++◌}
 use lib.Dec.{eqb, leb}
 use lib.ListN.{length, get_or, take, drop, replicate, length-take}
 use lib.Seq.{take-append_seam, take_all}
 use borrow.Author.Tests.{eqb-true, leb-true, leb-false}
 use Rattle.lists.proofs.Split.{split}
-use Rattle.refusal.specs.Said.{Said, accepts, refuses}
-use Rattle.refusal.specs.Refusals.{number_of}
-use Rattle.refusal.proofs.Laws.{number-not-zero}
-use Rattle.format.specs.Format.{Sent, sample, frame, reading}
-use Rattle.format.specs.Read.{number_in, numbers_in, pairs_in, signed, kind_in, long_in, sample_in, sent_in, widths_by, answer_in}
-use Rattle.format.specs.Read.{number_of as number_given}
+use Rattle.refusal.specs.Said.{Said}
+use Rattle.format.specs.Read.{number_in, pairs_in, signed, kind_in, long_in, sent_in}
 use Rattle.format.proofs.Fronts.{pairs-length}
 use Rattle.board.specs.declared.Board.{Board}
 use Rattle.board.specs.declared.Answer.{Answer}
@@ -28,12 +24,12 @@ use Rattle.frame.specs.Reply.{reply_said}
 use Rattle.stack.specs.declared.View.{View}
 use Rattle.stack.specs.declared.View.TheVariants as view
 use Rattle.stack.specs.Read.{view_said, reading_of}
-use Rattle.stack.specs.Sample.{sample_answer, sample_row}
-use Rattle.stack.specs.Frame.{frame_answer, frame_row}
+use Rattle.stack.specs.Sample.{sample_answer}
+use Rattle.stack.specs.Frame.{frame_answer}
 use Rattle.acts.specs.InPlace.{sample_told, reply_told, view_told, act_told, act_row}
 use Rattle.acts.proofs.Enough.{cells-enough, bytes-enough}
 use Rattle.replay.specs.Check.{readings_by, lent, said_on, row_on, same_list, same}
-use Rattle.replay.specs.Way.{front, sample_at, frame_at, act_at, places, padded, told_said, value_at, same_answer}
+use Rattle.replay.specs.Way.{front, sample_at, frame_at, act_at, places, padded, told_said, same_answer}
 
 -- ---- the first sixteen of a list, with zeros behind, and of these as many as it has
 few-enough : (n : ℕ) (xs : List ℕ) → length xs ≡ n → take (min n 16) xs ≡ take 16 xs

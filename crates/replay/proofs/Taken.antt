@@ -2,8 +2,8 @@
 -- Assumes nothing.
 use Prim.Native.Nat.{ℕ, ◌+◌, ◌*◌, ◌-◌, ◌/◌, ◌%◌, ◌<◌, ◌≤◌}
 use native.Mathlib.Omega.{arith}
-use mathlib.Core.Path.{◌≡◌, refl, sym, ap, ap₂, ◌∙◌}
-use mathlib.Core.Bool.{Bool, true, false, true≢false, cond, not, ◌||◌}
+use mathlib.Core.Path.{◌≡◌, refl, sym, ap, ◌∙◌}
+use mathlib.Core.Bool.{Bool, true, false, true≢false, not, ◌||◌}
 use mathlib.Core.List.{List, map}
 use lib.Dec.{eqb, ltb}
 use lib.IntN.{ℤ}
@@ -11,17 +11,16 @@ use lib.ListN.{length, drop, replicate, length-drop}
 use lib.Seq.{drop-drop}
 use borrow.Author.Tests.{lt-ltb, le-ltb, eq-eqb, ne_eqb, ltb-false}
 use Rattle.lists.specs.Compare.{outside}
-use Rattle.format.specs.Read.{number_in, pairs_in, signed, board_count, boards_from, kind_in, long_in, wrong_long, number_of, answer_from, answer_in, values_long, act_long, act_tests}
+use Rattle.format.specs.Read.{number_in, pairs_in, signed, board_count, boards_from, kind_in, long_in, wrong_long, number_of, answer_from, values_long, act_long, act_tests}
 use Rattle.format.proofs.WrittenAgain.{act-clear}
 use Rattle.reader.specs.Reader.{act_step}
 use Rattle.reader.proofs.Many.{number_is}
-use Rattle.acts.specs.declared.Act.{Act}
 use Rattle.acts.specs.declared.Sample.{Sample}
 use Rattle.acts.specs.declared.Frame.{Frame}
 use Rattle.acts.specs.InPlace.{sample_act, frame_act, reading_act}
 use Rattle.replay.specs.declared.Plans.{Plans}
 use Rattle.replay.specs.Check.{plan_by}
-use Rattle.replay.specs.Way.{front, sample_at, frame_at, act_at, unlisted, boards_at}
+use Rattle.replay.specs.Way.{front, sample_at, frame_at, act_at, boards_at}
 
 -- ---- a sample, by what was found at each place
 abbrev sample_of : ℕ → ℕ → ℤ → ℕ → ℕ → List ℕ → ℕ → Sample

@@ -1,9 +1,8 @@
 -- The next act of a recording as the code takes it, and where none can be taken.
 -- Assumes nothing.
 use Prim.Native.Nat.{ℕ, ◌+◌, ◌-◌, ◌<◌, ◌≤◌}
-use native.Mathlib.Omega.{arith}
 use mathlib.Core.Path.{◌≡◌, sym, ap, ◌∙◌}
-use mathlib.Core.Bool.{Bool, false}
+use mathlib.Core.Bool.{false}
 use mathlib.Core.List.{List}
 use lib.ListN.{length, drop}
 use borrow.Author.Tests.{lt-ltb, le-ltb, eq-eqb, ne_eqb}
@@ -14,7 +13,6 @@ use Rattle.reader.proofs.Many.{act-on}
 use Rattle.acts.specs.declared.Act.{Act}
 use Rattle.replay.specs.declared.Answer.{Answer}
 use Rattle.replay.specs.declared.Pace.{Pace}
-use Rattle.replay.specs.declared.Turn.{Turn}
 use Rattle.replay.specs.Way.{act_at, padded, pace_at, stray, turn_of}
 
 module _ (p : Pace) (bytes : List ℕ) where

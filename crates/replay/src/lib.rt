@@ -126,6 +126,7 @@ fn sample_at(bytes: &[u8], at: usize, long: usize) -> Sample
 }
 
 // A frame is taken to have had four bytes lent for its reply.
+#[tactic(auto, unfolding(crate::specs::Way::frame_at))]
 fn frame_at(bytes: &[u8], at: usize, long: usize) -> Frame
     requires { at + long ≤ length bytes.now }
     ensures { result ≡ frame_at long (drop at bytes.now) }
@@ -201,6 +202,7 @@ fn bit_of(b: bool) -> u16
 }
 
 // The answer that an act got.
+#[tactic(auto, unfolding(crate::specs::Way::padded))]
 fn answer_of(t: Told) -> Answer
     ensures { result ≡ padded (told_said t) }
 {
@@ -251,6 +253,7 @@ fn answer_of(t: Told) -> Answer
     }
 }
 
+#[tactic(auto, unfolding(crate::specs::Way::same_answer))]
 fn same_answer(a: Answer, b: Answer) -> bool
     ensures { result ≡ same_answer a b }
 {
@@ -262,6 +265,7 @@ fn same_answer(a: Answer, b: Answer) -> bool
 
 // ---- a turn
 
+#[tactic(auto, unfolding(crate::specs::Way::stray))]
 fn stray_turn(p: Pace) -> Turn
     ensures { result ≡ stray p }
 {
@@ -316,6 +320,7 @@ fn act_in(d: Turn) -> Act
     d.act
 }
 
+#[tactic(auto, unfolding(crate::specs::Way::judged_by))]
 fn judged(d: Turn, t: Told) -> Pace
     ensures { result ≡ judged_by d t }
 {
@@ -392,6 +397,7 @@ fn was_opened(a: Opening) -> bool
     }
 }
 
+#[tactic(auto, unfolding(crate::specs::Way::opened_by, crate::specs::Way::row_opened))]
 fn open_boards(row: &mut [Board], x: Plans) -> bool
     ensures { (result ≡ opened_by row.old x) × (row.new ≡ row_opened row.old x) }
 {
@@ -469,6 +475,7 @@ fn hold(n: usize) -> u32
     if n < 4294967295 { n as u32 } else { 4294967295 }
 }
 
+#[tactic(auto, unfolding(crate::specs::Way::refused_check))]
 fn refused_check(r: Read) -> Checked
     ensures { result ≡ refused_check r }
 {
@@ -484,6 +491,7 @@ fn refused_check(r: Read) -> Checked
     }
 }
 
+#[tactic(auto, unfolding(crate::specs::Way::start_of))]
 fn start(r: Read) -> Pace
     ensures { result ≡ start_of r }
 {
