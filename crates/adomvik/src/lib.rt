@@ -164,6 +164,7 @@ fn place_up(out: &mut Up, g: Glance) -> u8
     s.number
 }
 
+#[tactic(auto, unfolding(crate::specs::Placed::number_of_reply))]
 fn reply_number(a: Reply) -> u8
     ensures { result ≡ number_of_reply a }
 {
@@ -173,6 +174,7 @@ fn reply_number(a: Reply) -> u8
     }
 }
 
+#[tactic(auto, unfolding(crate::specs::Placed::number_of_opening))]
 fn opening_number(a: Opening) -> u8
     ensures { result ≡ number_of_opening a }
 {
@@ -195,6 +197,7 @@ fn listing_number(a: Listing) -> u32
 // ---- the acts
 
 // The cell count of each board, southernmost first: every record of the row as a stand-alone board starts.
+#[tactic(auto, unfolding(crate::specs::Placed::number_of_opening, crate::specs::Calls::open_number))]
 #[unsafe(no_mangle)]
 pub extern "C" fn adomvik_open(row: &mut [Board], counts: &[u32]) -> u8
     ensures { (result ≡ counts_number row.old counts.now) × (row.new ≡ open_counts_row row.old counts.now) }
@@ -204,6 +207,7 @@ pub extern "C" fn adomvik_open(row: &mut [Board], counts: &[u32]) -> u8
 }
 
 // The plan of each board, as a number that the header's constructors make: every record of the row as its board starts.
+#[tactic(auto, unfolding(crate::specs::Placed::number_of_opening, crate::specs::Calls::open_number))]
 #[unsafe(no_mangle)]
 pub extern "C" fn adomvik_open_plans(row: &mut [Board], plans: &[u32]) -> u8
     ensures { (result ≡ open_number row.old plans.now) × (row.new ≡ open_row row.old plans.now) }
@@ -213,6 +217,7 @@ pub extern "C" fn adomvik_open_plans(row: &mut [Board], plans: &[u32]) -> u8
 }
 
 // A sample of one board of the row.
+#[tactic(auto, unfolding(crate::specs::Placed::placed_sample, crate::specs::Calls::sample_number, crate::specs::Calls::sample_out))]
 #[unsafe(no_mangle)]
 pub extern "C" fn adomvik_sample(
     row: &mut [Board],
@@ -228,6 +233,7 @@ pub extern "C" fn adomvik_sample(
 }
 
 // A sample of one record that is lent by itself.
+#[tactic(auto, unfolding(crate::specs::Placed::placed_sample, crate::specs::Calls::board_number, crate::specs::Calls::board_out))]
 #[unsafe(no_mangle)]
 pub extern "C" fn adomvik_sample_board(
     b: &mut Board,
@@ -242,6 +248,7 @@ pub extern "C" fn adomvik_sample_board(
 }
 
 // A frame from the host, its reply in the lent buffer.
+#[tactic(auto, unfolding(crate::specs::Placed::number_of_reply, crate::specs::Calls::frame_number))]
 #[unsafe(no_mangle)]
 pub extern "C" fn adomvik_frame(row: &mut [Board], bytes: &[u8], reply: &mut [u8]) -> u8
     ensures { (result ≡ frame_number row.old bytes.now reply.old) × ((row.new ≡ frame_row row.old bytes.now reply.old) × (reply.new ≡ frame_buffer row.old bytes.now reply.old)) }
@@ -252,6 +259,7 @@ pub extern "C" fn adomvik_frame(row: &mut [Board], bytes: &[u8], reply: &mut [u8
 
 // The journal of one board of the row, in words: cause, cell and sample number of each entry, oldest first. The header has it by entries, with the
 // count in a place of its own.
+#[tactic(auto, unfolding(crate::specs::Placed::number_of_listing, crate::specs::Calls::list_number))]
 #[unsafe(no_mangle)]
 pub extern "C" fn adomvik_list(row: &[Board], board: u32, words: &mut [u32]) -> u32
     ensures { (result ≡ list_number row.now board words.old) × (words.new ≡ list_buffer row.now board words.old) }
@@ -261,6 +269,7 @@ pub extern "C" fn adomvik_list(row: &[Board], board: u32, words: &mut [u32]) -> 
 }
 
 // The whole-stack reading.
+#[tactic(auto, unfolding(crate::specs::Placed::placed_reading, crate::specs::Calls::read_number, crate::specs::Calls::read_out))]
 #[unsafe(no_mangle)]
 pub extern "C" fn adomvik_read(row: &[Board], out: &mut Reading) -> u8
     ensures { (result ≡ read_number row.now) × (out.new ≡ read_out row.now out.old) }
@@ -270,6 +279,7 @@ pub extern "C" fn adomvik_read(row: &[Board], out: &mut Reading) -> u8
 }
 
 // Is anything up? The fault line alone.
+#[tactic(auto, unfolding(crate::specs::Placed::placed_up, crate::specs::Calls::up_number, crate::specs::Calls::up_out))]
 #[unsafe(no_mangle)]
 pub extern "C" fn adomvik_up(row: &[Board], out: &mut Up) -> u8
     ensures { (result ≡ up_number row.now) × (out.new ≡ up_out row.now out.old) }
