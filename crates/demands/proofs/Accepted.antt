@@ -3,17 +3,17 @@
 use Prim.Native.Nat.{ℕ, ◌+◌, ◌*◌, ◌/◌, ◌%◌, ◌≤◌}
 use native.Mathlib.Omega.{arith}
 use mathlib.Core.Path.{◌≡◌, refl, sym, ap, ap₂, ◌∙◌, subst}
-use mathlib.Core.Bool.{Bool, true, false, true≢false, cond, not, ◌&&◌, ◌||◌, or-false, or-true}
+use mathlib.Core.Bool.{Bool, true, false, true≢false, cond, not, ◌||◌, or-false, or-true}
 use mathlib.Core.List.{List, [], ◌∷◌, ◌++◌, map}
 use lib.Dec.{eqb, ltb, leb}
 use lib.ListN.{length, replicate, length-map, length-replicate}
-use borrow.Author.Tests.{eqb-true, eq-eqb, ne_eqb, eqb-false, ltb-true, ltb-false, le-ltb, leb-true}
+use borrow.Author.Tests.{eqb-true, eq-eqb, eqb-false, ltb-true, ltb-false, le-ltb, leb-true}
 use Rattle.lists.specs.Compare.{◌below◌, outside}
 use Rattle.lists.specs.Every.{every}
 use Rattle.lists.proofs.Split.{split, both, not_yes}
 use Rattle.refusal.specs.Said.{Said, first}
 use Rattle.format.specs.Format as format
-use Rattle.format.specs.Read.{boards_in, acts_in, board_fine, boards_fine}
+use Rattle.format.specs.Read.{board_fine, boards_fine}
 use Rattle.format.proofs.ReadBack.{read_back}
 use Rattle.board.specs.declared.Board.{Board}
 use Rattle.board.specs.Plan.{is_garden, bad_plan, plan_of}
@@ -22,10 +22,10 @@ use Rattle.stack.specs.Open.{good_plans, opened}
 use Rattle.frame.specs.Reply.{reply_said}
 use Rattle.stack.specs.Frame.{frame_answer, frame_row}
 use Rattle.recorder.specs.Recorder.{listed_of, boards_of, has_garden, begin_bars}
-use Rattle.replay.specs.Check.{plan_by, plans_in, lent, row_unfit, wrong_after, checked, check_of}
+use Rattle.replay.specs.Check.{plan_by, plans_in, lent, row_unfit, checked}
 use Rattle.replay.proofs.Checks.{check-told}
 use Rattle.demands.specs.Acts.{Act, sample, frame, listing, reading, up, outcome, next, opened_row, final, answers}
-use Rattle.demands.specs.Demands.{begun, row_given, taken, told, opens}
+use Rattle.demands.specs.Demands.{row_given, taken, opens}
 use Rattle.demands.specs.Refused.{plans_of}
 use Rattle.demands.specs.Recorded.{sent_of, can_record, Day, day, bytes_of, passes, began, entry, with_one, later}
 use Rattle.demands.specs.Checked.{act_by, acts_by, recordedly, bare, Accepted}

@@ -1,27 +1,27 @@
 -- A check tells the first act whose answer is not the one that demand 2 gives, or that there is none (02, ticket 11).
 -- Assumes nothing.
-use Prim.Native.Nat.{ℕ, zero, suc, ◌+◌, ◌<◌, ◌≤◌}
+use Prim.Native.Nat.{ℕ, zero, suc, ◌+◌, ◌<◌}
 use native.Mathlib.Nat.{not-suc-le-zero, le_of_suc-le-suc}
 use native.Mathlib.Omega.{arith}
 use mathlib.Core.Path.{◌≡◌, refl, sym, ap, ap₂, ◌∙◌, subst}
-use mathlib.Core.Bool.{Bool, true, false, true≢false, cond, ◌&&◌}
+use mathlib.Core.Bool.{Bool, true, true≢false, cond, ◌&&◌}
 use mathlib.Core.List.{List, [], ◌∷◌, map}
 use lib.Dec.{eqb}
 use lib.ListN.{length, drop, length-map, length-replicate}
 use borrow.Author.Tests.{eqb-true, eq-eqb}
 use Rattle.lists.proofs.Split.{split, both}
-use Rattle.refusal.specs.Said.{Said, accepts, unless_refused}
+use Rattle.refusal.specs.Said.{Said}
 use Rattle.format.specs.Format as format
-use Rattle.format.specs.Read.{acts_in, reads}
+use Rattle.format.specs.Read.{acts_in}
 use Rattle.board.specs.declared.Board.{Board}
 use Rattle.board.specs.Sample.{fresh}
-use Rattle.stack.specs.Open.{opened, open_row, open_bars}
+use Rattle.stack.specs.Open.{opened, open_row}
 use Rattle.replay.specs.declared.Checked as told
-use Rattle.replay.specs.Check.{plans_in, said_on, row_on, same_list, same, right, row_unfit, wrong_after, checked, check_of}
+use Rattle.replay.specs.Check.{plans_in, said_on, row_on, same_list, same, right, wrong_after, checked, check_of}
 use Rattle.replay.proofs.Checks.{check-told, plans-open}
 use Rattle.demands.specs.Acts.{outcome, next, opened_row, answers}
 use Rattle.demands.specs.Demands.{opens}
-use Rattle.demands.specs.Checked.{act_by, acts_by, rightly, recordedly, said_at, FirstWrong, Checked, ChecksRight}
+use Rattle.demands.specs.Checked.{act_by, acts_by, rightly, recordedly, said_at, FirstWrong, ChecksRight}
 use Rattle.demands.proofs.Demanded.{demand2}
 
 -- ---- the same answer

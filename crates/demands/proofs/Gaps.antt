@@ -3,12 +3,12 @@
 use Prim.Native.Nat.{ℕ, ◌+◌, ◌*◌, ◌^◌, ◌<◌, ◌≤◌}
 use native.Mathlib.Omega.{arith}
 use mathlib.Core.Path.{◌≡◌, refl, sym, ap, ◌∙◌}
-use mathlib.Core.Bool.{Bool, true, false, true≢false, not, ◌&&◌, ◌||◌, or-false}
+use mathlib.Core.Bool.{Bool, true, false, true≢false, not, ◌||◌, or-false}
 use mathlib.Core.List.{List, [], ◌∷◌}
 use lib.Dec.{eqb, ltb, leb}
 use lib.IntN.{ℤ, pos, negsuc}
 use lib.ListN.{length}
-use borrow.Author.Tests.{eqb-true, ltb-true, ltb-false, leb-true, lt-ltb, le-leb, ne_eqb, not-false}
+use borrow.Author.Tests.{eqb-true, ltb-false, leb-true, lt-ltb, le-leb, ne_eqb, not-false}
 use Rattle.lists.specs.Every.{every}
 use Rattle.lists.proofs.Split.{split, both}
 use Rattle.refusal.specs.Said.{first}
@@ -23,7 +23,7 @@ use Rattle.stack.specs.Row.{bad_count, good_row, place_of, board_at}
 use Rattle.stack.specs.Sample.{sample_row_bars, sample_row}
 use Rattle.stack.specs.Frame.{frame_row_bars, frame_row}
 use Rattle.stack.proofs.Ways.{board-few}
-use Rattle.demands.specs.Acts.{Act, sample, frame, listing, reading, up}
+use Rattle.demands.specs.Acts.{sample, frame, listing, reading, up}
 use Rattle.demands.specs.Recorded.{can_record, GapsChangeNothing}
 use Rattle.demands.proofs.Table.{none_is}
 

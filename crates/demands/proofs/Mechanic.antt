@@ -18,7 +18,7 @@ use Rattle.settings.specs.Levels.{crossed}
 use Rattle.settings.proofs.Laws.{same-yes}
 use Rattle.settings.specs.Faults.{Fault, SCD, OCD, OV, UV, OT, delay}
 use Rattle.runs.specs.Run.{past}
-use Rattle.latches.specs.Latches.{latch, latches, latches_of, latch_next}
+use Rattle.latches.specs.Latches.{latch, latches_of, latch_next}
 use Rattle.latches.proofs.Packed.{latches-kept, latch-of}
 use Rattle.board.specs.declared.Board.{Board}
 use Rattle.board.specs.declared.Readings.{Readings}

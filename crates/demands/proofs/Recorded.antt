@@ -1,16 +1,16 @@
 -- A recorder beside the acts of a day keeps what is told (02, ticket 10).
 -- Assumes nothing.
-use Prim.Native.Nat.{ℕ, ◌+◌, ◌-◌, ◌*◌, ◌<◌, ◌≤◌}
+use Prim.Native.Nat.{ℕ, ◌+◌, ◌≤◌}
 use native.Mathlib.Omega.{arith}
 use mathlib.Core.Path.{◌≡◌, refl, sym, ap, ap₂, ◌∙◌, subst}
 use mathlib.Core.Bool.{Bool, true, false, true≢false, cond, not, ◌&&◌, ◌||◌, or-false, or-true}
 use mathlib.Core.List.{List, [], ◌∷◌, ◌++◌}
-use lib.Dec.{eqb, ltb, leb}
+use lib.Dec.{eqb, leb}
 use lib.ListN.{length, take, drop, replicate, length-append, length-drop, length-replicate}
 use lib.Seq.{sets, sets-eq}
-use borrow.Author.Tests.{eqb-true, ne_eqb, eqb-false, ltb-false, le-ltb, lt-leb}
+use borrow.Author.Tests.{eqb-true, ltb-false, le-ltb, lt-leb}
 use Rattle.lists.proofs.Split.{split}
-use Rattle.refusal.specs.Said.{Said, accepts, refuses, value, Bar, bar, first, judged, unless_refused}
+use Rattle.refusal.specs.Said.{value, Bar, bar, first, judged, unless_refused}
 use Rattle.frame.specs.Reply.{reply_bytes}
 use Rattle.format.specs.Format as format
 use Rattle.format.proofs.Sizes.{recording-length}
@@ -20,12 +20,12 @@ use Rattle.board.specs.Sample.{fresh}
 use Rattle.stack.specs.Open.{bad_plans}
 use Rattle.stack.specs.Frame.{frame_place, frame_row_bars}
 use Rattle.recorder.specs.declared.Recorder.{Recorder}
-use Rattle.recorder.specs.Recorder.{recorder, end, boards_of, opening, has_garden, begin_bars, takes_none, never_begun, no_room, note_bars, after, begin_recorder, begin_memory, note_recorder, note_memory, note_other, answer_of, frame_can}
+use Rattle.recorder.specs.Recorder.{end, boards_of, opening, has_garden, begin_bars, never_begun, note_bars, after, begin_recorder, begin_memory, note_recorder, note_memory, note_other, answer_of}
 use Rattle.recorder.proofs.Verdicts.{verdict-is}
 use Rattle.recorder.proofs.Notes.{note-barred}
-use Rattle.demands.specs.Acts.{Act, sample, frame, listing, reading, up, Outcome, bars, outcome, next, opened_row, final, answers}
+use Rattle.demands.specs.Acts.{Act, sample, frame, listing, reading, up, bars, next, final, answers}
 use Rattle.demands.specs.Demands.{Log, begun, log_at, joined, row_given, frame_entry, taken, frame_says, told, opens}
-use Rattle.demands.specs.Recorded.{sent_of, can_record, Desk, desk, opened, handed, noted, can, recorder_after, memory_after, noting, verdict, Day, day, bytes_of, passes, began, entry, with_one, refusals, says, later, stands, Recorded, GapsChangeNothing}
+use Rattle.demands.specs.Recorded.{sent_of, can_record, Desk, desk, handed, can, recorder_after, memory_after, noting, verdict, Day, day, bytes_of, passes, began, says, later, stands, Recorded}
 use Rattle.demands.proofs.Table.{none_is}
 use Rattle.demands.proofs.Tells.{tells, gives}
 use Rattle.demands.proofs.Demanded.{good_of, good-plans, same-plans, begun-plans, opens-fine, opens-good, opened-given}

@@ -13,7 +13,7 @@ use Rattle.latches.specs.Tallies.{tally_top}
 use Rattle.journal.specs.Ring.{Entry}
 use Rattle.board.specs.Latchings as sample
 use Rattle.board.specs.Plan.{Plan}
-use Rattle.demands.specs.Paper.{sampled, framed, History, how_many, latching, tallied, sample_number, fault_cell, latchings}
+use Rattle.demands.specs.Paper.{sampled, framed, History, how_many, latching, sample_number, fault_cell, latchings}
 use Rattle.demands.specs.Tallied.{over_faults, Tallied}
 
 -- one act more is one more where it is so

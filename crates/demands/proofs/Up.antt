@@ -1,17 +1,17 @@
 -- Whether anything is up says what the latches of the histories do, and its line is the reading's.
 -- Assumes nothing.
-use Prim.Native.Nat.{ℕ, zero, suc, ◌+◌, ◌<◌, ◌≤◌}
+use Prim.Native.Nat.{ℕ, zero, suc, ◌+◌, ◌<◌}
 use native.Mathlib.Omega.{arith}
 use mathlib.Core.Path.{◌≡◌, refl, sym, ap, ◌∙◌, subst}
 use mathlib.Core.Logic.{◌⊎◌, inl, inr}
-use mathlib.Core.Bool.{true, false, true≢false}
+use mathlib.Core.Bool.{true≢false}
 use mathlib.Core.List.{List, [], ◌∷◌, map}
 use lib.ListN.{length}
 use Rattle.lists.proofs.Split.{split}
-use Rattle.refusal.specs.Said.{Said, value}
+use Rattle.refusal.specs.Said.{value}
 use Rattle.settings.specs.Faults.{Fault}
 use Rattle.board.specs.declared.Board.{Board}
-use Rattle.reading.specs.Reading.{summary_of, line_up, read_of}
+use Rattle.reading.specs.Reading.{line_up, read_of}
 use Rattle.reading.specs.Line.{looked_at}
 use Rattle.stack.specs.Row.{good_row}
 use Rattle.stack.proofs.Scanned.{up-said}

@@ -1,7 +1,7 @@
 -- A recording that is checked (02, ticket 11): accepted exactly if each answer in it is the one that demand 2 gives after the acts before it, and
 -- otherwise the place of the first that is not; and every recording of ticket 10 is accepted.
 -- Assumes nothing.
-use Rattle.std.specs.Prelude.{ℕ, suc, ◌<◌, ◌≡◌, Bool, true, false, List, [], ◌∷◌, map, eqb, length, get_or, replicate}
+use Rattle.std.specs.Prelude.{ℕ, suc, ◌<◌, ◌≡◌, Bool, true, false, List, [], map, eqb, length, get_or, replicate}
 use Rattle.lists.specs.Compare.{◌below◌}
 use Rattle.lists.specs.Every.{every}
 use Rattle.refusal.specs.Said.{Said, accepts, first}

@@ -6,7 +6,7 @@ use Rattle.refusal.specs.Said.{Said, value, Bar, bar, first}
 use Rattle.format.specs.Format as format
 use Rattle.board.specs.declared.Board.{Board}
 use Rattle.recorder.specs.declared.Recorder.{Recorder}
-use Rattle.recorder.specs.Recorder.{end, boards_of, opening, has_garden, begin_bars, begin_recorder, begin_memory, note_recorder, note_memory, note_other, answer_of, frame_can}
+use Rattle.recorder.specs.Recorder.{end, boards_of, has_garden, begin_bars, begin_recorder, begin_memory, note_recorder, note_memory, note_other, answer_of, frame_can}
 use Rattle.demands.specs.Acts.{Act, sample, frame, listing, reading, up, Outcome, outcome, next, opened_row, final, answers}
 use Rattle.demands.specs.Demands.{Log, begun, taken, told, opens}
 
