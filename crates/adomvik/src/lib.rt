@@ -1,4 +1,4 @@
-// The public library for C (`rt staticlib adomvik`; include/adomvik.h): each act over records and lists that the caller lends.
+// The public library, as crate adomvik_c exports it for C (include/adomvik.h): each act over records and lists that the caller lends.
 // The result is the number of the refusal (01, Refusal numbers), or 0; an answer goes to a lent place, which a refusal leaves alone.
 #![tactic(auto)]
 
