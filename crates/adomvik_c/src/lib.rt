@@ -1,5 +1,5 @@
-// The library for C (`rt lib` in this folder makes the archive; include/adomvik.h): each export calls the public library's act and says
-// again what it promises.
+// The library for C (`make` puts what `rt lib` makes here into libadomvik.a; include/adomvik.h): each export calls the public library's act
+// and says again what it promises.
 #![tactic(auto)]
 
 ghost use Rattle.std.specs.Prelude.{◌≡◌, true, [], ◌∷◌, length, take};
