@@ -81,7 +81,9 @@ fn place_sample(out: &mut Sampled, a: Answer) -> u8
     ensures { (result ≡ (placed_sample out.old a).number) × (out.new ≡ (placed_sample out.old a).out) }
 {
     let s = placed_sample(*out, a);
-    *out = s.out;
+    let placed = s.out;
+    out.status = placed.status;
+    out.bled = placed.bled;
     s.number
 }
 
