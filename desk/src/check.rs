@@ -84,7 +84,7 @@ impl Checker {
             return Err(unknown());
         }
         let right = again(self.row.get_mut(..boards).unwrap_or_default(), &asked);
-        Ok(format!("  act {place}: {asked}\n  recorded: {told}\n  right: {right}"))
+        Ok(format!("  act {place}: {asked}\n  recorded: {}\n  right: {}", told.exactly(), right.exactly()))
     }
 
     /// The act at a place, how many bytes lie before it, and how many boards there are.

@@ -19,6 +19,9 @@ const FAULTS: [&str; 5] = ["SCD", "OCD", "OV", "UV", "overtemperature"];
 const DSG_ON: u8 = 64;
 const CHG_ON: u8 = 128;
 
+/// The refusals from here on are of a check alone: no act of a recording is answered so.
+const FIRST_OF_A_CHECK: u8 = 17;
+
 /// Shows a file, up to where it is damaged if it is.
 pub fn show(path: &Path) -> io::Result<()> {
     let (file, mut out) = (File::open(path).map_err(|why| named(path, why))?, io::stdout().lock());
@@ -54,6 +57,19 @@ pub enum Told {
     Sampled(u8, u16),
     Replied([u8; 4]),
     Read([u8; 5]),
+}
+
+impl Told {
+    /// The answer so that no two different ones read alike, as a check tells them beside one another.
+    pub fn exactly(&self) -> String {
+        match *self {
+            Told::Refused(number) => refused(number, u8::MAX),
+            Told::Read([line, chg, dsg, 0, cell]) if cell != 0 => {
+                format!("fault line {line}, CHG {chg}, DSG {dsg}, {}", flagged(0, cell))
+            }
+            _ => self.to_string(),
+        }
+    }
 }
 
 impl From<Refusal> for Told {
@@ -270,10 +286,7 @@ impl fmt::Display for Asked {
 impl fmt::Display for Told {
     fn fmt(&self, f: &mut fmt::Formatter<'_>) -> fmt::Result {
         match *self {
-            Told::Refused(number) => {
-                let why = Refusal::from_number(number).map_or("which is no refusal's number", words::short);
-                write!(f, "refused with {number}, {why}")
-            }
+            Told::Refused(number) => write!(f, "{}", refused(number, FIRST_OF_A_CHECK)),
             Told::Sampled(status, bled) => write!(f, "{}", sampled(status, bled)),
             Told::Replied(reply) => write!(f, "reply {}", listed(&reply)),
             Told::Read(numbers) => write!(f, "{}", read(numbers)),
@@ -319,10 +332,16 @@ fn sampled(status: u8, bled: u16) -> String {
 }
 
 fn read([line, chg, dsg, board, cell]: [u8; 5]) -> String {
-    let place = if (board, cell) == (0, 0) {
-        "no cell flagged".to_string()
-    } else {
-        format!("cell {cell} of board {board} flagged")
-    };
+    let place = if board == 0 { "no cell flagged".to_string() } else { flagged(board, cell) };
     format!("fault line {line}, CHG {chg}, DSG {dsg}, {place}")
+}
+
+fn flagged(board: u8, cell: u8) -> String {
+    format!("cell {cell} of board {board} flagged")
+}
+
+/// A refusal by its number, in words where it is below a bound.
+fn refused(number: u8, bound: u8) -> String {
+    let why = Refusal::from_number(number).filter(|_| number < bound);
+    format!("refused with {number}, {}", why.map_or("which is no refusal's number", words::short))
 }
