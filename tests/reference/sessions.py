@@ -736,9 +736,7 @@ class Maker:
 
     def put_unless_opening(self, line):
         """Add a changed line; one that opens a stack would spoil the picture."""
-        answerer = self.answerer()
-        answerer.answers(line)
-        if answerer.stack is None:
+        if b"ok" not in self.answerer().answers(line):
             self.put(line)
 
     def damage(self, line):
@@ -746,7 +744,7 @@ class Maker:
         rng = self.rng
         at = rng.randint(0, len(line))
         odd = self.pick(b" ", b"0", b"-", b"+", b"\t", b"\r", b"\0", b"\x80", b"\xff",
-                        b"9", b"1", b"S", b"L", b"U", b"W", b"D", b"C", b".", b"a", b"h", b"g", b"/", bytes([rng.randrange(256)]))
+                        b"9", b"1", b"S", b"L", b"U", b"W", b"D", b".", b"a", b"h", b"g", b"/", bytes([rng.randrange(256)]))
         what = rng.randrange(10)
         if what == 0:
             return line[:at] + line[at + 1:]
@@ -778,10 +776,10 @@ class Maker:
             self.put(bytes(self.rng.randrange(256) for _ in range(size)))
         elif what == 2:
             size = self.pick(1, 2, 5, 20, 199, 200, 201)
-            self.put(bytes(self.rng.choice(b"OSFRLUWDC 0123456789-") for _ in range(size)))
+            self.put(bytes(self.rng.choice(b"OSFRLUWD 0123456789-") for _ in range(size)))
         elif what == 3:
-            self.put(self.pick(b"O", b"S", b"F", b"R", b"X", b"L", b"U", b"W", b"D", b"C", b" ", b"-", b"0",
-                               b"O ", b"S ", b"F ", b"R ", b" R", b"R 0", b"RR", b"L 1 0", b"L 1 128", b"U 1", b"W 46", b"C 0100"))
+            self.put(self.pick(b"O", b"S", b"F", b"R", b"X", b"L", b"U", b"W", b"D", b" ", b"-", b"0",
+                               b"O ", b"S ", b"F ", b"R ", b" R", b"R 0", b"RR", b"L 1 0", b"L 1 128", b"U 1", b"W 46"))
         else:
             self.long_line(self.pick(199, 200, 200, 201, 201, 1000))
 
