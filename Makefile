@@ -4,7 +4,7 @@
 #     make install TARGET=thumbv7em-none-eabi PREFIX=DIR    the same for another processor (ports/targets has them all);
 #                              FLAGS='-O2 -mcpu=cortex-m7' are clang's words beside those of the target, and win
 # And for whoever works on it, each over a script that can be called by itself:
-#     make check               proves every crate
+#     make check               proves every crate, runs the programs
 #     make test                the references' own tests, the bench and the workshop against them, and the three below
 #     make faces               the C and Rust faces against the reference
 #     make ports               the library on every processor, on emulators
@@ -45,6 +45,8 @@ uninstall:
 
 check:
 	rt all check
+	tools/build bench && crates/bench/out/bench <crates/bench/stdin | cmp - crates/bench/stdout
+	tools/build vectors && crates/vectors/out/vectors </dev/null | cmp - crates/vectors/stdout
 
 test: faces ports fuzz
 	python3 tests/reference/selftest.py && tests/stored && tests/differential 3000
