@@ -5,16 +5,12 @@ use mathlib.Core.List.{List}
 use lib.ListN.{length}
 use Rattle.board.specs.declared.Board.{Board}
 use Rattle.stack.proofs.Laws.{sample-length, frame-length}
-use Rattle.acts.specs.declared.ActKind.{ActKind}
-use Rattle.acts.specs.declared.ActKind.TheVariants.{Sample, Frame, Read}
 use Rattle.acts.specs.declared.Act.{Act}
-use Rattle.acts.specs.InPlace.{cells_in, bytes_in, lent_in, row_by, act_row}
+use Rattle.acts.specs.declared.Act.TheVariants.{Sample, Frame, Reading}
+use Rattle.acts.specs.InPlace.{cells_in, bytes_in, lent_in, act_row}
 
 pub act-length : (row : List Board) (a : Act) → length (act_row row a) ≡ length row
 unfolding act_row
-act-length row a = by a.kind
-  where
-    by : (k : ActKind) → length (row_by k row a) ≡ length row
-    by Sample = sample-length row a.sample.board a.sample.readings (cells_in a)
-    by Frame = frame-length row (bytes_in a) (lent_in a)
-    by Read = refl
+act-length row (Sample s) = sample-length row s.board s.readings (cells_in s)
+act-length row (Frame f) = frame-length row (bytes_in f) (lent_in f)
+act-length row Reading = refl

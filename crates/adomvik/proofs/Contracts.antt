@@ -26,7 +26,7 @@ use Rattle.stack.specs.List.{list_buffer}
 use Rattle.replay.specs.Check.{check_of, check_row}
 use Rattle.replay.specs.contracts.Checked as Checked
 use Rattle.adomvik.specs.Calls.{open_number, counts_number, sample_number, sample_out, board_number, board_out, frame_number, list_number, read_number, read_out, up_number, up_out}
-use Rattle.adomvik.specs.contracts.Sampled as Sampled
+use Rattle.board.specs.contracts.Sampled as Sampled
 use Rattle.adomvik.specs.contracts.Reading as Reading
 use Rattle.adomvik.specs.contracts.Up as Up
 use Rattle.adomvik.specs.contracts.adomvik_open as adomvik-open

@@ -1,4 +1,3 @@
-pub mod Known
 pub mod OnPlace
 pub mod TellsRow
 pub mod TellsOne

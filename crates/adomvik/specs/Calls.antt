@@ -12,7 +12,7 @@ use Rattle.stack.specs.List.{listing_said, list_answer}
 use Rattle.stack.specs.Read.{view_said}
 use Rattle.stack.specs.Read as stack
 use Rattle.stack.specs.Up.{glance_said, up_of}
-use Rattle.adomvik.specs.declared.Sampled.{Sampled}
+use Rattle.board.specs.declared.Sampled.{Sampled}
 use Rattle.adomvik.specs.declared.Reading.{Reading}
 use Rattle.adomvik.specs.declared.Up.{Up}
 use Rattle.adomvik.specs.Placed.{placed, sampled_of, reading_of, up_in, count_or_refusal}

@@ -1,5 +1,5 @@
 // The library for C (`make` puts what `rt lib` makes here into libadomvik.a; include/adomvik.h): each export calls the public library's act
-// and says again what it promises.
+// and says again what it promises, since a static library has the exports of its own crate and no other.
 #![tactic(auto)]
 
 ghost use Rattle.std.specs.Prelude.{◌≡◌, true, [], ◌∷◌, length, take};

@@ -3,87 +3,45 @@
 
 ghost use Rattle.std.specs.Prelude.{◌≤◌, length};
 
-use held::Stack;
-use lines::Cutter;
+use session::Session;
 use std::io;
 use std::io::{Read, Write};
 
-// The line that is open, the stack, and whether the output still takes answers.
-#[derive(Clone, Copy)]
-struct Bench {
-    cutter: Cutter,
-    stack: Stack,
-    heard: bool,
-}
-
-// Feeds a block and writes its answers out, in more than one go where out is too small for all of them.
-fn block_in<W: Write>(b: Bench, block: &[u8], out: &mut [u8], to: &mut W) -> Bench
+// Feeds a block and writes its answers out, in more than one go where out is too small for all of them. A loop by hand: each go says how much of
+// the block it used.
+fn block_in<W: Write>(
+    session: &mut Session,
+    block: &[u8],
+    out: &mut [u8],
+    to: &mut W,
+) -> io::Result<()>
     requires { 32 ≤ length out.old }
 {
-    let mut cutter = b.cutter;
-    let mut stack = b.stack;
     let mut at = 0;
     while at < block.len() {
-        let fed = session::feed(cutter, stack, &block[at..], out);
-        let used = fed.used;
-        let wrote = fed.wrote;
-        let c = fed.cutter;
-        let s = fed.stack;
-        cutter = c;
-        stack = s;
-        if to.write_all(&out[..wrote]).is_ok() {
-            at += used;
-        } else {
-            return Bench {
-                cutter: cutter,
-                stack: stack,
-                heard: false,
-            };
-        }
+        let fed = session.feed(&block[at..], out);
+        to.write_all(&out[..fed.wrote])?;
+        at += fed.used;
     }
-    Bench {
-        cutter: cutter,
-        stack: stack,
-        heard: true,
-    }
+    Ok(())
 }
 
-// Every block's complete lines are answered before the next is read. A refused opening gives the stack without boards to begin with.
-// An output that takes no more ends it quietly, a read that fails by its error.
+// Every block's complete lines are answered before the next is read. The session begins with a stack without boards.
+// It is a loop with a bound that no input reaches. An output that takes no more ends it quietly, a read that fails by its error.
 fn main(rt: HostRuntime) -> io::Result<()> {
     let mut from = rt.stdin();
     let mut to = rt.stdout();
     let mut input = [0u8; 65536];
     let mut out = [0u8; 65536];
-    let mut cutter = lines::new_cutter();
-    let start = held::open_held(&[]);
-    let mut stack = start.stack;
-    let mut turns = u64::MAX;
-    while turns > 0 {
-        turns -= 1;
+    let mut session = Session::new();
+    for _ in 0..u64::MAX {
         let n = from.read(&mut input)?;
         if n == 0 {
-            let last = session::finish(cutter, stack, &mut out);
-            let wrote = last.wrote;
-            let _ = to.write_all(&out[..wrote]);
+            let last = session.finish(&mut out);
+            let _ = to.write_all(&out[..last.wrote]);
             return Ok(());
         }
-        let b = block_in(
-            Bench {
-                cutter: cutter,
-                stack: stack,
-                heard: true,
-            },
-            &input[..n],
-            &mut out,
-            &mut to,
-        );
-        if b.heard {
-            let c = b.cutter;
-            let s = b.stack;
-            cutter = c;
-            stack = s;
-        } else {
+        if block_in(&mut session, &input[..n], &mut out, &mut to).is_err() {
             return Ok(());
         }
     }

@@ -8,7 +8,8 @@ use lib.Dec.{ltb}
 use borrow.Author.Tests.{ltb-false, lt-ltb}
 use Rattle.lists.specs.Compare.{◌above◌, outside}
 use Rattle.lists.proofs.Split.{split}
-use Rattle.board.specs.Plan.{Plan, is_garden, bad_garden, bad_plan, plan_of, plan_number}
+use Rattle.board.specs.declared.Plan.{Plan}
+use Rattle.board.specs.Plan.{is_garden, bad_garden, bad_plan, plan_of, plan_number}
 
 neither : (a b : Bool) → not (a || b) ≡ true → (a ≡ false) × (b ≡ false)
 neither false false e = (refl, refl)

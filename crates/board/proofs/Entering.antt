@@ -14,11 +14,10 @@ use Rattle.latches.proofs.Tallied.{none_of}
 use Rattle.latches.proofs.Packed.{latches-kept}
 use Rattle.journal.specs.Ring.{noted}
 use Rattle.board.specs.declared.Board.{Board}
-use Rattle.board.specs.declared.Noted.{Noted}
-use Rattle.board.specs.declared.Stepped.{Stepped}
+use Rattle.board.specs.declared.Note.{Note}
 use Rattle.board.specs.Latchings.{cell_of, latchings}
 use Rattle.board.specs.Sample.{entered}
-use Rattle.board.specs.Way.{lowest_if, nothing_up, entered_of, entering}
+use Rattle.board.specs.Way.{lowest_if, entered_of, entering}
 
 -- no latching of a sample at which nothing latched
 none-noted : (up : Latches) (cell : Fault → ℕ) (number : ℕ) → any_latch up ≡ false → latchings (λ f. latch f up) cell number ≡ []
@@ -31,23 +30,10 @@ pub nothing-entered : (b : Board) (up : Latches) (cell : Fault → ℕ) → any_
 unfolding entered
 nothing-entered b up cell h = rw (none-noted up cell b.samples h)
 
--- the step and what is entered behind it
-abbrev whole : Noted → Stepped
-whole s = record { board = entered s.board s.note.up (cell_of s.note.ov s.note.uv); answer = s.note.answer }
-
-pub entering-is : (s : Noted) → entering s ≡ whole s
+-- where anything latched it is entered, and where nothing did the board is as it would be
+pub entering-is : (b : Board) (note : Note) → entering b note ≡ entered b note.up (cell_of note.ov note.uv)
 unfolding entered_of
-entering-is s =
-    split (any_latch s.note.up)
-    (λ e. rw e)
-    (λ e. rw e (λ i. record { board = sym (nothing-entered s.board s.note.up (cell_of s.note.ov s.note.uv) e) i; answer = s.note.answer }))
-
--- where that was all, and where it goes on
-pub all_done : (s : Noted) → nothing_up s.note ≡ true → (s.note.answer ≡ (entering s).answer) × (s.board ≡ (entering s).board)
-all_done s e = (rw e, rw e)
-
-pub not_done : (s : Noted) → nothing_up s.note ≡ false → ((entered_of s.board s.note).answer ≡ (entering s).answer) × ((entered_of s.board s.note).board ≡ (entering s).board)
-not_done s e = (rw e, rw e)
+entering-is b note = split (any_latch note.up) (λ e. rw e) (λ e. rw e (sym (nothing-entered b note.up (cell_of note.ov note.uv) e)))
 
 -- ---- the cells of faults that did not latch do not count
 pub noted-cells : (b : Board) (up : Latches) (ov uv : ℕ) → entered b up (cell_of (lowest_if (latch OV up) ov) (lowest_if (latch UV up) uv)) ≡ entered b up (cell_of (lowest_if true ov) (lowest_if true uv))

@@ -7,24 +7,24 @@ use mathlib.Core.List.{List}
 use lib.Dec.{ltb, leb}
 use borrow.Author.Tests.{le-leb, lt-leb, ltb-true, ltb-false}
 use Rattle.lists.proofs.Split.{split}
-use Rattle.refusal.proofs.Laws.{said-refused}
+use Rattle.std.specs.Prelude.{Result}
+use Rattle.refusal.specs.declared.Refusal.{Refusal}
+use Rattle.refusal.proofs.Laws.{said-back}
 use Rattle.settings.specs.Faults.{Fault}
 use Rattle.cells.specs.Cells.{high_of, span_of}
 use Rattle.cells.proofs.Ends.{every-within, all-below-release, all-above-release}
 use Rattle.board.specs.declared.Board.{Board}
 use Rattle.board.specs.declared.Readings.{Readings}
-use Rattle.board.specs.declared.Answer.{Answer}
-use Rattle.board.specs.declared.Answer.TheVariants.{Sampled, Refused}
+use Rattle.board.specs.declared.Sampled.{Sampled}
 use Rattle.latches.specs.Latches.{latch, latch_next, latches_of}
-use Rattle.board.specs.Sample.{answer_said, answer_saying, swept_at, latches_after, latches_next, board_with, entered, runs_next, currents_next, stands, lets_go, out_of_range}
+use Rattle.board.specs.Sample.{sampled_values, sampled_in, answer_said, answer_saying, swept_at, latches_after, latches_next, board_with, entered, runs_next, currents_next, stands, lets_go, out_of_range}
 use Rattle.board.specs.Host.{holds_on}
 use Rattle.board.specs.Way.{out_of_range_by, latches_by, latches_left}
 use Rattle.latches.proofs.Packed.{latches-kept, latch-of}
 
 -- an answer is determined by the number and the values that it says
-pub answer-said : (a : Answer) → answer_saying (answer_said a) ≡ a
-answer-said (Sampled status bled) = refl
-answer-said (Refused why) = said-refused why (Sampled 0 0) Refused
+pub answer-said : (a : Result Sampled Refusal) → answer_saying (answer_said a) ≡ a
+answer-said = said-back sampled_values sampled_in (λ s. refl)
 
 -- at an accepted sample an unlatched fault latches exactly if its condition has stood its delay, and a latched one unlatches exactly if it lets go,
 -- and on a host board only overtemperature by itself; a garden board has no delays

@@ -1,4 +1,3 @@
-pub mod Known
 pub mod Signed
 pub mod Laws
 pub mod Entering

@@ -21,6 +21,7 @@ use Rattle.latches.specs.Latches.{latches, latches_byte, any_latch}
 use Rattle.latches.specs.Control.{control_next}
 use Rattle.latches.specs.Tallies.{tallies_next}
 use Rattle.latches.proofs.Tallied.{none-latched}
+use Rattle.std.specs.Prelude.{Ok}
 use Rattle.board.specs.declared.Board.{Board}
 use Rattle.board.specs.declared.Readings.{Readings}
 use Rattle.board.specs.Shunt.{shunt_above, shunt_outside}
@@ -173,6 +174,6 @@ module _ (b : Board) (x : Readings) (mv : List ℕ) (q : quiet_of b x (span_of m
   in-range = rw (calm-readable b.working b.cells mv calm, not-high, inside, a-flag)
 
   -- so it is answered from the record
-  pub rested : ((rested_of b x (span_of mv)).answer ≡ answer_saying (accepts (sample_values b x mv))) × ((rested_of b x (span_of mv)).board ≡ board_next b x mv)
+  pub rested : (Ok (rested_of b x (span_of mv)).answer ≡ answer_saying (accepts (sample_values b x mv))) × ((rested_of b x (span_of mv)).board ≡ board_next b x mv)
   unfolding rested_of
   rested = (rw (no-garden, same-control, unlatched, no-latch, ap (λ (w : Swept). w.bled) swept), rw no-garden (sym kept-board))

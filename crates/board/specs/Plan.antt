@@ -3,14 +3,9 @@
 -- Assumes nothing.
 use Rattle.std.specs.Prelude.{ℕ, ◌+◌, ◌*◌, ◌/◌, ◌%◌, Bool, cond, ◌&&◌, ◌||◌, eqb}
 use Rattle.lists.specs.Compare.{◌above◌, ◌below◌, outside}
+use Rattle.board.specs.declared.Plan.{Plan}
 
 -- kind 0 is stand-alone, 1 host, 2 garden
-pub record Plan : Type 0 where
-  pub kind : ℕ
-  pub cells : ℕ
-  pub row : ℕ
-  pub trigger : ℕ
-
 abbrev pub is_host : ℕ → Bool
 is_host kind = eqb kind 1
 

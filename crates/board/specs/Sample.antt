@@ -1,9 +1,9 @@
 -- A sample of one board (01, The stack and its readings; Refusal numbers 1, 3, 4, 5; When a fault latches and lets go; 02, tickets 3, 5, 7 and 8).
 -- Assumes nothing.
-use Rattle.std.specs.Prelude.{ℕ, Bool, false, cond, not, ◌&&◌, ◌||◌, List, [], ◌∷◌, eqb, length}
+use Rattle.std.specs.Prelude.{ℕ, Bool, false, cond, not, ◌&&◌, ◌||◌, List, [], ◌∷◌, eqb, length, Result}
 use Rattle.lists.specs.Compare.{◌above◌, ◌below◌, outside}
-use Rattle.refusal.specs.Refusals.{number_of, numbered}
-use Rattle.refusal.specs.Said.{Said, refuses, accepts, value, Bar, bar, judged, unless_refused}
+use Rattle.refusal.specs.declared.Refusal.{Refusal}
+use Rattle.refusal.specs.Said.{Said, said_by, saying_by, value, Bar, bar, judged, unless_refused}
 use Rattle.lists.specs.Every.{every}
 use Rattle.settings.specs.declared.Settings.{Settings}
 use Rattle.settings.specs.Levels.{factory, ov_release, uv_release, ocd_level, scd_level}
@@ -18,10 +18,9 @@ use Rattle.board.specs.declared.Currents.{Currents}
 use Rattle.board.specs.declared.Last.{Last}
 use Rattle.latches.specs.declared.Latches.{Latches}
 use Rattle.board.specs.declared.Readings.{Readings}
-use Rattle.board.specs.declared.Answer.{Answer}
-use Rattle.board.specs.declared.Answer.TheVariants.{Sampled, Refused}
-use Rattle.board.specs.declared.Stepped.{Stepped}
-use Rattle.board.specs.Plan.{Plan, is_host, is_garden, bad_plan, plan_of}
+use Rattle.board.specs.declared.Sampled.{Sampled}
+use Rattle.board.specs.declared.Plan.{Plan}
+use Rattle.board.specs.Plan.{is_host, is_garden, bad_plan, plan_of}
 use Rattle.board.specs.Shunt.{shunt_above, shunt_outside}
 use Rattle.board.specs.Host.{status_by, holds_on, last_of, no_last}
 use Rattle.board.specs.Latchings.{number_next, cell_of, latchings}
@@ -220,14 +219,18 @@ sample_values b x mv =
     ∷ cond (is_garden b.kind) 0 (swept_at b x mv).bled
     ∷ []
 
--- the paper's number and values of each case
-abbrev pub answer_said : Answer → Said
-answer_said (Sampled status bled) = accepts (status ∷ bled ∷ [])
-answer_said (Refused why) = refuses (number_of why)
+-- the paper's number and values of an answer, and the answer that says them
+abbrev pub sampled_values : Sampled → List ℕ
+sampled_values s = s.status ∷ s.bled ∷ []
 
--- the case that says them
-abbrev pub answer_saying : Said → Answer
-answer_saying s = cond (eqb s.number 0) (Sampled (value 0 s) (value 1 s)) (Refused (numbered s.number))
+abbrev pub sampled_in : Said → Sampled
+sampled_in s = record { status = value 0 s; bled = value 1 s }
+
+abbrev pub answer_said : Result Sampled Refusal → Said
+answer_said a = said_by sampled_values a
+
+abbrev pub answer_saying : Said → Result Sampled Refusal
+answer_saying s = saying_by sampled_in s
 
 abbrev pub out_of_range : Readings → List ℕ → Bool
 out_of_range x mv = not (readable mv) || x.thermistor above 5000 || shunt_outside x.shunt || x.load above 1
@@ -251,6 +254,11 @@ reading_bars b x mv =
 -- of one record: 1 before them
 abbrev pub sample_bars : Board → Readings → List ℕ → List Bar
 sample_bars b x mv = bar 1 (bad_board b) ∷ reading_bars b x mv
+
+-- a board after an act, and the act's answer
+pub record Stepped : Type 0 where
+  pub board : Board
+  pub answer : Result Sampled Refusal
 
 -- a sample's answer, and the board after it: at a refusal the board that was handed in
 unfoldable pub sample_of : Board → Readings → List ℕ → Stepped

@@ -1,7 +1,7 @@
--- On the way: a sample is looked at before the board is changed. What the look finds, and what comes of each finding, together are the sample (the laws look-refused, look-quiet, look-grows, look-changes).
+-- On the way: a sample is looked at before the board is changed. What the look finds, and what comes of each finding, together are the sample (the law look-is).
 -- Assumes nothing.
-use Rattle.std.specs.Prelude.{ℕ, Bool, true, false, cond, not, ◌&&◌, ◌||◌, List, [], ltb, eqb}
-use Rattle.refusal.specs.declared.Refusal.TheVariants.{Malformed}
+use Rattle.std.specs.Prelude.{ℕ, Bool, cond, not, ◌&&◌, ◌||◌, List, [], ltb, eqb, Result, Ok, Err}
+use Rattle.refusal.specs.declared.Refusal.{Refusal}
 use Rattle.refusal.specs.Refusals.{numbered}
 use Rattle.refusal.specs.Said.{first}
 use Rattle.settings.specs.declared.Settings.{Settings}
@@ -19,13 +19,12 @@ use Rattle.board.specs.declared.Board.{Board}
 use Rattle.board.specs.declared.Currents.{Currents}
 use Rattle.board.specs.declared.Last.{Last}
 use Rattle.board.specs.declared.Readings.{Readings}
-use Rattle.board.specs.declared.Answer.{Answer}
-use Rattle.board.specs.declared.Answer.TheVariants as answer
-use Rattle.board.specs.declared.Stepped.{Stepped}
+use Rattle.board.specs.declared.Sampled.{Sampled}
 use Rattle.board.specs.declared.Note.{Note}
 use Rattle.board.specs.declared.Noted.{Noted}
+use Rattle.board.specs.declared.Rested.{Rested}
 use Rattle.board.specs.declared.Found.{Found}
-use Rattle.board.specs.declared.Found.TheVariants.{Refused, Quiet, Grows, Changes}
+use Rattle.board.specs.declared.Found.TheVariants.{Quiet, Grows, Changes}
 use Rattle.board.specs.Shunt.{shunt_above, shunt_outside}
 use Rattle.board.specs.Plan.{is_garden}
 use Rattle.board.specs.Host.{status_by, holds_on}
@@ -58,43 +57,13 @@ unfoldable pub quiet_of : Board → Readings → Span → Bool
 quiet_of b x span = (clear b && idle b) && (calm_of b.working b.cells span && (currents_below b x && (warm x && (not (shunt_outside x.shunt) && not (ltb 1 x.load)))))
 
 -- ---- what the look finds: refused, or else quiet, or a garden board's, or none of these
-unfoldable pub look_of : Board → Readings → List ℕ → Found
+abbrev pub found_by : Bool → Bool → Span → Found
+found_by quiet garden span = cond quiet (Quiet span) (cond garden (Grows span) (Changes span))
+
+unfoldable pub look_of : Board → Readings → List ℕ → Result Found Refusal
 look_of b x mv =
-    cond (eqb (first (sample_bars b x mv)) 0)
-    (cond (quiet_of b x (span_of mv)) (Quiet (span_of mv)) (cond (is_garden b.kind) (Grows (span_of mv)) (Changes (span_of mv))))
-    (Refused (numbered (first (sample_bars b x mv))))
-
-abbrev pub is_refused : Found → Bool
-is_refused (Refused why) = true
-is_refused (Quiet span) = false
-is_refused (Grows span) = false
-is_refused (Changes span) = false
-
-abbrev pub is_quiet : Found → Bool
-is_quiet (Refused why) = false
-is_quiet (Quiet span) = true
-is_quiet (Grows span) = false
-is_quiet (Changes span) = false
-
-abbrev pub is_growing : Found → Bool
-is_growing (Refused why) = false
-is_growing (Quiet span) = false
-is_growing (Grows span) = true
-is_growing (Changes span) = false
-
--- the answer of a refused sample; no sample is Malformed, which stands for having no answer yet
-abbrev pub answer_of : Found → Answer
-answer_of (Refused why) = answer.Refused why
-answer_of (Quiet span) = answer.Refused Malformed
-answer_of (Grows span) = answer.Refused Malformed
-answer_of (Changes span) = answer.Refused Malformed
-
--- the lowest and the highest cell; of a refused sample none are handed on
-abbrev pub span_found : Found → Span
-span_found (Refused why) = record { low = 0; high = 0 }
-span_found (Quiet span) = span
-span_found (Grows span) = span
-span_found (Changes span) = span
+    let refusal = first (sample_bars b x mv) in
+    cond (eqb refusal 0) (Ok (found_by (quiet_of b x (span_of mv)) (is_garden b.kind) (span_of mv))) (Err (numbered refusal))
 
 -- ---- what comes of it: a quiet sample answers with register 0 of the record and no cell bled, and only itself is kept and counted; any other is stepped
 abbrev pub last_by : Readings → Span → Last
@@ -120,8 +89,11 @@ keeping b last =
       journal = b.journal;
     }
 
-unfoldable pub rested_of : Board → Readings → Span → Stepped
-rested_of b x span = record { board = keeping b (last_by x span); answer = answer.Sampled (status_by b.kind b.control (latches_of b.latches)) 0 }
+abbrev pub sampled : ℕ → ℕ → Sampled
+sampled status bled = record { status = status; bled = bled }
+
+unfoldable pub rested_of : Board → Readings → Span → Rested
+rested_of b x span = record { board = keeping b (last_by x span); answer = sampled (status_by b.kind b.control (latches_of b.latches)) 0 }
 
 module _ (s : Settings) (swept : Swept) (span : Span) (runs : Currents) (x : Readings) where
   -- when a fault lets go, by the lowest and the highest cell (the law latches-by); the others ask no cell
@@ -143,7 +115,7 @@ latches_left b x span mv =
 abbrev pub lowest_if : Bool → ℕ → ℕ
 lowest_if up set = cond up (lowest_cell set) 0
 
-abbrev pub note_of : Answer → Latches → ℕ → ℕ → Note
+abbrev pub note_of : Sampled → Latches → ℕ → ℕ → Note
 note_of a up ov uv = record { answer = a; up = up; ov = ov; uv = uv }
 
 unfoldable pub accepted_by : Board → Readings → Span → List ℕ → Noted
@@ -153,7 +125,7 @@ accepted_by b x span mv =
     let swept = swept_at b x mv in
     record {
       board = board_with b x mv left (last_by x span);
-      note = note_of (answer.Sampled (status_by b.kind (control_with b left) left) swept.bled) up (lowest_if (latch OV up) swept.ov_stood) (lowest_if (latch UV up) swept.uv_stood);
+      note = note_of (sampled (status_by b.kind (control_with b left) left) swept.bled) up (lowest_if (latch OV up) swept.ov_stood) (lowest_if (latch UV up) swept.uv_stood);
     }
 
 -- a garden board's, by the lowest and the highest cell (the law garden's grow-by)
@@ -165,15 +137,18 @@ grown_of b x span mv =
     let w = grown_by b x span mv in
     record {
       board = garden_with b w (last_by x span);
-      note = note_of (answer.Sampled (status_by b.kind b.control (grown_latches w)) 0) (risen_by b (grown_latches w)) w.ov_cell w.uv_cell;
+      note = note_of (sampled (status_by b.kind b.control (grown_latches w)) 0) (risen_by b (grown_latches w)) w.ov_cell w.uv_cell;
     }
 
 -- ---- then what latched is entered, where anything did (the law entering-is)
-abbrev pub nothing_up : Note → Bool
-nothing_up note = not (any_latch note.up)
+abbrev pub nothing_up : Latches → Bool
+nothing_up up = not (any_latch up)
 
-unfoldable pub entered_of : Board → Note → Stepped
-entered_of b note = record { board = entered b note.up (cell_of note.ov note.uv); answer = note.answer }
+unfoldable pub entered_of : Board → Note → Board
+entered_of b note = entered b note.up (cell_of note.ov note.uv)
 
-abbrev pub entering : Noted → Stepped
-entering s = cond (nothing_up s.note) (record { board = s.board; answer = s.note.answer }) (entered_of s.board s.note)
+abbrev pub entering : Board → Note → Board
+entering b note = cond (nothing_up note.up) b (entered_of b note)
+
+abbrev pub entered_by : Noted → Board
+entered_by s = entering s.board s.note

@@ -8,7 +8,7 @@ ghost use Rattle.board.specs.Plan.{plan_of, bad_plan, stand_alone, host, garden_
 ghost use Rattle.board.specs.Host.{may_dsg, may_chg, status_by, cleared_of};
 ghost use Rattle.board.specs.Sample.{first_latches, fresh, currents_next, bad_board, control_up, sample_of};
 ghost use Rattle.board.specs.Latchings.{number_next};
-ghost use Rattle.board.specs.Way.{out_of_range_by, quiet_of, look_of, is_refused, is_quiet, is_growing, answer_of, span_found, last_by, rested_of, latches_by, lowest_if, accepted_by, grown_of, nothing_up, entered_of, entering};
+ghost use Rattle.board.specs.Way.{out_of_range_by, quiet_of, look_of, last_by, rested_of, latches_by, lowest_if, accepted_by, grown_of, entered_of, entering, entered_by};
 
 use cells::{Cell, Span, Swept};
 use garden::Garden;
@@ -34,7 +34,7 @@ pub struct Last {
     pub shunt: i32,
 }
 
-// A board's record. The latches are the low five bits of register 0, the flagged cells a number, and control is register 1; the accepted
+// A board's record, as C has it: memory is fixed, so the count of its cells stands beside ten of them. The latches are the low five bits of register 0, the flagged cells a number, and control is register 1; the accepted
 // samples are counted for the journal.
 #[repr(C)]
 #[derive(Clone, Copy)]
@@ -66,47 +66,49 @@ pub struct Readings {
     pub load: u32,
 }
 
-#[derive(Clone, Copy)]
-pub enum Answer {
-    Sampled { status: u8, bled: u16 },
-    Refused(Refusal),
+// What an accepted sample answers: register 0, and the bled cells as a number.
+#[repr(C)]
+#[derive(Clone, Copy, Debug, PartialEq, Eq)]
+pub struct Sampled {
+    pub status: u8,
+    pub bled: u16,
 }
 
-// What a look at a sample finds: it is refused, or it is quiet, or a garden board's, or it may change the board. The lowest and the highest cell
-// are handed on.
+// What a look at a good sample finds: it is quiet, or a garden board's, or it may change the board. The lowest and the highest cell are handed on.
 #[derive(Clone, Copy)]
 enum Found {
-    Refused(Refusal),
     Quiet(Span),
     Grows(Span),
     Changes(Span),
 }
 
-#[derive(Clone, Copy)]
-pub struct Stepped {
-    pub board: Board,
-    pub answer: Answer,
-}
-
-// What an accepted sample leaves to be entered: its answer, the faults that latched, and of OV and UV the lowest cell that made them.
+// What an accepted sample leaves to be entered: its answer, the faults that latched, and of OV and UV the lowest cell that made them, or 0, as an
+// entry of the journal has it.
 #[derive(Clone, Copy)]
 struct Note {
-    answer: Answer,
+    answer: Sampled,
     up: Latches,
     ov: u8,
     uv: u8,
 }
 
-// The board after an accepted sample, its journal as it was.
+// The board after a quiet sample, and its answer.
+#[derive(Clone, Copy)]
+struct Rested {
+    board: Board,
+    answer: Sampled,
+}
+
+// The board after any other accepted sample, its journal as it was, and what is to be entered.
 #[derive(Clone, Copy)]
 struct Noted {
     board: Board,
     note: Note,
 }
 
-// ---- a plan, as one number: a byte each for cells, kind, row and trigger
+// ---- a plan, as one number, as C hands it over in a list: a byte each for cells, kind, row and trigger
 
-// The kinds of board beside the stand-alone one, which is 0.
+// The kinds of board beside the stand-alone one, which is 0. No enum: C's records and plans hold any byte, and each is answered. A function for each is a name of the paper, and no plainer as one with a number.
 const HOST: u8 = 1;
 
 const GARDEN: u8 = 2;
@@ -123,7 +125,30 @@ pub fn is_garden(kind: u8) -> bool
     kind == GARDEN
 }
 
-// A plan of so many cells fits its byte, or it is 0, which nothing can open.
+// What a board is to be: its kind and its cells, and of a garden board its row of the device table and its trigger.
+#[derive(Clone, Copy, Debug, PartialEq, Eq)]
+pub struct Plan {
+    pub kind: u8,
+    pub cells: u8,
+    pub row: u8,
+    pub trigger: u8,
+}
+
+impl From<u32> for Plan {
+    ghost from_gives = { λ n p. p ≡ plan_of n };
+
+    fn from(n: u32) -> Plan {
+        let [cells, kind, row, trigger] = n.to_le_bytes();
+        Plan {
+            kind,
+            cells,
+            row,
+            trigger,
+        }
+    }
+}
+
+// The plans one by one, as the header's constructors make them. A plan of so many cells fits its byte, or it is 0, which is a plan that nothing opens.
 pub fn stand_alone(cells: u32) -> u32
     ensures { result ≡ stand_alone cells }
 {
@@ -158,97 +183,92 @@ fn first_latches(kind: u8) -> u8
 pub fn fresh_board(plan: u32) -> Board
     ensures { result ≡ fresh plan }
 {
-    let kind = (plan / 256 % 256) as u8;
-    let latches = first_latches(kind);
-    let cells = cells::fresh_cells();
-    let currents = Currents { ocd: 0, scd: 0 };
-    let working = Settings::FACTORY;
-    let staged = Settings::FACTORY;
-    let last = Last {
-        low: 0,
-        high: 4294967295,
-        shunt: 2147483647,
-    };
-    let garden = Garden {
-        row: (plan / 65536 % 256) as u8,
-        trigger: (plan / 16777216) as u8,
-        ov_back: 0,
-        uv_back: 0,
-    };
-    let tallies = Tallies {
-        scd: 0,
-        ocd: 0,
-        ov: 0,
-        uv: 0,
-        ot: 0,
-    };
-    let journal = journal::blank();
+    let plan = Plan::from(plan);
     Board {
-        count: (plan % 256) as u8,
-        latches: latches,
+        count: plan.cells,
+        latches: first_latches(plan.kind),
         cycles: 0,
-        kind: kind,
+        kind: plan.kind,
         flags: 0,
-        working: working,
-        staged: staged,
-        currents: currents,
-        cells: cells,
-        last: last,
+        working: Settings::FACTORY,
+        staged: Settings::FACTORY,
+        currents: Currents { ocd: 0, scd: 0 },
+        cells: cells::fresh_cells(),
+        last: Last {
+            low: 0,
+            high: 4294967295,
+            shunt: 2147483647,
+        },
         control: 0,
-        garden: garden,
-        tallies: tallies,
+        garden: Garden {
+            row: plan.row,
+            trigger: plan.trigger,
+            ov_back: 0,
+            uv_back: 0,
+        },
+        tallies: Tallies {
+            scd: 0,
+            ocd: 0,
+            ov: 0,
+            uv: 0,
+            ot: 0,
+        },
         samples: 0,
-        journal: journal,
+        journal: journal::blank(),
     }
 }
 
 // No board is so made: each kind has its own range of cells, and a garden board a row and a trigger.
-fn bad_make(kind: u8, cells: u8, row: u8, trigger: u8) -> bool
-    ensures { result ≡ bad_plan (record { kind = kind; cells = cells; row = row; trigger = trigger }) }
+fn bad_make(p: Plan) -> bool
+    ensures { result ≡ bad_plan p }
 {
-    if is_garden(kind) {
-        return ((cells < 3) | (5 < cells)) | (2 < row) | (trigger < 1);
+    if is_garden(p.kind) {
+        return ((p.cells < 3) | (5 < p.cells)) | (2 < p.row) | (p.trigger < 1);
     }
-    (1 < kind) | ((cells < 5) | (10 < cells))
+    (1 < p.kind) | ((p.cells < 5) | (10 < p.cells))
 }
 
 // Which record is bad: one that no opening gives.
-pub fn bad_board(b: Board) -> bool
-    ensures { result ≡ bad_board b }
+pub fn bad_board(b: &Board) -> bool
+    ensures { result ≡ bad_board b.now }
 {
-    bad_make(b.kind, b.count, b.garden.row, b.garden.trigger)
+    bad_make(Plan {
+        kind: b.kind,
+        cells: b.count,
+        row: b.garden.row,
+        trigger: b.garden.trigger,
+    })
 }
 
 // Which plan is bad. A plan says what a board is to be.
 pub fn bad_plan(plan: u32) -> bool
     ensures { result ≡ bad_plan (plan_of plan) }
 {
-    let kind = (plan / 256 % 256) as u8;
-    let row = (plan / 65536 % 256) as u8;
-    let trigger = (plan / 16777216) as u8;
-    bad_make(kind, (plan % 256) as u8, row, trigger)
+    bad_make(Plan::from(plan))
 }
 
 // ---- what a host board has beside a stand-alone one
 
-// DSG and CHG may be on.
-pub fn may_dsg(kind: u8, control: u8) -> bool
-    ensures { result ≡ may_dsg kind control }
-{
-    !is_host(kind) | (control / 2 % 2 == 1)
-}
+impl Board {
+    // DSG and CHG may be on: two bits with two names of the paper.
+    pub fn may_dsg(&self) -> bool
+        ensures { result ≡ may_dsg self.now.kind self.now.control }
+    {
+        !is_host(self.kind) | (self.control / 2 % 2 == 1)
+    }
 
-pub fn may_chg(kind: u8, control: u8) -> bool
-    ensures { result ≡ may_chg kind control }
-{
-    !is_host(kind) | (control / 4 % 2 == 1)
-}
+    pub fn may_chg(&self) -> bool
+        ensures { result ≡ may_chg self.now.kind self.now.control }
+    {
+        !is_host(self.kind) | (self.control / 4 % 2 == 1)
+    }
 
-// Register 0 of a board with these latches.
-pub fn status_by(kind: u8, control: u8, latches: u8) -> u8
-    ensures { result ≡ status_by kind control (latches_of latches) }
-{
-    latches::status_of(may_dsg(kind, control), may_chg(kind, control), latches)
+    // Register 0.
+    pub fn status(&self) -> u8
+        ensures { result ≡ status_by self.now.kind self.now.control (latches_of self.now.latches) }
+    {
+        latches::status_of(self.may_dsg(), self.may_chg(), self.latches)
+    }
 }
 
 // The latches without those whose condition is over on the last accepted sample.
@@ -271,8 +291,8 @@ pub fn cleared(s: Settings, last: Last, latches: u8) -> u8
 }
 
 // Register 1 after a sample at which these faults latched.
-fn control_up(b: Board, up: Latches) -> u8
-    ensures { result ≡ control_up b up }
+fn control_up(b: &Board, up: Latches) -> u8
+    ensures { result ≡ control_up b.now up }
 {
     if is_host(b.kind) {
         return latches::control_next(b.control, up);
@@ -290,17 +310,13 @@ fn last_by(x: Readings, span: Span) -> Last
     }
 }
 
-// ---- a sample
+// ---- a sample; its readings, span and cells stand apart, as C's record, what is found of the cells and the lent list are apart in its definitions
 
 // The number of the next accepted sample; at its top it stays.
 fn number_next(samples: u32) -> u32
     ensures { result ≡ number_next samples }
 {
-    if samples < 4294967295 {
-        samples + 1
-    } else {
-        4294967295
-    }
+    samples.saturating_add(1)
 }
 
 // The shunt reads above a level; no charge current does.
@@ -362,24 +378,20 @@ fn latches_next(
 
 // A quiet sample. It is kept as the last one, and answered from the record.
 #[tactic(auto, unfolding(crate::specs::Way::rested_of))]
-fn rest(b: Board, x: Readings, span: Span, mv: &[u32]) -> Stepped
+fn rest(b: Board, x: Readings, span: Span) -> Rested
     ensures { result ≡ rested_of b x span }
 {
-    let last = last_by(x, span);
-    let samples = number_next(b.samples);
+    let status = b.status();
     let mut next = b;
-    next.last = last;
-    next.samples = samples;
-    Stepped {
+    next.last = last_by(x, span);
+    next.samples = number_next(b.samples);
+    Rested {
         board: next,
-        answer: Answer::Sampled {
-            status: status_by(b.kind, b.control, b.latches),
-            bled: 0,
-        },
+        answer: Sampled { status, bled: 0 },
     }
 }
 
-// The lowest cell of a set, where its fault latched.
+// The lowest cell of a set, where its fault latched, or 0.
 fn lowest_if(up: bool, set: u16) -> u8
     ensures { result ≡ lowest_if up set }
 {
@@ -393,40 +405,31 @@ fn lowest_if(up: bool, set: u16) -> u8
 fn accept(b: Board, x: Readings, span: Span, mv: &[u32]) -> Noted
     ensures { result ≡ accepted_by b x span mv.now }
 {
-    let old = b.cells;
-    let swept = cells::sweep(b.working, x.elapsed, old, b.flags, mv);
+    let swept = cells::sweep(b.working, x.elapsed, b.cells, b.flags, mv);
     let currents = currents_next(b.working, b.currents, x);
     let was = latches::latches_of(b.latches);
     let latches = latches_next(b.working, swept, span, currents, x, b.kind, was);
-    let byte = latches::byte_of(latches);
     let up = latches::risen(was, latches);
-    let control = control_up(b, up);
-    let tallies = latches::tallies_next(up, b.tallies);
     let cells = swept.cells;
-    let last = last_by(x, span);
-    let samples = number_next(b.samples);
     let mut next = b;
-    next.latches = byte;
+    next.control = control_up(&b, up);
+    next.latches = latches::byte_of(latches);
     next.flags = swept.flags;
     next.currents = currents;
     next.cells = cells;
-    next.last = last;
-    next.control = control;
-    next.tallies = tallies;
-    next.samples = samples;
+    next.last = last_by(x, span);
+    next.tallies = latches::tallies_next(up, b.tallies);
+    next.samples = number_next(b.samples);
     let note = Note {
-        answer: Answer::Sampled {
-            status: status_by(b.kind, control, byte),
+        answer: Sampled {
+            status: next.status(),
             bled: swept.bled,
         },
-        up: up,
+        up,
         ov: lowest_if(up.ov, swept.ov_stood),
         uv: lowest_if(up.uv, swept.uv_stood),
     };
-    Noted {
-        board: next,
-        note: note,
-    }
+    Noted { board: next, note }
 }
 
 // An accepted sample of a garden board.
@@ -434,8 +437,7 @@ fn grow(b: Board, x: Readings, span: Span, mv: &[u32]) -> Noted
     ensures { result ≡ grown_of b x span mv.now }
 {
     let old = latches::latches_of(b.latches);
-    let before = b.cells;
-    let grown = garden::grow(b.garden, before, old.ov, old.uv, x.load == 1, span, mv);
+    let grown = garden::grow(b.garden, b.cells, old.ov, old.uv, x.load == 1, span, mv);
     let left = Latches {
         scd: false,
         ocd: false,
@@ -443,67 +445,76 @@ fn grow(b: Board, x: Readings, span: Span, mv: &[u32]) -> Noted
         uv: grown.uv,
         ot: false,
     };
-    let latched = latches::byte_of(left);
     let up = latches::risen(old, left);
-    let tallies = latches::tallies_next(up, b.tallies);
     let counts = grown.cells;
-    let garden = grown.garden;
-    let last = last_by(x, span);
-    let samples = number_next(b.samples);
     let mut next = b;
-    next.latches = latched;
+    next.latches = latches::byte_of(left);
     next.cells = counts;
-    next.last = last;
-    next.garden = garden;
-    next.tallies = tallies;
-    next.samples = samples;
+    next.last = last_by(x, span);
+    next.garden = grown.garden;
+    next.tallies = latches::tallies_next(up, b.tallies);
+    next.samples = number_next(b.samples);
     let note = Note {
-        answer: Answer::Sampled {
-            status: status_by(b.kind, b.control, latched),
+        answer: Sampled {
+            status: next.status(),
             bled: 0,
         },
-        up: up,
+        up,
         ov: grown.ov_cell,
         uv: grown.uv_cell,
     };
-    Noted {
-        board: next,
-        note: note,
-    }
+    Noted { board: next, note }
 }
 
 // ---- what latched is entered, behind the step, as it seldom happens
 
-// Nothing latched.
-fn nothing(note: Note) -> bool
-    ensures { result ≡ nothing_up note }
+// The latchings of one sample, in their order.
+fn enter(b: &mut Board, note: Note)
+    ensures { b.new ≡ entered_of b.old note }
 {
-    let up = note.up;
-    !(up.scd | up.ocd | up.ov | up.uv | up.ot)
+    let causes = u16::from(latches::byte_of(note.up));
+    let number = b.samples;
+    b.journal.enter(causes, [0, 0, note.ov, note.uv, 0], number);
 }
 
-fn answer_in(note: Note) -> Answer
-    ensures { result ≡ note.answer }
+// The answer of an accepted sample. By itself, so that a journal is touched where something latched and nowhere else.
+fn answer(b: &mut Board, note: Note) -> Sampled
+    ensures { (result ≡ note.answer) × (b.new ≡ entering b.old note) }
 {
+    if latches::any_up(note.up) {
+        enter(b, note);
+    }
     note.answer
 }
 
-// The latchings of one sample, in their order.
-fn enter(b: Board, note: Note) -> Stepped
-    ensures { result ≡ entered_of b note }
+// ---- the steps on a record where it lies, each taken by value and stored back: the form that the paper names for a sample (01, Expected form in
+// each place). A routine for each, as two steps in one make the compiler copy the record (docs/DECISIONS.md)
+
+fn rest_board(b: &mut Board, x: Readings, span: Span) -> Sampled
+    ensures { (result ≡ (rested_of b.old x span).answer) × (b.new ≡ (rested_of b.old x span).board) }
 {
-    let held = b.journal;
-    let causes = latches::byte_of(note.up) as u16;
-    let cells = [0, 0, note.ov, note.uv, 0];
-    let journal = journal::enter(held, causes, cells, b.samples);
-    let answer = note.answer;
-    let mut next = b;
-    next.journal = journal;
-    Stepped {
-        board: next,
-        answer: answer,
-    }
+    let s = rest(*b, x, span);
+    *b = s.board;
+    s.answer
 }
+
+fn accept_board(b: &mut Board, x: Readings, span: Span, mv: &[u32]) -> Sampled
+    ensures { (result ≡ (accepted_by b.old x span mv.now).note.answer) × (b.new ≡ entered_by (accepted_by b.old x span mv.now)) }
+{
+    let s = accept(*b, x, span, mv);
+    *b = s.board;
+    answer(b, s.note)
+}
+
+fn grow_board(b: &mut Board, x: Readings, span: Span, mv: &[u32]) -> Sampled
+    ensures { (result ≡ (grown_of b.old x span mv.now).note.answer) × (b.new ≡ entered_by (grown_of b.old x span mv.now)) }
+{
+    let s = grow(*b, x, span, mv);
+    *b = s.board;
+    answer(b, s.note)
+}
+
+// ---- the look at a sample
 
 fn out_of_range(x: Readings, span: Span) -> bool
     ensures { result ≡ out_of_range_by x span }
@@ -514,14 +525,13 @@ fn out_of_range(x: Readings, span: Span) -> bool
 
 // A sample that finds nothing, on a board that has nothing on record: it changes nothing but the last sample and its number. The record is looked at first.
 #[tactic(auto, unfolding(crate::specs::Way::quiet_of))]
-fn quiet(b: Board, x: Readings, span: Span) -> bool
-    ensures { result ≡ quiet_of b x span }
+fn quiet(b: &Board, x: Readings, span: Span) -> bool
+    ensures { result ≡ quiet_of b.now x span }
 {
     let clear = !is_garden(b.kind) & ((b.latches == 0) & (b.flags == 0));
     let idle = (b.currents.ocd == 0) & (b.currents.scd == 0);
     if clear & idle {
-        let cells = b.cells;
-        let calm = cells::calm(b.working, cells, span);
+        let calm = cells::calm(b.working, b.cells, span);
         let over_ocd = shunt_above(x.shunt, b.working.ocd_level());
         let over_scd = shunt_above(x.shunt, b.working.scd_level());
         let outside = shunt_outside(x.shunt);
@@ -531,148 +541,39 @@ fn quiet(b: Board, x: Readings, span: Span) -> bool
     false
 }
 
-// A look at a sample of one board. The lowest and the highest cell are found once, for all that is asked of every cell.
-fn look(b: Board, x: Readings, mv: &[u32]) -> Found
-    ensures { result ≡ look_of b x mv.now }
+// The lowest and the highest cell are found once, for all that is asked of every cell.
+fn look(b: &Board, x: Readings, mv: &[u32]) -> Result<Found, Refusal>
+    ensures { result ≡ look_of b.now x mv.now }
 {
-    let count = b.count;
     if bad_board(b) {
-        return Found::Refused(Refusal::BadRow);
+        return Err(Refusal::BadRow);
     }
-    if mv.len() != count as usize {
-        return Found::Refused(Refusal::CellList);
+    if mv.len() != b.count as usize {
+        return Err(Refusal::CellList);
     }
     if (x.elapsed < 1) | (100000 < x.elapsed) {
-        return Found::Refused(Refusal::Elapsed);
+        return Err(Refusal::Elapsed);
     }
     let span = cells::span_of(mv);
     if quiet(b, x, span) {
-        return Found::Quiet(span);
+        return Ok(Found::Quiet(span));
     }
     if out_of_range(x, span) {
-        return Found::Refused(Refusal::OutOfRange);
+        return Err(Refusal::OutOfRange);
     }
     if is_garden(b.kind) {
-        return Found::Grows(span);
+        return Ok(Found::Grows(span));
     }
-    Found::Changes(span)
-}
-
-fn is_refused(found: Found) -> bool
-    ensures { result ≡ is_refused found }
-{
-    match found {
-        Found::Refused(_) => true,
-        Found::Quiet(_) => false,
-        Found::Grows(_) => false,
-        Found::Changes(_) => false,
-    }
-}
-
-fn is_quiet(found: Found) -> bool
-    ensures { result ≡ is_quiet found }
-{
-    match found {
-        Found::Refused(_) => false,
-        Found::Quiet(_) => true,
-        Found::Grows(_) => false,
-        Found::Changes(_) => false,
-    }
-}
-
-fn is_growing(found: Found) -> bool
-    ensures { result ≡ is_growing found }
-{
-    match found {
-        Found::Refused(_) => false,
-        Found::Quiet(_) => false,
-        Found::Grows(_) => true,
-        Found::Changes(_) => false,
-    }
-}
-
-// The answer of a refused sample; for any other, the refusal that no sample is given.
-fn answer_of(found: Found) -> Answer
-    ensures { result ≡ answer_of found }
-{
-    match found {
-        Found::Refused(why) => Answer::Refused(why),
-        Found::Quiet(_) => Answer::Refused(Refusal::Malformed),
-        Found::Grows(_) => Answer::Refused(Refusal::Malformed),
-        Found::Changes(_) => Answer::Refused(Refusal::Malformed),
-    }
-}
-
-// The lowest and the highest cell that were found; for a refused sample, none.
-fn span_found(found: Found) -> Span
-    ensures { result ≡ span_found found }
-{
-    match found {
-        Found::Refused(_) => Span { low: 0, high: 0 },
-        Found::Quiet(span) => span,
-        Found::Grows(span) => span,
-        Found::Changes(span) => span,
-    }
-}
-
-// ---- the record behind a reference, by shapes of crate walks
-
-// Where something latched it is entered. By itself, so that the compiler copies the journal here and nowhere else.
-fn enter_board(b: &mut Board, note: Note) -> Answer
-    ensures { (result ≡ (entered_of b.old note).answer) × (b.new ≡ (entered_of b.old note).board) }
-{
-    let s = enter(*b, note);
-    *b = s.board;
-    s.answer
-}
-
-// The ways of an accepted sample: the record is taken apart, stepped by value and stored back.
-fn rest_board(b: &mut Board, x: Readings, span: Span, mv: &[u32]) -> Answer
-    ensures { (result ≡ (rested_of b.old x span).answer) × (b.new ≡ (rested_of b.old x span).board) }
-{
-    let s = rest(*b, x, span, mv);
-    *b = s.board;
-    s.answer
-}
-
-fn accept_board(b: &mut Board, x: Readings, span: Span, mv: &[u32]) -> Answer
-    ensures { (result ≡ (entering (accepted_by b.old x span mv.now)).answer) × (b.new ≡ (entering (accepted_by b.old x span mv.now)).board) }
-{
-    let s = accept(*b, x, span, mv);
-    *b = s.board;
-    let note = s.note;
-    if nothing(note) {
-        return answer_in(note);
-    }
-    enter_board(b, note)
-}
-
-fn grow_board(b: &mut Board, x: Readings, span: Span, mv: &[u32]) -> Answer
-    ensures { (result ≡ (entering (grown_of b.old x span mv.now)).answer) × (b.new ≡ (entering (grown_of b.old x span mv.now)).board) }
-{
-    let s = grow(*b, x, span, mv);
-    *b = s.board;
-    let note = s.note;
-    if nothing(note) {
-        return answer_in(note);
-    }
-    enter_board(b, note)
+    Ok(Found::Changes(span))
 }
 
 // A sample of one board: refused, with its answer; quiet; a garden board's; or it may change the board.
-pub fn sample_board(b: &mut Board, x: Readings, mv: &[u32]) -> Answer
+pub fn sample_board(b: &mut Board, x: Readings, mv: &[u32]) -> Result<Sampled, Refusal>
     ensures { (result ≡ (sample_of b.old x mv.now).answer) × (b.new ≡ (sample_of b.old x mv.now).board) }
 {
-    let found = look(*b, x, mv);
-    if is_refused(found) {
-        return answer_of(found);
+    match look(b, x, mv)? {
+        Found::Quiet(span) => Ok(rest_board(b, x, span)),
+        Found::Grows(span) => Ok(grow_board(b, x, span, mv)),
+        Found::Changes(span) => Ok(accept_board(b, x, span, mv)),
     }
-    let span = span_found(found);
-    if is_quiet(found) {
-        return rest_board(b, x, span, mv);
-    }
-    if is_growing(found) {
-        return grow_board(b, x, span, mv);
-    }
-    accept_board(b, x, span, mv)
 }

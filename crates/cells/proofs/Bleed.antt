@@ -4,9 +4,9 @@ use Prim.Native.Nat.{ℕ, zero, suc, ◌+◌, ◌-◌, ◌%◌, ◌<◌, ◌≤�
 use native.Mathlib.Nat.{lt_of_lt_of_le, not-suc-le-zero}
 use native.Mathlib.Omega.{arith}
 use mathlib.Core.Path.{◌≡◌, refl, sym, ap, ◌∙◌}
-use mathlib.Core.Bool.{Bool, true, false, true≢false, cond, not, ◌&&◌, ◌||◌, or-false}
+use mathlib.Core.Bool.{Bool, true, false, true≢false, not, ◌&&◌, ◌||◌, or-false}
 use mathlib.Core.List.{List, [], ◌∷◌}
-use borrow.Author.Tests.{eqb-true, eq-eqb, ne_eqb}
+use borrow.Author.Tests.{eq-eqb, ne_eqb}
 use lib.Dec.{eqb}
 use lib.ListN.{length, get_or, drop, length-drop, drop_of_length-le}
 use lib.Seq.{drop-cons}
@@ -32,7 +32,7 @@ bled-length [] = refl
 bled-length (f ∷ flags) = ap suc (bled-length flags)
 
 -- where no cell is flagged none is bled
-none-bled : (n : ℕ) → number (bled (marks n 0)) ≡ 0
+pub none-bled : (n : ℕ) → number (bled (marks n 0)) ≡ 0
 unfolding marks bled number
 none-bled zero = refl
 none-bled (suc n) = rw (none-bled n)
@@ -55,22 +55,12 @@ module _ (flags n : ℕ) where
   pub record Bled (i out : ℕ) : Type 0 where
     pub in-out : out ≡ number (bled (drop i (marks n flags)))
 
-  -- the search starts within the cells
-  pub search-within : cond (eqb flags 0) 0 n ≤ n
-  search-within = by (eqb flags 0) where
-    by : (t : Bool) → cond t 0 n ≤ n
-    by true = omega arith
-    by false = omega arith
-
-  -- at its start, which is the end where no cell is flagged
-  pub bled-start : Bled (cond (eqb flags 0) 0 n) 0
+  -- at its start
+  pub bled-start : Bled n 0
   unfolding bled number
-  bled-start = by (eqb flags 0) refl where
-    by : (t : Bool) → eqb flags 0 ≡ t → Bled (cond t 0 n) 0
-    by true e = record { in-out = rw (eqb-true flags 0 e) (sym (none-bled n)) }
-    by false e =
-        let past : drop n (marks n flags) ≡ [] = drop_of_length-le (marks n flags) {i = n} (rw (marks-length n flags) (omega arith)) in
-        record { in-out = rw past }
+  bled-start =
+      let past : drop n (marks n flags) ≡ [] = drop_of_length-le (marks n flags) {i = n} (rw (marks-length n flags) (omega arith)) in
+      record { in-out = rw past }
 
   -- one cell further down
   pub bled-turn : {i out : ℕ} (b : Bool) → Bled i out → b ≡ (marked flags (i - 1) && eqb (out % 4) 0) → 0 < i → i ≤ n → Bled (i - 1) (mark_next b out)

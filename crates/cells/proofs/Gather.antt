@@ -1,13 +1,13 @@
 -- One pass over the cells, from the highest down: what it has gathered, and one cell more.
 -- Assumes nothing.
 use Prim.Native.Nat.{ℕ, zero, suc, ◌-◌, ◌^◌, ◌<◌, ◌≤◌}
-use native.Mathlib.Nat.{not-suc-le-zero, le_of_suc-le-suc}
+use native.Mathlib.Nat.{not-suc-le-zero}
 use native.Mathlib.Omega.{arith}
-use mathlib.Core.Path.{◌≡◌, refl, ap, sym, ◌∙◌}
+use mathlib.Core.Path.{◌≡◌, ap, sym, ◌∙◌}
 use mathlib.Core.Bool.{Bool}
-use mathlib.Core.List.{List, [], ◌∷◌, ◌++◌}
+use mathlib.Core.List.{List, ◌++◌}
 use lib.Dec.{ltb}
-use lib.ListN.{length, take, drop, set, take-append-drop, length-append, length-take, length-drop, get_or-append}
+use lib.ListN.{length, take, drop, set, take-append-drop, length-take, get_or-append}
 use lib.Seq.{get_or-take}
 use Rattle.runs.specs.Stored.{run_next, stood}
 use Rattle.lists.specs.Marks.{number, marked, marks}
@@ -20,15 +20,6 @@ use Rattle.cells.specs.Way.{mark_next, flag_at}
 use Rattle.lists.proofs.Each.{each-length, each-down, each_none, each_same, set_front}
 use Rattle.cells.proofs.Bleed.{mark-turn, below-ten}
 use Rattle.cells.proofs.Sets.{set_at}
-
--- a store of each run of a cell, which is one of the whole cell
-abbrev stored : List Cell → ℕ → ℕ → ℕ → List Cell
-stored cells k ov uv = let first = set cells k (record { ov = ov; uv = (cell_at cells k).uv }) in set first k (record { ov = (cell_at first k).ov; uv = uv })
-
-stored-cell : (cells : List Cell) (k ov uv : ℕ) → k < length cells → stored cells k ov uv ≡ set cells k (record { ov = ov; uv = uv })
-stored-cell [] k ov uv p = absurd (not-suc-le-zero p)
-stored-cell (c ∷ cells) zero ov uv p = refl
-stored-cell (c ∷ cells) (suc k) ov uv p = ap (λ (l : List Cell). c ∷ l) (stored-cell cells k ov uv (le_of_suc-le-suc p))
 
 module _ (l : Limits) (elapsed : ℕ) (cells : List Cell) (flags : ℕ) (mv : List ℕ) (n : ℕ) where
   -- what the pass holds with the cells from place i up behind it
@@ -56,13 +47,6 @@ module _ (l : Limits) (elapsed : ℕ) (cells : List Cell) (flags : ℕ) (mv : Li
       let rest = each i (n - i) (next_at l elapsed cells flags mv) ++ drop n cells in
       rw (g.in_cells, get_or-append (take i cells) rest (record { ov = 0; uv = 0 }) (i - 1) (rw (length-take i cells) (omega arith)), get_or-take i cells (i - 1) (record { ov = 0; uv = 0 }) (omega arith))
 
-  -- no cell is lost
-  as_long : {i : ℕ} {next : List Cell} {ov_stood uv_stood lower : ℕ}
-      → Gathered i next ov_stood uv_stood lower → i ≤ n → n ≤ length cells → length next ≡ length cells
-  as_long {i} g q h =
-      let N = next_at l elapsed cells flags mv in
-      rw (g.in_cells, length-append (take i cells) (each i (n - i) N ++ drop n cells), length-append (each i (n - i) N) (drop n cells), length-take i cells, each-length N i (n - i), length-drop n cells) (omega arith)
-
   -- its two runs are the cell after the sample
   two_runs : (k : ℕ) (c : Cell) (ov uv : ℕ) → c ≡ cell_at cells k → ov ≡ run_next c.ov (ltb l.ov (reading_at mv k)) elapsed
       → uv ≡ run_next c.uv (ltb (reading_at mv k) l.uv) elapsed → record { ov = ov; uv = uv } ≡ next_at l elapsed cells flags mv k
@@ -75,7 +59,7 @@ module _ (l : Limits) (elapsed : ℕ) (cells : List Cell) (flags : ℕ) (mv : Li
       → ov ≡ run_next (cell_at next (i - 1)).ov (ltb l.ov (reading_at mv (i - 1))) elapsed
       → uv ≡ run_next (cell_at next (i - 1)).uv (ltb (reading_at mv (i - 1)) l.uv) elapsed
       → high ≡ stood l.ov_delay ov → low ≡ stood l.uv_delay uv → 0 < i → i ≤ n → n ≤ length cells
-      → Gathered (i - 1) (stored next (i - 1) ov uv) (mark_next high ov_stood) (mark_next low uv_stood) (mark_next (ltb (reading_at mv (i - 1)) l.ov_release) lower)
+      → Gathered (i - 1) (set next (i - 1) (record { ov = ov; uv = uv })) (mark_next high ov_stood) (mark_next low uv_stood) (mark_next (ltb (reading_at mv (i - 1)) l.ov_release) lower)
   turn {i = zero} ov uv high low g eo eu eh el p q h = absurd (not-suc-le-zero p)
   turn {i = suc j} {next} ov uv high low g eo eu eh el p q h =
       let N = next_at l elapsed cells flags mv in
@@ -83,12 +67,11 @@ module _ (l : Limits) (elapsed : ℕ) (cells : List Cell) (flags : ℕ) (mv : Li
       let L = uv_stood_at l elapsed cells flags mv in
       let U : ℕ → Bool = λ k. ltb (reading_at mv k) l.ov_release in
       let back : suc j - 1 ≡ j = omega arith in
-      let whole = stored-cell next (suc j - 1) ov uv (omega (arith, as_long g q h)) in
       let cell = two_runs (suc j - 1) (cell_at next (suc j - 1)) ov uv (waits g p q h) eo eu in
       let is-high : high ≡ H (suc j - 1) = eh ∙ ap (λ (c : Cell). stood l.ov_delay c.ov) cell in
       let is-low : low ≡ L (suc j - 1) = el ∙ ap (λ (c : Cell). stood l.uv_delay c.uv) cell in
       record {
-        in_cells = rw (each-down N (suc j) n p q, whole, cell, g.in_cells, back) (set_front cells (each (suc j) (n - suc j) N ++ drop n cells) j (N j) (omega arith));
+        in_cells = rw (each-down N (suc j) n p q, cell, g.in_cells, back) (set_front cells (each (suc j) (n - suc j) N ++ drop n cells) j (N j) (omega arith));
         in-ov = rw (each-down H (suc j) n p q, is-high, g.in-ov) (mark-turn (H (suc j - 1)) (each (suc j) (n - suc j) H));
         in-uv = rw (each-down L (suc j) n p q, is-low, g.in-uv) (mark-turn (L (suc j - 1)) (each (suc j) (n - suc j) L));
         in-low = rw (each-down U (suc j) n p q, g.in-low) (mark-turn (U (suc j - 1)) (each (suc j) (n - suc j) U));

@@ -6,9 +6,13 @@ use native.Mathlib.Omega.{arith}
 use mathlib.Core.Path.{◌≡◌, refl, sym, ap, ap₂, ◌∙◌}
 use mathlib.Core.Bool.{Bool, true, false, cond, not, ◌&&◌, ◌||◌}
 use mathlib.Core.List.{List, [], ◌∷◌}
-use borrow.Author.Tests.{ne_eqb}
-use lib.Bits.{bit_or}
-use lib.Dec.{eqb}
+use borrow.Author.Tests.{ne_eqb, ltb-true, ltb-false}
+use lib.Bits.{bit_and, bit_or}
+use lib.Dec.{eqb, ltb}
+use mir.Syntax.{w16}
+use Rattle.std.specs.Int.{bit_at}
+use Rattle.std.proofs.lemmas.Nat.Bits.{bit_at_and, bit_at_not, bit_at_xor, bit_at-lt, bit_at_above, same_from_bits}
+use Rattle.lists.proofs.Split.{split}
 use Rattle.lists.specs.Marks.{number, marked, marks, lowest}
 use Rattle.lists.proofs.Marks.{without, number_at, number-below, number-marks, marked-above, or_turn, without-turn, lowest-zero}
 use Rattle.lists.specs.Each.{each, some}
@@ -40,6 +44,21 @@ first-each x n = sym (number-marks n x) ∙ ap number (ap (marks n) (sym (div-on
 
 own-each : (x n : ℕ) → x < 2 ^ n → x ≡ number (each 0 n (marked x))
 own-each x n h = sym (mod-eq_of_lt h) ∙ first-each x n
+
+-- of 16 places, those of one set that another has not
+pub and-not : (x y : ℕ) → x < 65536 → y < 65536 → bit_and x (65535 - y) ≡ without x y
+and-not x y p q =
+    same_from_bits
+    (bit_and x (65535 - y))
+    (without x y)
+    (λ i. split
+    (ltb i 16)
+    (λ e.
+    let at : i < 16 = ltb-true i 16 e in
+    rw (bit_at_and x (65535 - y) i, bit_at_not w16 y i q at, bit_at_xor x (bit_and x y) i, bit_at_and x y i) (omega (arith, bit_at-lt x i, bit_at-lt y i)))
+    (λ e.
+    let none : bit_at x i ≡ 0 = bit_at_above x 16 i p (ltb-false i 16 e) in
+    rw (bit_at_and x (65535 - y) i, bit_at_xor x (bit_and x y) i, bit_at_and x y i, none) (omega arith)))
 
 -- those that have stood, and those flagged before that do not read low
 pub flags-set : (stands low flags n : ℕ) → stands < 2 ^ n → low < 2 ^ n

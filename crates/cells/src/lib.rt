@@ -2,7 +2,7 @@
 // (01, When a fault latches and lets go; Bleeding).
 #![tactic(auto)]
 
-ghost use Rattle.std.specs.Prelude.{◌≡◌, min, max, ◌+◌, ◌^◌, ◌<◌, ◌≤◌, cond, eqb};
+ghost use Rattle.std.specs.Prelude.{◌≡◌, min, ◌+◌, ◌^◌, ◌<◌, ◌≤◌, cond};
 ghost use Rattle.lists.specs.Marks.{number, marks};
 ghost use Rattle.cells.specs.Cells.{sweep_of, lowest_cell, no_cells, span_of};
 ghost use Rattle.lists.specs.Each.{each};
@@ -19,7 +19,8 @@ pub struct Cell {
     pub uv: u32,
 }
 
-// What one pass over the cells gives. The flagged and the bled cells and those whose OV or UV run has stood are sets, as numbers.
+// What one pass over the cells gives. The flagged and the bled cells and those whose OV or UV run has stood are sets, as numbers. The cells stand
+// beside them, and are not changed in place, as the definition of a sweep is this record.
 #[derive(Clone, Copy)]
 pub struct Swept {
     pub cells: [Cell; 10],
@@ -36,37 +37,16 @@ pub struct Span {
     pub high: u32,
 }
 
-// A reading, of 32 bits, in 64.
-fn wide(v: u32) -> u64
-    ensures { (result ≡ v) × (v ≤ 4294967295) }
-{
-    v as u64
-}
-
-fn lower(a: u64, b: u64) -> u64
-    ensures { result ≡ min a b }
-{
-    if a < b { a } else { b }
-}
-
-fn higher(a: u64, b: u64) -> u64
-    ensures { result ≡ max a b }
-{
-    if a < b { b } else { a }
-}
-
 // In 64 bits, which the compiler keeps in two registers: of 32 it makes lanes, and folding these costs more than ten cells.
 pub fn span_of(mv: &[u32]) -> Span
     ensures { result ≡ span_of mv.now }
 {
-    let mut low = 4294967295;
+    let mut low = u64::from(u32::MAX);
     let mut high = 0;
-    let mut i = 0;
-    while i < mv.len() {
-        let v = wide(mv[i]);
-        low = lower(v, low);
-        high = higher(v, high);
-        i += 1;
+    for v in mv {
+        let v = u64::from(*v);
+        low = v.min(low);
+        high = v.max(high);
     }
     Span {
         low: low as u32,
@@ -79,14 +59,14 @@ fn mark_next(marked: bool, above: u16) -> u16
     requires { above < 1024 }
     ensures { result ≡ mark_next marked above }
 {
-    if marked { 2 * above + 1 } else { 2 * above }
+    2 * above + u16::from(marked)
 }
 
 // A board has ten cells at most.
 pub fn cell_count(readings: usize) -> usize
     ensures { result ≡ min readings 10 }
 {
-    if readings < 10 { readings } else { 10 }
+    readings.min(10)
 }
 
 // The flagged cells after a sample, as sets: those that have stood, and those flagged before that do not read low.
@@ -96,25 +76,19 @@ fn flags_next(stood: u16, low: u16, flags: u16, cells: usize) -> u16
 {
     // a number handed in may have marks past the cells
     let kept = flags % (1 << cells);
-    stood | (kept ^ (kept & low))
+    stood | (kept & !low)
 }
 
-// How many cells to look through for bled ones: with none flagged there is nothing to look for.
-fn cells_to_search(flags: u16, cells: usize) -> usize
-    ensures { result ≡ cond (eqb flags 0) 0 cells }
-{
-    if flags == 0 { 0 } else { cells }
-}
-
-// The bled cells of the flagged ones: from the highest down, a flagged cell bleeds unless the next higher one does.
+// The bled cells of the flagged ones: from the highest down, a flagged cell bleeds unless one of the two next higher ones does.
 fn bled_of(flags: u16, cells: usize) -> u16
     requires { cells ≤ 10 }
     ensures { result ≡ number (bled (marks cells flags)) }
 {
+    if flags == 0 {
+        return 0;
+    }
     let mut out = 0;
-    let mut i = cells_to_search(flags, cells);
-    while 0 < i {
-        i -= 1;
+    for i in (0..cells).rev() {
         // the two next higher cells are the last two bits of those above
         let bleeds = lists::mark_at(flags, i) & (out % 4 == 0);
         out = mark_next(bleeds, out);
@@ -122,7 +96,7 @@ fn bled_of(flags: u16, cells: usize) -> u16
     out
 }
 
-// This place's cell is the lowest so far, where it is one.
+// This place's cell is the lowest so far, where it is one; 0 is none.
 pub fn lower_to(hit: bool, at: usize, low: u8) -> u8
     requires { at < 10 }
     ensures { result ≡ cond hit (at + 1) low }
@@ -130,14 +104,13 @@ pub fn lower_to(hit: bool, at: usize, low: u8) -> u8
     if hit { at as u8 + 1 } else { low }
 }
 
-// The lowest cell of a set, or 0.
+// The lowest cell of a set; 0 for none, as an entry of the journal has it. From the highest down, as a garden's counts are gone through: a `find` from the lowest
+// up is plainer, and was tried: what a closure found in a range of ten could not be told to the definition by a short proof.
 pub fn lowest_of(set: u16) -> u8
     ensures { result ≡ lowest_cell set }
 {
     let mut low = 0;
-    let mut i = 10;
-    while 0 < i {
-        i -= 1;
+    for i in (0..10).rev() {
         low = lower_to(lists::mark_at(set, i), i, low);
     }
     low
@@ -158,14 +131,14 @@ pub fn sweep(s: Settings, elapsed: u32, cells: [Cell; 10], flags: u16, mv: &[u32
     let mut uv_stood = 0;
     let mut low = 0;
     let n = cell_count(mv.len());
-    let mut i = n;
-    while 0 < i {
-        i -= 1;
+    for i in (0..n).rev() {
         let v = mv[i];
         let ov_run = runs::advance(next[i].ov, ov < v, elapsed);
         let uv_run = runs::advance(next[i].uv, v < uv, elapsed);
-        next[i].ov = ov_run;
-        next[i].uv = uv_run;
+        next[i] = Cell {
+            ov: ov_run,
+            uv: uv_run,
+        };
         ov_stood = mark_next(runs::has_stood(ov_delay, ov_run), ov_stood);
         uv_stood = mark_next(runs::has_stood(uv_delay, uv_run), uv_stood);
         low = mark_next(v < ov_release, low);
@@ -176,8 +149,8 @@ pub fn sweep(s: Settings, elapsed: u32, cells: [Cell; 10], flags: u16, mv: &[u32
         flags: flagged,
         // behind the pass, as cells are seldom flagged
         bled: bled_of(flagged, n),
-        ov_stood: ov_stood,
-        uv_stood: uv_stood,
+        ov_stood,
+        uv_stood,
     }
 }
 
@@ -185,12 +158,10 @@ pub fn sweep(s: Settings, elapsed: u32, cells: [Cell; 10], flags: u16, mv: &[u32
 fn no_runs(cells: [Cell; 10]) -> bool
     ensures { result ≡ no_runs cells }
 {
+    // every cell is looked at: a test that may stop early makes a branch of each
     let mut none = true;
-    let mut i = 0;
-    while i < 10 {
-        let c = cells[i];
-        none = none & ((c.ov == 0) & (c.uv == 0));
-        i += 1;
+    for c in &cells {
+        none &= (c.ov == 0) & (c.uv == 0);
     }
     none
 }
@@ -206,6 +177,5 @@ pub fn calm(s: Settings, cells: [Cell; 10], span: Span) -> bool
 pub fn fresh_cells() -> [Cell; 10]
     ensures { result ≡ no_cells }
 {
-    let cell = Cell { ov: 0, uv: 0 };
-    [cell; 10]
+    [Cell { ov: 0, uv: 0 }; 10]
 }

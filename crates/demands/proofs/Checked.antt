@@ -4,12 +4,11 @@ use Prim.Native.Nat.{ℕ, zero, suc, ◌+◌, ◌<◌}
 use native.Mathlib.Nat.{not-suc-le-zero, le_of_suc-le-suc}
 use native.Mathlib.Omega.{arith}
 use mathlib.Core.Path.{◌≡◌, refl, sym, ap, ap₂, ◌∙◌, subst}
-use mathlib.Core.Bool.{Bool, true, true≢false, cond, ◌&&◌}
+use mathlib.Core.Bool.{true, true≢false, cond}
 use mathlib.Core.List.{List, [], ◌∷◌, map}
-use lib.Dec.{eqb}
 use lib.ListN.{length, drop, length-map, length-replicate}
-use borrow.Author.Tests.{eqb-true, eq-eqb}
-use Rattle.lists.proofs.Split.{split, both}
+use borrow.Author.Tests.{eq-eqb}
+use Rattle.lists.proofs.Split.{split}
 use Rattle.refusal.specs.Said.{Said}
 use Rattle.format.specs.Format as format
 use Rattle.format.specs.Read.{acts_in}
@@ -17,31 +16,13 @@ use Rattle.board.specs.declared.Board.{Board}
 use Rattle.board.specs.Sample.{fresh}
 use Rattle.stack.specs.Open.{opened, open_row}
 use Rattle.replay.specs.declared.Checked as told
-use Rattle.replay.specs.Check.{plans_in, said_on, row_on, same_list, same, right, wrong_after, checked, check_of}
+use Rattle.replay.specs.Check.{plans_in, said_on, row_on, right, wrong_after, checked, check_of}
 use Rattle.replay.proofs.Checks.{check-told, plans-open}
+use Rattle.replay.proofs.Same.{same-is, is_same}
 use Rattle.demands.specs.Acts.{outcome, next, opened_row, answers}
 use Rattle.demands.specs.Demands.{opens}
 use Rattle.demands.specs.Checked.{act_by, acts_by, rightly, recordedly, said_at, FirstWrong, ChecksRight}
 use Rattle.demands.proofs.Demanded.{demand2}
-
--- ---- the same answer
-same_lists : (xs ys : List ℕ) → same_list xs ys ≡ true → xs ≡ ys
-same_lists [] [] e = refl
-same_lists [] (y ∷ ys) e = absurd (true≢false (sym e))
-same_lists (x ∷ xs) [] e = absurd (true≢false (sym e))
-same_lists (x ∷ xs) (y ∷ ys) e = let h = both (eqb x y) (same_list xs ys) e in ap₂ (λ (z : ℕ) (zs : List ℕ). z ∷ zs) (eqb-true x y h.0) (same_lists xs ys h.1)
-
-list_same : (xs : List ℕ) → same_list xs xs ≡ true
-list_same [] = refl
-list_same (x ∷ xs) = rw (eq-eqb x x refl, list_same xs)
-
-same-is : (a b : Said) → same a b ≡ true → a ≡ b
-same-is a b e =
-    let h = both (eqb a.number b.number) (same_list a.values b.values) e in
-    ap₂ (λ (n : ℕ) (vs : List ℕ). record { number = n; values = vs }) (eqb-true a.number b.number h.0) (same_lists a.values b.values h.1)
-
-is_same : (a b : Said) → a ≡ b → same a b ≡ true
-is_same a b e = rw e (ap₂ (λ (x y : Bool). x && y) (eq-eqb b.number b.number refl) (list_same b.values))
 
 -- ---- an act of a recording is an act of the demands
 said-so : (row : List Board) (s : format.Sent) → (outcome row (act_by s)).said ≡ said_on row s

@@ -12,7 +12,7 @@ use Rattle.lists.proofs.Split.{split, both, not_yes}
 use Rattle.refusal.specs.Said.{Said, Bar, bar, accepts, refuses, first, judged, unless_refused}
 use Rattle.journal.specs.Ring as journal
 use Rattle.board.specs.declared.Board.{Board}
-use Rattle.board.specs.Plan.{Plan}
+use Rattle.board.specs.declared.Plan.{Plan}
 use Rattle.board.specs.declared.Readings.{Readings}
 use Rattle.board.specs.Sample.{reading_bars}
 use Rattle.frame.specs.Frame.{byte, writes}

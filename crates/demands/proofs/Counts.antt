@@ -13,7 +13,8 @@ use Rattle.lists.specs.Compare.{outside}
 use Rattle.lists.specs.Every.{every}
 use Rattle.lists.proofs.Split.{split, both}
 use Rattle.board.specs.declared.Board.{Board}
-use Rattle.board.specs.Plan.{Plan, bad_plan, plan_of, stand_alone}
+use Rattle.board.specs.declared.Plan.{Plan}
+use Rattle.board.specs.Plan.{bad_plan, plan_of, stand_alone}
 use Rattle.board.specs.Sample.{fresh}
 use Rattle.board.proofs.Counts.{plan-stands}
 use Rattle.stack.specs.Row.{bad_count}

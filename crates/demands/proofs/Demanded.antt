@@ -11,7 +11,8 @@ use Rattle.lists.specs.Every.{every}
 use Rattle.lists.proofs.Split.{both}
 use Rattle.refusal.specs.Said.{Bar, bar, first, unless_refused}
 use Rattle.board.specs.declared.Board.{Board}
-use Rattle.board.specs.Plan.{Plan, bad_plan, plan_of}
+use Rattle.board.specs.declared.Plan.{Plan}
+use Rattle.board.specs.Plan.{bad_plan, plan_of}
 use Rattle.board.specs.Sample.{fresh, bad_board}
 use Rattle.stack.specs.Row.{bad_count, good_row, place_of}
 use Rattle.stack.specs.Open.{good_plans, opened, open_row}

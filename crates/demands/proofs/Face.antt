@@ -19,8 +19,11 @@ use Rattle.journal.specs.Ring as journal
 use Rattle.journal.proofs.Laws.{listing-short}
 use Rattle.board.specs.declared.Board.{Board}
 use Rattle.board.specs.declared.Readings.{Readings}
-use Rattle.board.specs.declared.Answer.{Answer}
-use Rattle.board.specs.Plan.{Plan, plan_of}
+use Rattle.std.specs.Prelude.{Result}
+use Rattle.refusal.specs.declared.Refusal.{Refusal}
+use Rattle.board.specs.declared.Sampled.{Sampled}
+use Rattle.board.specs.declared.Plan.{Plan}
+use Rattle.board.specs.Plan.{plan_of}
 use Rattle.board.specs.Sample.{fresh, bad_board, reading_bars, sample_bars, sample_values, board_next, answer_said, answer_saying, sample_of}
 use Rattle.reading.specs.Reading.{summary_of, read_of, whole_said}
 use Rattle.reading.specs.Line.{line_of, line_said}
@@ -127,7 +130,7 @@ unfolding sample_number sample_out board_number board_out frame_number list_numb
 call-is row good (sample_call n x mv out) so = (refl, refl)
 call-is row good (record_call at x mv out) so =
     let is = record_is row good at so x mv in
-    (ap (λ (a : Answer). returned (answer_said a).number (in_sample (placed (answer_said a) out (sampled_of (answer_said a))))) is.0, is.1)
+    (ap (λ (a : Result Sampled Refusal). returned (answer_said a).number (in_sample (placed (answer_said a) out (sampled_of (answer_said a))))) is.0, is.1)
 call-is row good (frame_call bytes buffer) so = (refl, refl)
 call-is row good (list_call n words count) so =
     let said = listing_said (list_answer row n words) in

@@ -18,7 +18,8 @@ use Rattle.garden.specs.declared.Device.{Device}
 use Rattle.garden.specs.Device.{ov_inner, uv_inner}
 use Rattle.garden.specs.Filter.{count_next, latch_after, back_after, zeroed}
 use Rattle.board.specs.declared.Readings.{Readings}
-use Rattle.board.specs.Plan.{Plan, is_host, is_garden}
+use Rattle.board.specs.declared.Plan.{Plan}
+use Rattle.board.specs.Plan.{is_host, is_garden}
 use Rattle.demands.specs.Paper.{sampled, framed, History, working, spends, Sample, sample_of, since, holds, run_of, counted, past_level, inside, counts, Filter, device, count_at, trips, counting, back_at, recovers, recovering, filter, latched, kept}
 use Rattle.demands.specs.Garden.{reads_past, own_next, Locality, AsBefore}
 use Rattle.demands.proofs.Lists.{all-at, some_at, some-yes}

@@ -37,7 +37,8 @@ use Rattle.latches.proofs.Packed.{latches-kept}
 use Rattle.board.specs.declared.Board.{Board}
 use Rattle.board.specs.declared.Currents.{Currents}
 use Rattle.board.specs.declared.Readings.{Readings}
-use Rattle.board.specs.Plan.{Plan, is_host, is_garden, plan_of}
+use Rattle.board.specs.declared.Plan.{Plan}
+use Rattle.board.specs.Plan.{is_host, is_garden, plan_of}
 use Rattle.board.specs.Shunt.{shunt_above}
 use Rattle.board.specs.Host as host
 use Rattle.board.specs.Host.{status_by, holds_on, last_of, cleared_of}

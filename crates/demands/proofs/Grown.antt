@@ -25,7 +25,8 @@ use Rattle.latches.specs.Tallies.{tallies_next}
 use Rattle.latches.proofs.Packed.{latches-kept, latch-of}
 use Rattle.board.specs.declared.Board.{Board}
 use Rattle.board.specs.declared.Readings.{Readings}
-use Rattle.board.specs.Plan.{Plan, is_garden, bad_plan}
+use Rattle.board.specs.declared.Plan.{Plan}
+use Rattle.board.specs.Plan.{is_garden, bad_plan}
 use Rattle.board.specs.Host.{status_by, last_of}
 use Rattle.board.specs.Sample.{attached, swept_at, risen_by, entered, runs_next, grown_at, grown_latches, garden_with, reached_cell, garden_next, board_next, runs_status, garden_status, sample_values}
 use Rattle.board.proofs.Counts.{good-plan, good-trigger}

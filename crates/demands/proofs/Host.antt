@@ -11,7 +11,8 @@ use Rattle.settings.specs.Faults.{Fault, SCD, OCD, OV, UV, OT}
 use Rattle.latches.specs.Latches.{latch_next}
 use Rattle.latches.specs.Control.{clear_bit, dsg_bit, chg_bit}
 use Rattle.board.specs.declared.Readings.{Readings}
-use Rattle.board.specs.Plan.{Plan, is_garden}
+use Rattle.board.specs.declared.Plan.{Plan}
+use Rattle.board.specs.Plan.{is_garden}
 use Rattle.board.specs.Host.{holds_on}
 use Rattle.demands.specs.Paper.{Entry, sampled, framed, History, working, sample_of, stands, lets_go, clear_set, takes_down, last_sample, over_by, clears, latched, rises, dsg_set, chg_set}
 use Rattle.demands.specs.Host.{Hosted, Written, alone, AsBefore}

@@ -15,7 +15,8 @@ use Rattle.journal.proofs.Laws.{last-listed, latest-all, words_of}
 use Rattle.board.specs.declared.Readings.{Readings}
 use Rattle.board.specs.Latchings.{number_top, cause}
 use Rattle.board.specs.Latchings as sample
-use Rattle.board.specs.Plan.{Plan, is_garden}
+use Rattle.board.specs.declared.Plan.{Plan}
+use Rattle.board.specs.Plan.{is_garden}
 use Rattle.board.proofs.Counts.{good-plan}
 use Rattle.demands.specs.Paper as paper
 use Rattle.demands.specs.Paper.{sampled, framed, History, sample_of, stood_delay, count_at, filter, sample_number, lowest_at, fault_cell, latchings}

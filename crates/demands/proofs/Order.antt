@@ -5,7 +5,8 @@ use mathlib.Core.Path.{◌≡◌, refl, sym, ap, ap₂, ◌∙◌, subst}
 use mathlib.Core.Bool.{Bool, true}
 use mathlib.Core.List.{List, [], ◌∷◌, ◌++◌, map, head-eq_of_cons-eq, tail-eq_of_cons-eq}
 use lib.ListN.{length, length-map}
-use Rattle.board.specs.Plan.{Plan, plan_of}
+use Rattle.board.specs.declared.Plan.{Plan}
+use Rattle.board.specs.Plan.{plan_of}
 use Rattle.demands.specs.Acts.{Act, reading, Outcome, outcome, next, opened_row, final, answers}
 use Rattle.demands.specs.Shuffle.{picked, Shuffle, Free, TakenOut}
 use Rattle.demands.specs.Tied.{tied}

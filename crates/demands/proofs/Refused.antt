@@ -23,7 +23,8 @@ use Rattle.board.specs.declared.Board.{Board}
 use Rattle.board.specs.declared.Readings.{Readings}
 use Rattle.board.specs.Shunt.{shunt_outside}
 use Rattle.lists.specs.Compare.{outside}
-use Rattle.board.specs.Plan.{Plan, is_host, is_garden, bad_garden, bad_plan, plan_of}
+use Rattle.board.specs.declared.Plan.{Plan}
+use Rattle.board.specs.Plan.{is_host, is_garden, bad_garden, bad_plan, plan_of}
 use Rattle.board.specs.Sample.{plan_in, bad_board, out_of_range, reading_bars}
 use Rattle.frame.specs.Frame.{byte, board_of, writes, frame_bars}
 use Rattle.frame.specs.Check.{check_of}

@@ -12,7 +12,7 @@ use Rattle.settings.specs.Faults.{Fault, SCD, OCD, OV, UV, OT}
 use Rattle.latches.specs.Tallies.{tally_top}
 use Rattle.journal.specs.Ring.{Entry}
 use Rattle.board.specs.Latchings as sample
-use Rattle.board.specs.Plan.{Plan}
+use Rattle.board.specs.declared.Plan.{Plan}
 use Rattle.demands.specs.Paper.{sampled, framed, History, how_many, latching, sample_number, fault_cell, latchings}
 use Rattle.demands.specs.Tallied.{over_faults, Tallied}
 

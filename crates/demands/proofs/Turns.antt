@@ -17,7 +17,8 @@ use Rattle.runs.specs.Run.{run, stretch, lasting, past}
 use Rattle.lists.specs.Each.{each, some}
 use Rattle.cells.specs.Cells.{reading_at}
 use Rattle.board.specs.declared.Readings.{Readings}
-use Rattle.board.specs.Plan.{Plan, is_garden}
+use Rattle.board.specs.declared.Plan.{Plan}
+use Rattle.board.specs.Plan.{is_garden}
 use Rattle.board.proofs.Signed.{above-none}
 use Rattle.demands.specs.Paper.{sampled, framed, History, working, spends, Sample, sample_of, since, holds, stood_delay, places, clears, latched}
 use Rattle.demands.specs.Marked.{more, one}

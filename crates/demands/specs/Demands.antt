@@ -8,7 +8,8 @@ use Rattle.latches.specs.Latches.{any_latch, chg_on, dsg_on}
 use Rattle.latches.specs.Tallies.{tallies}
 use Rattle.journal.specs.Ring as journal
 use Rattle.board.specs.declared.Board.{Board}
-use Rattle.board.specs.Plan.{Plan, plan_of}
+use Rattle.board.specs.declared.Plan.{Plan}
+use Rattle.board.specs.Plan.{plan_of}
 use Rattle.frame.specs.Frame.{byte, writes}
 use Rattle.frame.specs.Reply.{reply_bytes}
 use Rattle.registers.specs.Map.{Shown, read_value}

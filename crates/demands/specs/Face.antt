@@ -10,7 +10,7 @@ use Rattle.stack.specs.Open.{open_bars, open_row, count_plans, open_counts_row}
 use Rattle.stack.specs.Sample.{sample_answer, sample_row}
 use Rattle.stack.specs.Frame.{frame_row, frame_buffer}
 use Rattle.stack.specs.List.{list_buffer}
-use Rattle.adomvik.specs.declared.Sampled.{Sampled}
+use Rattle.board.specs.declared.Sampled.{Sampled}
 use Rattle.adomvik.specs.declared.Reading.{Reading}
 use Rattle.adomvik.specs.declared.Up.{Up}
 use Rattle.adomvik.specs.Placed.{placed, sampled_of, reading_of, up_in}

@@ -9,7 +9,8 @@ use Rattle.settings.specs.Faults.{Fault, SCD, OCD, OV, UV, OT}
 use Rattle.runs.specs.Stored.{run_next}
 use Rattle.cells.specs.Cells.{reading_at}
 use Rattle.board.specs.declared.Readings.{Readings}
-use Rattle.board.specs.Plan.{Plan, is_garden}
+use Rattle.board.specs.declared.Plan.{Plan}
+use Rattle.board.specs.Plan.{is_garden}
 use Rattle.demands.specs.Paper.{sampled, framed, History, working, spends, sample_of, counted, past_level, inside, counts, device, filter, latched, kept}
 
 -- ---- locality

@@ -7,7 +7,8 @@ use Rattle.journal.specs.Ring as journal
 use Rattle.board.specs.declared.Readings.{Readings}
 use Rattle.board.specs.Latchings.{number_top, cause}
 use Rattle.board.specs.Latchings as sample
-use Rattle.board.specs.Plan.{Plan, bad_plan}
+use Rattle.board.specs.declared.Plan.{Plan}
+use Rattle.board.specs.Plan.{bad_plan}
 use Rattle.demands.specs.Paper.{sampled, framed, History, latching, sample_number, fault_cell, latchings, given}
 
 -- something is so of each entry

@@ -8,7 +8,7 @@ use Rattle.lists.specs.Marks.{bit, number}
 use Rattle.lists.specs.Each.{each}
 use Rattle.cells.specs.Bleed.{bled}
 use Rattle.latches.specs.Latches.{register0}
-use Rattle.board.specs.Plan.{Plan}
+use Rattle.board.specs.declared.Plan.{Plan}
 use Rattle.board.specs.Shunt.{shunt_above}
 use Rattle.demands.specs.Paper.{Entry, sampled, framed, History, working, latched, status, flags_at}
 use Rattle.demands.specs.Host.{alone}

@@ -25,7 +25,8 @@ use Rattle.journal.specs.Ring as journal
 use Rattle.board.specs.declared.Board.{Board}
 use Rattle.board.specs.declared.Readings.{Readings}
 use Rattle.board.specs.declared.Last.{Last}
-use Rattle.board.specs.Plan.{Plan, is_host, is_garden}
+use Rattle.board.specs.declared.Plan.{Plan}
+use Rattle.board.specs.Plan.{is_host, is_garden}
 use Rattle.board.specs.Host.{holds_on, last_of, no_last}
 use Rattle.board.specs.Shunt.{shunt_above}
 use Rattle.board.specs.Latchings as sample

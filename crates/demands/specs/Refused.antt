@@ -5,7 +5,8 @@ use Rattle.std.specs.Prelude.{ℕ, zero, suc, ◌+◌, ◌-◌, ◌*◌, ◌<◌
 use Rattle.refusal.specs.Said.{Said, refuses, Bar}
 use Rattle.board.specs.declared.Board.{Board}
 use Rattle.board.specs.declared.Readings.{Readings}
-use Rattle.board.specs.Plan.{Plan, plan_of}
+use Rattle.board.specs.declared.Plan.{Plan}
+use Rattle.board.specs.Plan.{plan_of}
 use Rattle.board.specs.Sample.{plan_in}
 use Rattle.settings.specs.Levels.{ocd_level, scd_level}
 use Rattle.frame.specs.Check.{check_of}

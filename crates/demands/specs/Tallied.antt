@@ -3,7 +3,7 @@
 use Rattle.std.specs.Prelude.{ℕ, ◌+◌, ◌<◌, ◌≡◌, length}
 use Rattle.settings.specs.Faults.{Fault, SCD, OCD, OV, UV, OT}
 use Rattle.latches.specs.Tallies.{tally_top}
-use Rattle.board.specs.Plan.{Plan}
+use Rattle.board.specs.declared.Plan.{Plan}
 use Rattle.demands.specs.Paper.{History, how_many, latching, tallied, latchings}
 
 -- a number of each fault, added up

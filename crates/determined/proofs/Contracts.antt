@@ -1,9 +1,18 @@
--- What every public contract determines, of the functions that take and give plain values or read a slice of numbers: the result.
--- Each is cited with what its callers learn from its contract (`Learnt`). Those that change what they are lent stand in Lent.
+-- What every public contract determines, of the functions that take and give plain values or are shown what they read: the result; and of `put_listing` and `note_reading`, which write
+-- into what they are lent, that too. Each is cited with what its callers learn from its contract (`Learnt`). The others that change what they are lent stand in Lent.
 -- Assumes nothing.
-use mathlib.Core.Path.{◌≡◌}
+use Prim.Native.Nat.{ℕ}
+use native.Mathlib.Omega.{arith}
+use mathlib.Core.Path.{◌≡◌, ◌∙◌, refl, sym, ap}
+use mathlib.Core.Bool.{true, true≢false}
+use Rattle.std.proofs.Common.{Result, Ok, Err}
+use Rattle.lists.specs.Compare.{outside}
+use Rattle.reader.specs.declared.Fault.{Fault}
+use Rattle.reader.specs.declared.Kind.{Kind}
+use Rattle.reader.specs.declared.Kind.TheVariants.{Sample, Frame, Reading}
+use Rattle.reader.specs.Kinds.{code_of, Decodes}
 use Rattle.determined.proofs.Lent.{agree}
-use Rattle.refusal.proofs.number.Reads as refusal-number
+use Rattle.refusal.proofs.U8FromRefusal.from.Reads as refusal-number
 use Rattle.settings.proofs.Settings.ov_level.Reads as settings-ov-level
 use Rattle.settings.proofs.Settings.ov_hysteresis.Reads as settings-ov-hysteresis
 use Rattle.settings.proofs.Settings.ov_release.Reads as settings-ov-release
@@ -33,10 +42,13 @@ use Rattle.cells.proofs.lowest_of.Reads as cells-lowest-of
 use Rattle.cells.proofs.cell_count.Reads as cells-cell-count
 use Rattle.garden.proofs.grow.Reads as garden-grow
 use Rattle.journal.proofs.blank.Reads as journal-blank
-use Rattle.journal.proofs.enter.Reads as journal-enter
-use Rattle.journal.proofs.listed.Reads as journal-listed
+use Rattle.journal.proofs.Journal.enter.Reads as journal-enter
+use Rattle.journal.proofs.Journal.listed.Reads as journal-listed
+use Rattle.journal.proofs.Journal.put_listing.Reads as journal-put-listing
+use Rattle.board.proofs.PlanFromU32.from.Reads as board-plan
 use Rattle.latches.proofs.latches_of.Reads as latches-latches-of
 use Rattle.latches.proofs.any_latch.Reads as latches-any-latch
+use Rattle.latches.proofs.any_up.Reads as latches-any-up
 use Rattle.latches.proofs.chg_on.Reads as latches-chg-on
 use Rattle.latches.proofs.dsg_on.Reads as latches-dsg-on
 use Rattle.latches.proofs.byte_of.Reads as latches-byte-of
@@ -49,10 +61,7 @@ use Rattle.board.proofs.fresh_board.Reads as board-fresh-board
 use Rattle.frame.proofs.check_all.Reads as frame-check-all
 use Rattle.frame.proofs.check_byte.Reads as frame-check-byte
 use Rattle.frame.proofs.take_apart.Reads as frame-take-apart
-use Rattle.frame.proofs.refused.Reads as Frame-refused
-use Rattle.frame.proofs.request_of.Reads as frame-request-of
-use Rattle.frame.proofs.refusal.Reads as frame-refusal
-use Rattle.held.proofs.open_held.Reads as held-open-held
+use Rattle.held.proofs.Stack.open.Reads as held-open
 use Rattle.board.proofs.bad_board.Reads as board-bad-board
 use Rattle.board.proofs.bad_plan.Reads as board-bad-plan
 use Rattle.board.proofs.stand_alone.Reads as board-stand-alone
@@ -60,32 +69,31 @@ use Rattle.board.proofs.host.Reads as board-host
 use Rattle.board.proofs.garden_plan.Reads as board-garden-plan
 use Rattle.board.proofs.is_host.Reads as board-is-host
 use Rattle.board.proofs.is_garden.Reads as board-is-garden
-use Rattle.board.proofs.may_dsg.Reads as board-may-dsg
-use Rattle.board.proofs.may_chg.Reads as board-may-chg
-use Rattle.board.proofs.status_by.Reads as board-status-by
+use Rattle.board.proofs.Board.may_dsg.Reads as board-may-dsg
+use Rattle.board.proofs.Board.may_chg.Reads as board-may-chg
+use Rattle.board.proofs.Board.status.Reads as board-status
 use Rattle.board.proofs.cleared.Reads as board-cleared
 use Rattle.stack.proofs.bad_plans.Reads as stack-bad-plans
+use Rattle.reader.proofs.Told.{step-once, read-once}
+use Rattle.reader.proofs.U8FromFault.from.Reads as reader-fault
+use Rattle.reader.proofs.KindTryFromU8.try_from.Reads as reader-kind
 use Rattle.reader.proofs.byte_at.Reads as reader-byte-at
 use Rattle.reader.proofs.two_at.Reads as reader-two-at
 use Rattle.reader.proofs.four_at.Reads as reader-four-at
 use Rattle.reader.proofs.act_step.Reads as reader-act-step
 use Rattle.reader.proofs.read_back.Reads as reader-read-back
 use Rattle.recorder.proofs.note_other.Reads as recorder-note-other
+use Rattle.recorder.proofs.note_reading.Reads as recorder-note-reading
+use Rattle.adomvik.proofs.ReadingFromWhole.from.Reads as adomvik-reading
+use Rattle.adomvik.proofs.UpFromLine.from.Reads as adomvik-up
 use Rattle.adomvik.proofs.adomvik_note_other.Reads as adomvik-note-other
-use Rattle.held.proofs.row_count.Reads as held-row-count
-use Rattle.held.proofs.sample_held.Reads as held-sample-held
-use Rattle.held.proofs.read_held.Reads as held-read-held
-use Rattle.acts.proofs.sample_act.Reads as acts-sample-act
-use Rattle.acts.proofs.frame_act.Reads as acts-frame-act
-use Rattle.acts.proofs.reading_act.Reads as acts-reading-act
-use Rattle.acts.proofs.opening_told.Reads as acts-opening-told
+use Rattle.held.proofs.Stack.row_count.Reads as held-row-count
+use Rattle.held.proofs.Stack.read.Reads as held-read
+use Rattle.held.proofs.Stack.none.Reads as held-none
 use Rattle.lines.proofs.line_at.Reads as lines-line-at
-use Rattle.lines.proofs.end_line.Reads as lines-end-line
-use Rattle.lines.proofs.new_cutter.Reads as lines-new-cutter
-use Rattle.lines.proofs.emptied.Reads as lines-emptied
-use Rattle.lines.proofs.kept_len.Reads as lines-kept-len
+use Rattle.lines.proofs.Cutter.new.Reads as lines-new
+use Rattle.lines.proofs.Cutter.kept_len.Reads as lines-kept-len
 use Rattle.lines.proofs.line_end.Reads as lines-line-end
-use Rattle.lines.proofs.keep.Reads as lines_keep
 
 -- ---- refusal
 pub refusal-number-one : (κs : _) (a : _) (r t : _) (s u : _) → refusal-number.Learnt κs a r s → refusal-number.Learnt κs a t u → r ≡ t
@@ -182,8 +190,11 @@ garden-grow-one κs a r t s u = agree
 pub journal-blank-one : (κs : _) (a : _) (r t : _) (s u : _) → journal-blank.Learnt κs a r s → journal-blank.Learnt κs a t u → r ≡ t
 journal-blank-one κs a r t s u = agree
 
-pub journal-enter-one : (κs : _) (a : _) (r t : _) (s u : _) → journal-enter.Learnt κs a r s → journal-enter.Learnt κs a t u → r ≡ t
+pub journal-enter-one : (κs : _) (a : _) (r t : _) (s u : _) → journal-enter.Learnt κs a r s → journal-enter.Learnt κs a t u → s.0.now ≡ u.0.now
 journal-enter-one κs a r t s u = agree
+
+pub journal-put-listing-one : (κs : _) (a : _) (r t : _) (s u : _) → journal-put-listing.Learnt κs a r s → journal-put-listing.Learnt κs a t u → (r ≡ t) × (s.1.0.now ≡ u.1.0.now)
+journal-put-listing-one κs a r t s u p q = (agree p.0 q.0, agree p.1 q.1)
 
 pub journal-listed-one : (κs : _) (a : _) (r t : _) (s u : _) → journal-listed.Learnt κs a r s → journal-listed.Learnt κs a t u → r ≡ t
 journal-listed-one κs a r t s u = agree
@@ -194,6 +205,9 @@ latches-latches-of-one κs a r t s u = agree
 
 pub latches-any-latch-one : (κs : _) (a : _) (r t : _) (s u : _) → latches-any-latch.Learnt κs a r s → latches-any-latch.Learnt κs a t u → r ≡ t
 latches-any-latch-one κs a r t s u = agree
+
+pub latches-any-up-one : (κs : _) (a : _) (r t : _) (s u : _) → latches-any-up.Learnt κs a r s → latches-any-up.Learnt κs a t u → r ≡ t
+latches-any-up-one κs a r t s u = agree
 
 pub latches-chg-on-one : (κs : _) (a : _) (r t : _) (s u : _) → latches-chg-on.Learnt κs a r s → latches-chg-on.Learnt κs a t u → r ≡ t
 latches-chg-on-one κs a r t s u = agree
@@ -226,6 +240,9 @@ board-bad-board-one κs a r t s u = agree
 pub board-bad-plan-one : (κs : _) (a : _) (r t : _) (s u : _) → board-bad-plan.Learnt κs a r s → board-bad-plan.Learnt κs a t u → r ≡ t
 board-bad-plan-one κs a r t s u = agree
 
+pub board-plan-one : (κs : _) (a : _) (r t : _) (s u : _) → board-plan.Learnt κs a r s → board-plan.Learnt κs a t u → r ≡ t
+board-plan-one κs a r t s u = agree
+
 pub board-stand-alone-one : (κs : _) (a : _) (r t : _) (s u : _) → board-stand-alone.Learnt κs a r s → board-stand-alone.Learnt κs a t u → r ≡ t
 board-stand-alone-one κs a r t s u = agree
 
@@ -247,8 +264,8 @@ board-may-dsg-one κs a r t s u = agree
 pub board-may-chg-one : (κs : _) (a : _) (r t : _) (s u : _) → board-may-chg.Learnt κs a r s → board-may-chg.Learnt κs a t u → r ≡ t
 board-may-chg-one κs a r t s u = agree
 
-pub board-status-by-one : (κs : _) (a : _) (r t : _) (s u : _) → board-status-by.Learnt κs a r s → board-status-by.Learnt κs a t u → r ≡ t
-board-status-by-one κs a r t s u = agree
+pub board-status-one : (κs : _) (a : _) (r t : _) (s u : _) → board-status.Learnt κs a r s → board-status.Learnt κs a t u → r ≡ t
+board-status-one κs a r t s u = agree
 
 pub board-cleared-one : (κs : _) (a : _) (r t : _) (s u : _) → board-cleared.Learnt κs a r s → board-cleared.Learnt κs a t u → r ≡ t
 board-cleared-one κs a r t s u = agree
@@ -266,15 +283,6 @@ frame-check-byte-one κs a r t s u = agree
 pub frame-take-apart-one : (κs : _) (a : _) (r t : _) (s u : _) → frame-take-apart.Learnt κs a r s → frame-take-apart.Learnt κs a t u → r ≡ t
 frame-take-apart-one κs a r t s u = agree
 
-pub frame-refused-one : (κs : _) (a : _) (r t : _) (s u : _) → Frame-refused.Learnt κs a r s → Frame-refused.Learnt κs a t u → r ≡ t
-frame-refused-one κs a r t s u = agree
-
-pub frame-request-of-one : (κs : _) (a : _) (r t : _) (s u : _) → frame-request-of.Learnt κs a r s → frame-request-of.Learnt κs a t u → r ≡ t
-frame-request-of-one κs a r t s u = agree
-
-pub frame-refusal-one : (κs : _) (a : _) (r t : _) (s u : _) → frame-refusal.Learnt κs a r s → frame-refusal.Learnt κs a t u → r ≡ t
-frame-refusal-one κs a r t s u = agree
-
 -- ---- stack, recorder and adomvik
 pub stack-bad-plans-one : (κs : _) (a : _) (r t : _) (s u : _) → stack-bad-plans.Learnt κs a r s → stack-bad-plans.Learnt κs a t u → r ≡ t
 stack-bad-plans-one κs a r t s u = agree
@@ -282,10 +290,48 @@ stack-bad-plans-one κs a r t s u = agree
 pub recorder-note-other-one : (κs : _) (a : _) (r t : _) (s u : _) → recorder-note-other.Learnt κs a r s → recorder-note-other.Learnt κs a t u → r ≡ t
 recorder-note-other-one κs a r t s u = agree
 
+pub adomvik-reading-one : (κs : _) (a : _) (r t : _) (s u : _) → adomvik-reading.Learnt κs a r s → adomvik-reading.Learnt κs a t u → r ≡ t
+adomvik-reading-one κs a r t s u = agree
+
+pub adomvik-up-one : (κs : _) (a : _) (r t : _) (s u : _) → adomvik-up.Learnt κs a r s → adomvik-up.Learnt κs a t u → r ≡ t
+adomvik-up-one κs a r t s u = agree
+
 pub adomvik-note-other-one : (κs : _) (a : _) (r t : _) (s u : _) → adomvik-note-other.Learnt κs a r s → adomvik-note-other.Learnt κs a t u → r ≡ t
 adomvik-note-other-one κs a r t s u = agree
 
+pub recorder-note-reading-one : (κs : _) (a : _) (r t : _) (s u : _) → recorder-note-reading.Learnt κs a r s → recorder-note-reading.Learnt κs a t u → (r ≡ t) × (s.1.0.now ≡ u.1.0.now)
+recorder-note-reading-one κs a r t s u p q = (agree p.0 q.0, agree p.1 q.1)
+
 -- ---- reader
+pub reader-fault-one : (κs : _) (a : _) (r t : _) (s u : _) → reader-fault.Learnt κs a r s → reader-fault.Learnt κs a t u → r ≡ t
+reader-fault-one κs a r t s u = agree
+
+-- no two kinds have one byte, and no kind has one that is not from 1 to 3
+kind-once : (k l : Kind) → code_of k ≡ code_of l → k ≡ l
+kind-once Sample Sample e = refl
+kind-once Frame Frame e = refl
+kind-once Reading Reading e = refl
+kind-once Sample Frame e = absurd (omega (arith, e))
+kind-once Sample Reading e = absurd (omega (arith, e))
+kind-once Frame Sample e = absurd (omega (arith, e))
+kind-once Frame Reading e = absurd (omega (arith, e))
+kind-once Reading Sample e = absurd (omega (arith, e))
+kind-once Reading Frame e = absurd (omega (arith, e))
+
+kind-inside : (k : Kind) (code : ℕ) → code_of k ≡ code → outside 1 3 code ≡ true → {A : Type 0} → A
+kind-inside Sample code e f = absurd (true≢false (sym (rw (← e) at f)))
+kind-inside Frame code e f = absurd (true≢false (sym (rw (← e) at f)))
+kind-inside Reading code e f = absurd (true≢false (sym (rw (← e) at f)))
+
+kind-decoded : (code : ℕ) (r t : Result Kind Fault) → Decodes code r → Decodes code t → r ≡ t
+kind-decoded code (Ok k) (Ok l) p q = ap Ok (kind-once k l (p ∙ sym q))
+kind-decoded code (Ok k) (Err f) p q = kind-inside k code p q.1
+kind-decoded code (Err e) (Ok l) p q = kind-inside l code q p.1
+kind-decoded code (Err e) (Err f) p q = ap Err (p.0 ∙ sym q.0)
+
+pub reader-kind-one : (κs : _) (a : _) (r t : _) (s u : _) → reader-kind.Learnt κs a r s → reader-kind.Learnt κs a t u → r ≡ t
+reader-kind-one κs a r t s u p q = kind-decoded _ r t p q
+
 pub reader-byte-at-one : (κs : _) (a : _) (r t : _) (s u : _) → reader-byte-at.Learnt κs a r s → reader-byte-at.Learnt κs a t u → r ≡ t
 reader-byte-at-one κs a r t s u = agree
 
@@ -296,56 +342,34 @@ pub reader-four-at-one : (κs : _) (a : _) (r t : _) (s u : _) → reader-four-a
 reader-four-at-one κs a r t s u = agree
 
 pub reader-act-step-one : (κs : _) (a : _) (r t : _) (s u : _) → reader-act-step.Learnt κs a r s → reader-act-step.Learnt κs a t u → r ≡ t
-reader-act-step-one κs a r t s u = agree
+reader-act-step-one κs a r t s u p q = step-once r t (agree p q)
 
 pub reader-read-back-one : (κs : _) (a : _) (r t : _) (s u : _) → reader-read-back.Learnt κs a r s → reader-read-back.Learnt κs a t u → r ≡ t
-reader-read-back-one κs a r t s u = agree
+reader-read-back-one κs a r t s u p q = read-once _ r t (agree p q)
 
 -- ---- held
-pub held-open-held-one : (κs : _) (a : _) (r t : _) (s u : _) → held-open-held.Learnt κs a r s → held-open-held.Learnt κs a t u → r ≡ t
+pub held-open-held-one : (κs : _) (a : _) (r t : _) (s u : _) → held-open.Learnt κs a r s → held-open.Learnt κs a t u → r ≡ t
 held-open-held-one κs a r t s u = agree
 
 pub held-row-count-one : (κs : _) (a : _) (r t : _) (s u : _) → held-row-count.Learnt κs a r s → held-row-count.Learnt κs a t u → r ≡ t
-held-row-count-one κs a r t s u = agree
+held-row-count-one κs a r t s u p q = agree p.0 q.0
 
-pub held-sample-held-one : (κs : _) (a : _) (r t : _) (s u : _) → held-sample-held.Learnt κs a r s → held-sample-held.Learnt κs a t u → r ≡ t
-held-sample-held-one κs a r t s u = agree
+pub held-none-one : (κs : _) (a : _) (r t : _) (s u : _) → held-none.Learnt κs a r s → held-none.Learnt κs a t u → r ≡ t
+held-none-one κs a r t s u = agree
 
-pub held-read-held-one : (κs : _) (a : _) (r t : _) (s u : _) → held-read-held.Learnt κs a r s → held-read-held.Learnt κs a t u → r ≡ t
+pub held-read-held-one : (κs : _) (a : _) (r t : _) (s u : _) → held-read.Learnt κs a r s → held-read.Learnt κs a t u → r ≡ t
 held-read-held-one κs a r t s u = agree
-
--- ---- acts
-pub acts-sample-act-one : (κs : _) (a : _) (r t : _) (s u : _) → acts-sample-act.Learnt κs a r s → acts-sample-act.Learnt κs a t u → r ≡ t
-acts-sample-act-one κs a r t s u = agree
-
-pub acts-frame-act-one : (κs : _) (a : _) (r t : _) (s u : _) → acts-frame-act.Learnt κs a r s → acts-frame-act.Learnt κs a t u → r ≡ t
-acts-frame-act-one κs a r t s u = agree
-
-pub acts-reading-act-one : (κs : _) (a : _) (r t : _) (s u : _) → acts-reading-act.Learnt κs a r s → acts-reading-act.Learnt κs a t u → r ≡ t
-acts-reading-act-one κs a r t s u = agree
-
-pub acts-opening-told-one : (κs : _) (a : _) (r t : _) (s u : _) → acts-opening-told.Learnt κs a r s → acts-opening-told.Learnt κs a t u → r ≡ t
-acts-opening-told-one κs a r t s u = agree
 
 -- ---- lines
 pub lines-line-at-one : (κs : _) (a : _) (r t : _) (s u : _) → lines-line-at.Learnt κs a r s → lines-line-at.Learnt κs a t u → r ≡ t
 lines-line-at-one κs a r t s u = agree
 
 -- ---- lines out of blocks
-pub lines-new-cutter-one : (κs : _) (a : _) (r t : _) (s u : _) → lines-new-cutter.Learnt κs a r s → lines-new-cutter.Learnt κs a t u → r ≡ t
+pub lines-new-cutter-one : (κs : _) (a : _) (r t : _) (s u : _) → lines-new.Learnt κs a r s → lines-new.Learnt κs a t u → r ≡ t
 lines-new-cutter-one κs a r t s u = agree
-
-pub lines-emptied-one : (κs : _) (a : _) (r t : _) (s u : _) → lines-emptied.Learnt κs a r s → lines-emptied.Learnt κs a t u → r ≡ t
-lines-emptied-one κs a r t s u = agree
 
 pub lines-kept-len-one : (κs : _) (a : _) (r t : _) (s u : _) → lines-kept-len.Learnt κs a r s → lines-kept-len.Learnt κs a t u → r ≡ t
 lines-kept-len-one κs a r t s u = agree
 
-pub lines-end-line-one : (κs : _) (a : _) (r t : _) (s u : _) → lines-end-line.Learnt κs a r s → lines-end-line.Learnt κs a t u → r ≡ t
-lines-end-line-one κs a r t s u = agree
-
 pub lines-line-end-one : (κs : _) (a : _) (r t : _) (s u : _) → lines-line-end.Learnt κs a r s → lines-line-end.Learnt κs a t u → r ≡ t
 lines-line-end-one κs a r t s u = agree
-
-pub lines-keep-one : (κs : _) (a : _) (r t : _) (s u : _) → lines_keep.Learnt κs a r s → lines_keep.Learnt κs a t u → r ≡ t
-lines-keep-one κs a r t s u p q = agree p.whole q.whole

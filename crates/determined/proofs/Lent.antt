@@ -1,7 +1,7 @@
 -- What is determined of each public function that changes what it is lent, or walks a lent row: the result and every value at exit.
 -- Each is cited by its whole contract; that of a routine of stack or of an act for C is the form that its own crate shows it to be.
 -- Assumes nothing.
-use Prim.Native.Nat.{ℕ, ◌+◌, ◌*◌, ◌≤◌}
+use Prim.Native.Nat.{ℕ, ◌+◌, ◌≤◌}
 use mathlib.Core.Path.{◌≡◌, refl, sym, ◌∙◌}
 use mathlib.Core.Bool.{true}
 use mathlib.Core.List.{List, [], ◌∷◌}
@@ -9,7 +9,7 @@ use lib.IntN.{ℤ}
 use lib.ListN.{length, take}
 use contract.Lifetimes.{Lfts}
 use denote.RattleType.{RattleType}
-use denote.Builtin.{u8, u16, u32, i32, usize}
+use denote.Builtin.{u8, u16, u32, usize, unit}
 use Rattle.walks.proofs.Form.{Kind, value, shown, handed, behind, Form, Passed}
 use Rattle.walks.proofs.Callee.{on_one, on-record, on_row, of-slice}
 use Rattle.determined.specs.Determined.{Lent, AtExit, lent_at, Takes, Also, gives, Determined, DeterminedIf}
@@ -27,30 +27,32 @@ use Rattle.format.specs.Format.{sample, frame, reading, Noted, noted, recordable
 use Rattle.replay.specs.Check.{check_of, check_row}
 use Rattle.recorder.specs.Recorder.{begin_recorder, begin_memory, note_recorder, note_memory, answer_of, frame_can}
 use Rattle.adomvik.specs.Calls.{open_number, counts_number, sample_number, sample_out, board_number, board_out, frame_number, list_number, read_number, read_out, up_number, up_out}
-use Rattle.held.specs.Held.{framed_of, framed_buffer}
+use Rattle.held.specs.Held.{sampled_of, framed_of, framed_buffer}
+use Rattle.held.specs.contracts.Stack as Stack
+use Rattle.lines.specs.Way.{emptied_of, Kept, Ended}
+use Rattle.lines.specs.contracts.Cutter as Cutter
+use Rattle.held.specs.contracts.Stack.sample as sample-held
+use Rattle.held.specs.contracts.Stack.frame as frame-held
+use Rattle.lines.specs.contracts.Cutter.clear as lines-emptied
+use Rattle.lines.specs.contracts.Cutter.keep as lines-keep
+use Rattle.lines.specs.contracts.Cutter.end_line as lines-end-line
 use Rattle.acts.specs.InPlace.{act_told, act_row}
 use Rattle.puts.specs.Put.{Put}
 use Rattle.text.specs.Way.{placed}
 use Rattle.board.specs.contracts.Board as Board
 use Rattle.board.specs.contracts.Readings as Readings
-use Rattle.board.specs.contracts.Answer as Answer
+use Rattle.board.specs.contracts.Sampled as Sampled
 use Rattle.frame.specs.contracts.Taken as Frame-taken
-use Rattle.frame.specs.contracts.Outcome as Frame-outcome
 use Rattle.frame.specs.contracts.Request as Request
 use Rattle.frame.specs.contracts.Reply as Reply
 use Rattle.reading.specs.contracts.Whole as Whole
 use Rattle.reading.specs.contracts.Line as Line
 use Rattle.recorder.specs.contracts.Recorder as Recorder
-use Rattle.held.specs.contracts.Stack as Stack
-use Rattle.held.specs.contracts.FramedStack as FramedStack
 use Rattle.acts.specs.contracts.Act as Act
 use Rattle.acts.specs.contracts.Told as Told
 use Rattle.stack.proofs.Contracts as stack
 use Rattle.adomvik.proofs.Contracts as adomvik
 use Rattle.frame.specs.contracts.put as frame-put
-use Rattle.journal.specs.contracts.put_listing as put-listing
-use Rattle.journal.specs.contracts.Journal as Journals
-use Rattle.journal.specs.Ring.{listing, words_over}
 use Rattle.board.specs.contracts.sample_board as sample-board
 use Rattle.registers.specs.contracts.obey_board as obey-board
 use Rattle.reading.specs.contracts.read_row as read-row
@@ -75,12 +77,10 @@ use Rattle.adomvik.specs.contracts.adomvik_check_row as adomvik-check-row
 use Rattle.recorder.specs.contracts.begin as begin
 use Rattle.recorder.specs.contracts.note_sample as note-sample
 use Rattle.recorder.specs.contracts.note_frame as note-frame
-use Rattle.recorder.specs.contracts.note_reading as note-reading
 use Rattle.adomvik.specs.contracts.adomvik_begin as adomvik-begin
 use Rattle.adomvik.specs.contracts.adomvik_note_sample as adomvik-note-sample
 use Rattle.adomvik.specs.contracts.adomvik_note_frame as adomvik-note-frame
 use Rattle.adomvik.specs.contracts.adomvik_note_reading as adomvik-note-reading
-use Rattle.held.specs.contracts.frame_held as frame-held
 use Rattle.acts.specs.contracts.act_row as act-row
 use Rattle.puts.specs.contracts.put_bytes as put-bytes
 use Rattle.text.specs.contracts.put_told as put-told
@@ -173,33 +173,22 @@ adomvik-begin-one = record { cited = λ M 𝓤 𝓛 mem run. refl; one = begin-o
 abbrev sample_noted : ℕ → ℕ → ℕ → ℕ → ℤ → List ℕ → ℕ → ℕ → ℕ → Noted
 sample_noted board elapsed load thermistor shunt cells number status bled = noted (sample board elapsed load thermistor shunt cells) (answer_of number (status ∷ bled ∷ []))
 
-abbrev note_sample_form : Form
-note_sample_form = gives {n = 2}
-    (value Recorder.the_row ∷ handed 0 tt u8 ∷ value u32 ∷ value u32 ∷ value u32 ∷ value u32 ∷ value i32 ∷ shown 1 tt u32 ∷ value u8 ∷ value u8 ∷ value u16 ∷ []) Recorder.the_row
-    (λ r memory board elapsed load thermistor shunt cells number status bled. note_recorder r (recordable (sample board elapsed load thermistor shunt cells)) (sample_noted board elapsed load thermistor shunt cells number status bled) (length memory))
-    (λ r memory board elapsed load thermistor shunt cells number status bled. (note_memory r (recordable (sample board elapsed load thermistor shunt cells)) (sample_noted board elapsed load thermistor shunt cells number status bled) memory, tt))
-
-pub note-sample-one : Determined note_sample_form (λ M 𝓤 𝓛. note-sample.spec 𝓛)
-note-sample-one = record {
-  cited = λ M 𝓤 𝓛 mem run. refl;
-  one = by-equations note_sample_form.params Recorder.the_row
-      (λ r memory board elapsed load thermistor shunt cells number status bled. note_recorder r (recordable (sample board elapsed load thermistor shunt cells)) (sample_noted board elapsed load thermistor shunt cells number status bled) (length memory))
-      (λ r memory board elapsed load thermistor shunt cells number status bled. (note_memory r (recordable (sample board elapsed load thermistor shunt cells)) (sample_noted board elapsed load thermistor shunt cells number status bled) memory, tt));
-}
-
 abbrev readings_form : Form
 readings_form = gives {n = 2}
     (value Recorder.the_row ∷ handed 0 tt u8 ∷ value u32 ∷ value Readings.the_row ∷ shown 1 tt u32 ∷ value u8 ∷ value u8 ∷ value u16 ∷ []) Recorder.the_row
     (λ r memory board x cells number status bled. note_recorder r (recordable (sample board x.elapsed x.load x.thermistor x.shunt cells)) (sample_noted board x.elapsed x.load x.thermistor x.shunt cells number status bled) (length memory))
     (λ r memory board x cells number status bled. (note_memory r (recordable (sample board x.elapsed x.load x.thermistor x.shunt cells)) (sample_noted board x.elapsed x.load x.thermistor x.shunt cells number status bled) memory, tt))
 
-pub adomvik-note-sample-one : Determined readings_form (λ M 𝓤 𝓛. adomvik-note-sample.spec 𝓛)
-adomvik-note-sample-one = record {
+pub note-sample-one : Determined readings_form (λ M 𝓤 𝓛. note-sample.spec 𝓛)
+note-sample-one = record {
   cited = λ M 𝓤 𝓛 mem run. refl;
   one = by-equations readings_form.params Recorder.the_row
       (λ r memory board x cells number status bled. note_recorder r (recordable (sample board x.elapsed x.load x.thermistor x.shunt cells)) (sample_noted board x.elapsed x.load x.thermistor x.shunt cells number status bled) (length memory))
       (λ r memory board x cells number status bled. (note_memory r (recordable (sample board x.elapsed x.load x.thermistor x.shunt cells)) (sample_noted board x.elapsed x.load x.thermistor x.shunt cells number status bled) memory, tt));
 }
+
+pub adomvik-note-sample-one : Determined readings_form (λ M 𝓤 𝓛. adomvik-note-sample.spec 𝓛)
+adomvik-note-sample-one = record { cited = λ M 𝓤 𝓛 mem run. refl; one = note-sample-one.one }
 
 abbrev note_frame_form : Form
 note_frame_form = gives {n = 3} (value Recorder.the_row ∷ handed 0 tt u8 ∷ shown 1 tt u8 ∷ shown 2 tt u8 ∷ value u8 ∷ []) Recorder.the_row
@@ -222,16 +211,13 @@ note_reading_form = gives {n = 1} (value Recorder.the_row ∷ handed 0 tt u8 ∷
     (λ r memory number line chg dsg board cell. note_recorder r true (noted reading (answer_of number (line ∷ chg ∷ dsg ∷ board ∷ cell ∷ []))) (length memory))
     (λ r memory number line chg dsg board cell. (note_memory r true (noted reading (answer_of number (line ∷ chg ∷ dsg ∷ board ∷ cell ∷ []))) memory, tt))
 
-pub note-reading-one : Determined note_reading_form (λ M 𝓤 𝓛. note-reading.spec 𝓛)
-note-reading-one = record {
+pub adomvik-note-reading-one : Determined note_reading_form (λ M 𝓤 𝓛. adomvik-note-reading.spec 𝓛)
+adomvik-note-reading-one = record {
   cited = λ M 𝓤 𝓛 mem run. refl;
   one = by-equations note_reading_form.params Recorder.the_row
       (λ r memory number line chg dsg board cell. note_recorder r true (noted reading (answer_of number (line ∷ chg ∷ dsg ∷ board ∷ cell ∷ []))) (length memory))
       (λ r memory number line chg dsg board cell. (note_memory r true (noted reading (answer_of number (line ∷ chg ∷ dsg ∷ board ∷ cell ∷ []))) memory, tt));
 }
-
-pub adomvik-note-reading-one : Determined note_reading_form (λ M 𝓤 𝓛. adomvik-note-reading.spec 𝓛)
-adomvik-note-reading-one = record { cited = λ M 𝓤 𝓛 mem run. refl; one = note-reading-one.one }
 
 -- ---- below and beside the library
 
@@ -249,31 +235,24 @@ put-bytes-one = record { cited = λ M 𝓤 𝓛 mem run. refl; one = λ κs a r 
 
 -- the reply, and the buffer, which has room for it
 abbrev put_form : Form
-put_form = gives {n = 1} (handed 0 tt u8 ∷ value Frame-taken.the_row ∷ value Frame-outcome.the_row ∷ []) Reply.the_row (λ buffer. reply_of) (λ buffer taken outcome. (buffer_with buffer (reply_of taken outcome), tt))
+put_form = gives {n = 1} (handed 0 tt u8 ∷ value Frame-taken.the_row ∷ value (stack.answer_row u8) ∷ []) (stack.answer_row Reply.the_row) (λ buffer. reply_of) (λ buffer taken outcome. (buffer_with buffer (reply_of taken outcome), tt))
 
 pub frame-put-one : DeterminedIf put_form (λ κs a. 4 ≤ length a.0.now) (λ M 𝓤 𝓛. frame-put.spec 𝓛)
-frame-put-one = record { cited = λ M 𝓤 𝓛 mem run. refl; one = by-equations put_form.params Reply.the_row (λ buffer. reply_of) (λ buffer taken outcome. (buffer_with buffer (reply_of taken outcome), tt)) }
-
--- how many entries, and the buffer, which has room for them
-abbrev put_listing_form : Form
-put_listing_form = gives {n = 1} (value Journals.the_row ∷ handed 0 tt u32 ∷ []) usize (λ j out. length (listing j)) (λ j out. (words_over (listing j) out, tt))
-
-pub put-listing-one : DeterminedIf put_listing_form (λ κs a. 3 * length (listing a.0) ≤ length a.1.0.now) (λ M 𝓤 𝓛. put-listing.spec 𝓛)
-put-listing-one = record { cited = λ M 𝓤 𝓛 mem run. refl; one = by-equations put_listing_form.params usize (λ j out. length (listing j)) (λ j out. (words_over (listing j) out, tt)) }
+frame-put-one = record { cited = λ M 𝓤 𝓛 mem run. refl; one = by-equations put_form.params (stack.answer_row Reply.the_row) (λ buffer. reply_of) (λ buffer taken outcome. (buffer_with buffer (reply_of taken outcome), tt)) }
 
 -- the answer, and the record
 abbrev sample_board_form : Form
-sample_board_form = on-record Answer.the_row Board.the_row Readings.the_row u32 (λ b x mv. (sample_of b x mv).answer) (λ b x mv. (sample_of b x mv).board)
+sample_board_form = on-record (stack.answer_row Sampled.the_row) Board.the_row Readings.the_row u32 (λ b x mv. (sample_of b x mv).answer) (λ b x mv. (sample_of b x mv).board)
 
 pub sample-board-one : Determined sample_board_form (λ M 𝓤 𝓛. sample-board.spec 𝓛)
-sample-board-one = record { cited = λ M 𝓤 𝓛 mem run. refl; one = by-equations sample_board_form.params Answer.the_row (λ b x mv. (sample_of b x mv).answer) (λ b x mv. ((sample_of b x mv).board, tt)) }
+sample-board-one = record { cited = λ M 𝓤 𝓛 mem run. refl; one = by-equations sample_board_form.params (stack.answer_row Sampled.the_row) (λ b x mv. (sample_of b x mv).answer) (λ b x mv. ((sample_of b x mv).board, tt)) }
 
 -- the outcome, and the record
 abbrev obey_form : Form
-obey_form = on_one Frame-outcome.the_row Board.the_row Request.the_row (λ b asked. (obeyed_of b asked).outcome) (λ b asked. (obeyed_of b asked).board)
+obey_form = on_one (stack.answer_row u8) Board.the_row Request.the_row (λ b asked. (obeyed_of b asked).outcome) (λ b asked. (obeyed_of b asked).board)
 
 pub obey-board-one : Determined obey_form (λ M 𝓤 𝓛. obey-board.spec 𝓛)
-obey-board-one = record { cited = λ M 𝓤 𝓛 mem run. refl; one = by-equations obey_form.params Frame-outcome.the_row (λ b asked. (obeyed_of b asked).outcome) (λ b asked. ((obeyed_of b asked).board, tt)) }
+obey-board-one = record { cited = λ M 𝓤 𝓛 mem run. refl; one = by-equations obey_form.params (stack.answer_row u8) (λ b asked. (obeyed_of b asked).outcome) (λ b asked. ((obeyed_of b asked).board, tt)) }
 
 -- the reading of a row, which is only read
 abbrev read_row_form : Form
@@ -291,23 +270,51 @@ line-row-one = record { cited = λ M 𝓤 𝓛 mem run. refl; one = by-equations
 
 -- what is told, and the row
 abbrev act_form : Form
-act_form = on_row Told.the_row Board.the_row Act.the_row act_told act_row
+act_form = on_row (stack.answer_row Told.the_row) Board.the_row Act.the_row act_told act_row
 
 pub act-row-one : Determined act_form (λ M 𝓤 𝓛. act-row.spec 𝓛)
-act-row-one = record { cited = λ M 𝓤 𝓛 mem run. refl; one = by-equations act_form.params Told.the_row act_told (λ row a. (act_row row a, tt)) }
+act-row-one = record { cited = λ M 𝓤 𝓛 mem run. refl; one = by-equations act_form.params (stack.answer_row Told.the_row) act_told (λ row a. (act_row row a, tt)) }
 
--- the stack with its answer, and the buffer
+-- the answer, and the stack
+abbrev sample_held_form : Form
+sample_held_form = gives {n = 2} (behind 0 tt Stack.the_row ∷ value u32 ∷ value Readings.the_row ∷ shown 1 tt u32 ∷ []) (stack.answer_row Sampled.the_row)
+    (λ s board x mv. (sampled_of s board x mv).answer) (λ s board x mv. ((sampled_of s board x mv).stack, tt))
+
+pub held-sample-held-one : Determined sample_held_form (λ M 𝓤 𝓛. sample-held.spec 𝓛)
+held-sample-held-one = record { cited = λ M 𝓤 𝓛 mem run. refl; one = by-equations sample_held_form.params (stack.answer_row Sampled.the_row) (λ s board x mv. (sampled_of s board x mv).answer) (λ s board x mv. ((sampled_of s board x mv).stack, tt)) }
+
+-- the answer, the stack and the buffer
 abbrev frame_held_form : Form
-frame_held_form = gives {n = 2} (value Stack.the_row ∷ shown 0 tt u8 ∷ handed 1 tt u8 ∷ []) FramedStack.the_row framed_of (λ s bytes buffer. (framed_buffer s bytes buffer, tt))
+frame_held_form = gives {n = 3} (behind 0 tt Stack.the_row ∷ shown 1 tt u8 ∷ handed 2 tt u8 ∷ []) (stack.answer_row Reply.the_row)
+    (λ s bytes buffer. (framed_of s bytes buffer).answer) (λ s bytes buffer. ((framed_of s bytes buffer).stack, (framed_buffer s bytes buffer, tt)))
 
 pub frame-held-one : Determined frame_held_form (λ M 𝓤 𝓛. frame-held.spec 𝓛)
-frame-held-one = record { cited = λ M 𝓤 𝓛 mem run. refl; one = by-equations frame_held_form.params FramedStack.the_row framed_of (λ s bytes buffer. (framed_buffer s bytes buffer, tt)) }
+frame-held-one = record { cited = λ M 𝓤 𝓛 mem run. refl; one = by-equations frame_held_form.params (stack.answer_row Reply.the_row) (λ s bytes buffer. (framed_of s bytes buffer).answer) (λ s bytes buffer. ((framed_of s bytes buffer).stack, (framed_buffer s bytes buffer, tt))) }
+
+-- a cutter after it is emptied, keeps a block, or ends its line
+abbrev emptied_form : Form
+emptied_form = record { lifetimes = 1; params = behind 0 tt Cutter.the_row ∷ []; result = unit; says_of = λ κs a r e. e.0.now ≡ emptied_of a.0.now }
+
+pub lines-emptied-one : Determined emptied_form (λ M 𝓤 𝓛. lines-emptied.spec 𝓛)
+lines-emptied-one = record { cited = λ M 𝓤 𝓛 mem run. refl; one = λ κs a r t e u p q. (refl, λ i. (agree p q i, tt)) }
+
+abbrev keep_form : Form
+keep_form = record { lifetimes = 2; params = behind 0 tt Cutter.the_row ∷ shown 1 tt u8 ∷ []; result = unit; says_of = λ κs a r e. Kept a.0.now a.1.0.now e.0.now }
+
+pub lines-keep-one : Determined keep_form (λ M 𝓤 𝓛. lines-keep.spec 𝓛)
+lines-keep-one = record { cited = λ M 𝓤 𝓛 mem run. refl; one = λ κs a r t e u p q. (refl, λ i. (agree p.whole q.whole i, tt)) }
+
+abbrev end_form : Form
+end_form = record { lifetimes = 1; params = behind 0 tt Cutter.the_row ∷ []; result = unit; says_of = λ κs a r e. Ended a.0.now e.0.now }
+
+pub lines-end-line-one : Determined end_form (λ M 𝓤 𝓛. lines-end-line.spec 𝓛)
+lines-end-line-one = record { cited = λ M 𝓤 𝓛 mem run. refl; one = λ κs a r t e u p q. (refl, λ i. (agree p.whole q.whole i, tt)) }
 
 -- the place after what is printed, and the buffer
 abbrev put_told_form : Form
 put_told_form = record {
   lifetimes = 1;
-  params = handed 0 tt u8 ∷ value usize ∷ value Told.the_row ∷ [];
+  params = handed 0 tt u8 ∷ value usize ∷ value (stack.answer_row Told.the_row) ∷ [];
   result = usize;
   says_of = λ κs a r e. let out = a.0.now in let at = a.1.0 in Put at (placed (length out) at a.1.1.0) out e.0.now r;
 }

@@ -3,10 +3,14 @@
 use Prim.Native.Nat.{ℕ, zero, suc, ◌+◌, ◌-◌, ◌<◌, ◌≤◌}
 use native.Mathlib.Nat.{not-suc-le-zero}
 use native.Mathlib.Omega.{arith}
-use mathlib.Core.Path.{◌≡◌, refl, sym, ap, ap₂}
-use mathlib.Core.Bool.{Bool, true, false, not, ◌&&◌}
+use mathlib.Core.Path.{◌≡◌, refl, sym, ap, ap₂, ◌∙◌}
+use mathlib.Core.Bool.{Bool, true, false, cond, not, ◌&&◌}
 use mathlib.Core.List.{List, ◌++◌}
+use lib.Dec.{eqb}
 use lib.ListN.{length, get_or, take, drop, set, take-append-drop}
+use Rattle.std.proofs.Common.{Option, Some, None, Bor}
+use Rattle.std.specs.Option.{is_some, unwrap_or, option_copied}
+use Rattle.std.specs.Slice.{IsItemAt}
 use Rattle.lists.specs.Each.{each}
 use Rattle.lists.proofs.Each.{each-down, each_none, set_front}
 use Rattle.cells.specs.declared.Cell.{Cell}
@@ -15,8 +19,8 @@ use Rattle.cells.proofs.Ends.{every-below, every-above}
 use Rattle.garden.specs.declared.Garden.{Garden}
 use Rattle.garden.specs.declared.Device.{Device}
 use Rattle.garden.specs.Device.{device, devices, device_of, ov_inner, uv_inner}
-use Rattle.garden.specs.Filter.{count_next, cell_after, grow_with, grow_of}
-use Rattle.garden.specs.Way.{grow_by}
+use Rattle.garden.specs.Filter.{count_next, reaches, latch_after, back_after, cell_after, grow_with, grow_of}
+use Rattle.garden.specs.Way.{filtered_by, grow_by}
 
 -- ---- a count
 pub count_fits : (up : Bool) (count : ℕ) → count ≤ 255 → count_next up count ≤ 255
@@ -45,6 +49,31 @@ device-past zero p = absurd (omega arith)
 device-past (suc zero) p = absurd (omega arith)
 device-past (suc (suc zero)) p = absurd (omega arith)
 device-past (suc (suc (suc n))) p = refl
+
+-- the row that the table lends at a place, or the first
+pub row_at : (r : Option (Bor Device)) (row : ℕ) → IsItemAt devices row r → unwrap_or (option_copied r) (device 4200 200 2900 400 true) ≡ device_of row
+row_at None row g = sym (device-past row g.3)
+row_at (Some x) row g = g.1 ∙ device-at row x.now g.3.0
+
+-- ---- one fault: whether it is latched, and its recovery count, which is zero where it is not
+latched-some : (t : Bool) (n : ℕ) → is_some (cond t (Some n) None) ≡ t
+latched-some true n = refl
+latched-some false n = refl
+
+some-or-zero : (t : Bool) (n : ℕ) → unwrap_or (cond t (Some (cond t n 0)) None) 0 ≡ cond t n 0
+some-or-zero true n = refl
+some-or-zero false n = refl
+
+zero-or-none : (t : Bool) → ◌≡◌ {A = ℕ} (unwrap_or (cond t (Some 0) None) 0) 0
+zero-or-none true = refl
+zero-or-none false = refl
+
+pub filtered-latched : (trigger : ℕ) (was : Bool) (back : ℕ) (inside : Bool) (reached : ℕ) → is_some (filtered_by trigger was back inside reached) ≡ latch_after trigger was back inside reached
+filtered-latched trigger was back inside reached = latched-some (latch_after trigger was back inside reached) (back_after trigger was back inside)
+
+pub filtered-back : (trigger : ℕ) (was : Bool) (back : ℕ) (inside : Bool) (reached : ℕ) → unwrap_or (filtered_by trigger was back inside reached) 0 ≡ back_after trigger was back inside
+filtered-back trigger true back inside reached = some-or-zero (not (reaches trigger (count_next inside back))) (count_next inside back)
+filtered-back trigger false back inside reached = zero-or-none (not (eqb reached 0))
 
 -- ---- the cells, from the highest down
 module _ (d : Device) (cells : List Cell) (mv : List ℕ) (ov_none uv_none : Bool) (n : ℕ) where

@@ -1,7 +1,7 @@
 // The small garden packs (02, ticket 5): their device table, and the filtered scheme of document 003, by counts of samples.
 #![tactic(auto)]
 
-ghost use Rattle.std.specs.Prelude.{◌≡◌, cond, ◌+◌, ◌<◌};
+ghost use Rattle.std.specs.Prelude.{◌≡◌, cond};
 ghost use Rattle.garden.specs.Device.{device_of};
 ghost use Rattle.garden.specs.Filter.{count_next, cells_after};
 ghost use Rattle.garden.specs.Way.{reached_by, filtered_by, grow_by};
@@ -57,11 +57,7 @@ const DEVICES: [Device; 3] = [
 fn device_of(row: u8) -> Device
     ensures { result ≡ device_of row }
 {
-    let at = row as usize;
-    if at < 3 {
-        return DEVICES[at];
-    }
-    DEVICES[0]
+    DEVICES.get(usize::from(row)).copied().unwrap_or(DEVICES[0])
 }
 
 // A count, one sample on; it stays within a byte, which no trigger passes.
@@ -70,18 +66,13 @@ fn count_next(past: bool, count: u32) -> u32
     ensures { result ≡ count_next past count }
 {
     if past {
-        if count < 255 {
-            return count + 1;
-        }
-        return 255;
+        count.saturating_add(1).min(255)
+    } else {
+        count.saturating_sub(1)
     }
-    if 0 < count {
-        return count - 1;
-    }
-    0
 }
 
-// The lowest cells whose counts of OV and of UV reach the trigger, or 0.
+// The lowest cells whose counts of OV and of UV reach the trigger; 0 for none, as an entry of the journal has it.
 #[derive(Clone, Copy)]
 struct Reached {
     ov: u8,
@@ -93,23 +84,18 @@ fn reached_of(d: Device, trigger: u8, cells: [Cell; 10], mv: &[u32]) -> Reached
 {
     let mut ov = 0;
     let mut uv = 0;
-    let mut i = cells::cell_count(mv.len());
-    while 0 < i {
-        i -= 1;
+    for i in (0..cells::cell_count(mv.len())).rev() {
         let v = mv[i];
         ov = cells::lower_to(trigger as u32 <= count_next(d.ov < v, cells[i].ov), i, ov);
         uv = cells::lower_to(trigger as u32 <= count_next(v < d.uv, cells[i].uv), i, uv);
     }
-    Reached { ov: ov, uv: uv }
+    Reached { ov, uv }
 }
 
 fn count_or_none(none: bool, past: bool, count: u32) -> u32
     ensures { result ≡ cond none 0 (count_next past count) }
 {
-    if none {
-        return 0;
-    }
-    count_next(past, count)
+    if none { 0 } else { count_next(past, count) }
 }
 
 // The cells one sample on; where a fault is latched all its counts are zero.
@@ -117,47 +103,32 @@ fn count_cells(d: Device, cells: [Cell; 10], ov_none: bool, uv_none: bool, mv: &
     ensures { result ≡ cells_after d cells mv.now ov_none uv_none }
 {
     let mut next = cells;
-    let mut i = cells::cell_count(mv.len());
-    while 0 < i {
-        i -= 1;
+    for i in (0..cells::cell_count(mv.len())).rev() {
         let v = mv[i];
         let ov = count_or_none(ov_none, d.ov < v, cells[i].ov);
         let uv = count_or_none(uv_none, v < d.uv, cells[i].uv);
-        next[i] = Cell { ov: ov, uv: uv };
+        next[i] = Cell { ov, uv };
     }
     next
 }
 
-// One fault after a sample: whether it is latched, and its recovery count.
-#[derive(Clone, Copy)]
-struct Filtered {
-    latched: bool,
-    back: u8,
-}
-
-fn filter(trigger: u8, was: bool, back: u8, inside: bool, reached: u8) -> Filtered
+// One fault after a sample: its recovery count, where it is latched.
+fn filter(trigger: u8, was: bool, back: u8, inside: bool, reached: u8) -> Option<u8>
     ensures { result ≡ filtered_by trigger was back inside reached }
 {
-    if was {
-        let next = count_next(inside, back as u32);
-        if trigger as u32 <= next {
-            return Filtered {
-                latched: false,
-                back: 0,
-            };
-        }
-        return Filtered {
-            latched: true,
-            back: next as u8,
-        };
+    if !was {
+        return (reached != 0).then_some(0);
     }
-    Filtered {
-        latched: reached != 0,
-        back: 0,
+    let next = count_next(inside, u32::from(back));
+    if next < u32::from(trigger) {
+        Some(next as u8)
+    } else {
+        None
     }
 }
 
-// A garden board after a sample: its cells' counts, its own part, its latches, and the lowest cells that reach the trigger, or 0.
+// A garden board after a sample: its cells' counts, its own part, its latches, and the lowest cells that reach the trigger, or 0. The definition
+// of a sample is this record, so the cells stand in it and are not changed in place.
 #[derive(Clone, Copy)]
 pub struct Grown {
     pub cells: [Cell; 10],
@@ -190,14 +161,14 @@ pub fn grow(
     let garden = Garden {
         row: g.row,
         trigger: g.trigger,
-        ov_back: ov_after.back,
-        uv_back: uv_after.back,
+        ov_back: ov_after.unwrap_or(0),
+        uv_back: uv_after.unwrap_or(0),
     };
     Grown {
         cells: next,
-        garden: garden,
-        ov: ov_after.latched,
-        uv: uv_after.latched,
+        garden,
+        ov: ov_after.is_some(),
+        uv: uv_after.is_some(),
         ov_cell: low.ov,
         uv_cell: low.uv,
     }

@@ -1,22 +1,32 @@
 -- The acts on a stack that is held by value: those of its row, with what lies past the row as it was.
 -- Assumes nothing.
-use Rattle.std.specs.Prelude.{ℕ, ◌-◌, cond, List, [], ◌++◌, ltb, length, replicate, take, drop}
+use Rattle.std.specs.Prelude.{ℕ, ◌-◌, cond, List, [], ◌++◌, ltb, length, replicate, take, drop, Result, Ok, Err}
 use Rattle.refusal.specs.Said.{judged, unless_refused}
 use Rattle.board.specs.declared.Board.{Board}
+use Rattle.board.specs.declared.Sampled.{Sampled}
 use Rattle.board.specs.declared.Readings.{Readings}
 use Rattle.board.specs.Sample.{fresh}
-use Rattle.stack.specs.declared.View.{View}
-use Rattle.stack.specs.Open.{open_bars, opening_saying, opened, open_answer, open_row, count_plans}
+use Rattle.frame.specs.declared.Reply.{Reply}
+use Rattle.refusal.specs.declared.Refusal.{Refusal}
+use Rattle.reading.specs.declared.Whole.{Whole}
+use Rattle.stack.specs.Open.{Opening, open_bars, opening_saying, opened, count_plans}
 use Rattle.stack.specs.Sample.{sample_answer, sample_row}
 use Rattle.stack.specs.Frame.{frame_answer, frame_row, frame_buffer}
 use Rattle.stack.specs.Read.{reading_of}
 use Rattle.held.specs.declared.Stack.{Stack}
-use Rattle.held.specs.declared.Start.{Start}
-use Rattle.held.specs.declared.OpenedRow.{OpenedRow}
-use Rattle.held.specs.declared.SampledRow.{SampledRow}
-use Rattle.held.specs.declared.FramedRow.{FramedRow}
-use Rattle.held.specs.declared.SampledStack.{SampledStack}
-use Rattle.held.specs.declared.FramedStack.{FramedStack}
+
+-- a stack, and what an act on it or its opening said
+pub record Start : Type 0 where
+  pub stack : Stack
+  pub answer : Opening
+
+pub record SampledStack : Type 0 where
+  pub stack : Stack
+  pub answer : Result Sampled Refusal
+
+pub record FramedStack : Type 0 where
+  pub stack : Stack
+  pub answer : Result Reply Refusal
 
 -- a stack of no boards, which a refused opening gives
 abbrev pub no_stack : Stack
@@ -35,6 +45,14 @@ start_of plans =
 -- a stack that is held is one of stand-alone boards, by their cell counts
 abbrev pub open_of : List ℕ → Start
 open_of counts = start_of (count_plans counts)
+
+-- the stack that was opened, or why none was
+unfoldable pub started : Start → Result Stack Refusal
+started start = by start.answer
+  where
+    by : Opening → Result Stack Refusal
+    by (Ok done) = Ok start.stack
+    by (Err why) = Err why
 
 -- how many records are the row; of a stack that says it has more than 16 boards none, so that every act gets 1
 unfoldable pub row_count : Stack → ℕ
@@ -57,23 +75,5 @@ framed_of s bytes buffer = record { stack = with_row s (frame_row (held_row s) b
 unfoldable pub framed_buffer : Stack → List ℕ → List ℕ → List ℕ
 framed_buffer s bytes buffer = frame_buffer (held_row s) bytes buffer
 
-unfoldable pub read_of : Stack → View
+unfoldable pub read_of : Stack → Result Whole Refusal
 read_of s = reading_of (held_row s)
-
--- ---- the same of an array of records and how many of them are the row
-unfoldable pub opened_in : List Board → ℕ → List ℕ → OpenedRow
-opened_in boards n plans = record { boards = open_row (take n boards) plans ++ drop n boards; answer = open_answer (take n boards) plans }
-
-unfoldable pub sampled_in : List Board → ℕ → ℕ → Readings → List ℕ → SampledRow
-sampled_in boards n board x mv =
-    record { boards = sample_row (take n boards) board x mv ++ drop n boards; answer = sample_answer (take n boards) board x mv }
-
-unfoldable pub framed_in : List Board → ℕ → List ℕ → List ℕ → FramedRow
-framed_in boards n bytes buffer =
-    record { boards = frame_row (take n boards) bytes buffer ++ drop n boards; answer = frame_answer (take n boards) bytes buffer }
-
-unfoldable pub framed_reply : List Board → ℕ → List ℕ → List ℕ → List ℕ
-framed_reply boards n bytes buffer = frame_buffer (take n boards) bytes buffer
-
-unfoldable pub read_in : List Board → ℕ → View
-read_in boards n = reading_of (take n boards)

@@ -3,13 +3,19 @@
 use Prim.Native.Nat.{◌+◌, ◌*◌}
 use native.Mathlib.Omega.{arith}
 use mathlib.Core.Path.{◌≡◌, refl}
-use mathlib.Core.Bool.{Bool}
+use mathlib.Core.Bool.{Bool, true, false}
 use mathlib.Core.List.{List, [], ◌∷◌}
+use mir.Val.{bool_byte}
 use Rattle.lists.specs.Marks.{bit, number}
 use Rattle.lists.proofs.Marks.{number_at}
 use Rattle.settings.specs.Faults.{Fault, SCD, OCD, OV, UV, OT}
 use Rattle.latches.specs.declared.Latches.{Latches}
 use Rattle.latches.specs.Latches.{latch, latches, chg_on, dsg_on, register0, latches_byte, latches_of}
+
+-- a bool as a number of its own
+pub bool-bit : (b : Bool) → bool_byte b ≡ bit b
+bool-bit true = refl
+bool-bit false = refl
 
 pub byte-sum : (t : Latches) → latches_byte t ≡ bit t.scd + 2 * bit t.ocd + 4 * bit t.ov + 8 * bit t.uv + 16 * bit t.ot
 unfolding latches_byte number

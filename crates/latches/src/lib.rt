@@ -1,8 +1,7 @@
 // The latches of the five faults, the switches, register 0, a host board's register 1, and how often each fault latched (01, Frames and registers; When a fault latches and lets go; 02, tickets 3 and 7).
 #![tactic(auto)]
 
-ghost use Rattle.std.specs.Prelude.{◌≡◌, ◌≤◌};
-ghost use Rattle.lists.specs.Marks.{bit};
+ghost use Rattle.std.specs.Prelude.{◌≡◌};
 ghost use Rattle.latches.specs.Latches.{latch_next, risen, latches_of, latches_byte, any_latch, chg_on, dsg_on, register0};
 ghost use Rattle.latches.specs.Control.{control_next};
 ghost use Rattle.latches.specs.Tallies.{tally_next, tallies_next};
@@ -17,6 +16,7 @@ pub struct Latches {
     pub ot: bool,
 }
 
+// The five low bits of register 0, by arithmetic, as no derive makes them.
 pub fn latches_of(byte: u8) -> Latches
     ensures { result ≡ latches_of byte }
 {
@@ -36,6 +36,7 @@ pub fn any_latch(byte: u8) -> bool
     (byte & 31) != 0
 }
 
+// A switch each, by name, as the paper has them: with a number for the switch they would be no plainer.
 pub fn chg_on(may: bool, byte: u8) -> bool
     ensures { result ≡ chg_on may (latches_of byte) }
 {
@@ -48,24 +49,22 @@ pub fn dsg_on(may: bool, byte: u8) -> bool
     may & ((byte & 27) == 0)
 }
 
-fn bit_of(b: bool) -> u8
-    ensures { (result ≡ bit b) × (result ≤ 1) }
-{
-    if b { 1 } else { 0 }
-}
-
-// The five latches as the low bits of register 0.
+// The five latches as the low bits of register 0; by arithmetic, since five bits of a byte are no conversion that a derive makes.
 pub fn byte_of(t: Latches) -> u8
     ensures { result ≡ latches_byte t }
 {
-    bit_of(t.scd) + 2 * bit_of(t.ocd) + 4 * bit_of(t.ov) + 8 * bit_of(t.uv) + 16 * bit_of(t.ot)
+    u8::from(t.scd)
+        + 2 * u8::from(t.ocd)
+        + 4 * u8::from(t.ov)
+        + 8 * u8::from(t.uv)
+        + 16 * u8::from(t.ot)
 }
 
 // Register 0 of the byte that a board keeps: the latches, then DSG and CHG, each on where it may be.
 pub fn status_of(dsg: bool, chg: bool, byte: u8) -> u8
     ensures { result ≡ register0 dsg chg (latches_of byte) }
 {
-    byte % 32 + 64 * bit_of(dsg_on(dsg, byte)) + 128 * bit_of(chg_on(chg, byte))
+    byte % 32 + 64 * u8::from(dsg_on(dsg, byte)) + 128 * u8::from(chg_on(chg, byte))
 }
 
 pub fn latch_next(latched: bool, stands: bool, lets_go: bool) -> bool
@@ -87,20 +86,29 @@ pub fn risen(old: Latches, new: Latches) -> Latches
     }
 }
 
+// A fault latched at a sample; mostly none did.
+pub fn any_up(up: Latches) -> bool
+    ensures { result ≡ any_latch up }
+{
+    up.scd | up.ocd | up.ov | up.uv | up.ot
+}
+
 // Register 1 of a host board after a sample at which these faults latched.
 pub fn control_next(control: u8, up: Latches) -> u8
     ensures { result ≡ control_next control up }
 {
-    if up.scd | up.ocd | up.ov | up.uv | up.ot {
-        let clear = control / 1 % 2 == 1;
-        let dsg = (control / 2 % 2 == 1) & !(up.uv | up.ocd | up.scd | up.ot);
-        let chg = (control / 4 % 2 == 1) & !(up.ov | up.ocd | up.scd | up.ot);
-        return bit_of(clear) + 2 * bit_of(dsg) + 4 * bit_of(chg);
+    if !any_up(up) {
+        return control;
     }
-    control
+    let byte = byte_of(up);
+    let clear = control / 1 % 2 == 1;
+    let dsg = dsg_on(control / 2 % 2 == 1, byte);
+    let chg = chg_on(control / 4 % 2 == 1, byte);
+    u8::from(clear) + 2 * u8::from(dsg) + 4 * u8::from(chg)
 }
 
-// How often each fault latched.
+// How often each fault latched. A struct of its own beside the latches, and not one Faults<T> for both: C lends a board, and no record that C lends
+// may hold a struct with a type argument.
 #[repr(C)]
 #[derive(Clone, Copy)]
 pub struct Tallies {
@@ -116,26 +124,21 @@ pub struct Tallies {
 fn tally_next(up: bool, tally: u16) -> u16
     ensures { result ≡ tally_next up tally }
 {
-    if up {
-        if tally < 65535 {
-            return tally + 1;
-        }
-    }
-    tally
+    if up { tally.saturating_add(1) } else { tally }
 }
 
-// The tallies after a sample at which these faults latched; mostly none did.
+// The tallies after a sample at which these faults latched.
 pub fn tallies_next(up: Latches, t: Tallies) -> Tallies
     ensures { result ≡ tallies_next up t }
 {
-    if up.scd | up.ocd | up.ov | up.uv | up.ot {
-        return Tallies {
-            scd: tally_next(up.scd, t.scd),
-            ocd: tally_next(up.ocd, t.ocd),
-            ov: tally_next(up.ov, t.ov),
-            uv: tally_next(up.uv, t.uv),
-            ot: tally_next(up.ot, t.ot),
-        };
+    if !any_up(up) {
+        return t;
     }
-    t
+    Tallies {
+        scd: tally_next(up.scd, t.scd),
+        ocd: tally_next(up.ocd, t.ocd),
+        ov: tally_next(up.ov, t.ov),
+        uv: tally_next(up.uv, t.uv),
+        ot: tally_next(up.ot, t.ot),
+    }
 }

@@ -4,25 +4,17 @@ use Prim.Native.Nat.{ℕ, suc, ◌+◌, ◌<◌, ◌≤◌}
 use native.Mathlib.Omega.{arith}
 use native.Mathlib.Numerals.{add-one}
 use mathlib.Core.Path.{◌≡◌, refl, sym, ap, ◌∙◌}
-use mathlib.Core.Bool.{cond}
 use mathlib.Core.List.{List, [], ◌∷◌, ◌++◌, append_assoc, append-nil}
-use lib.Dec.{eqb}
-use lib.ListN.{length, get_or, take, drop, length-drop, drop_of_length-le}
-use lib.Seq.{take_all, take-add, drop-cons}
-use borrow.Author.Tests.{eqb-true}
+use lib.Dec.{eqb, ltb}
+use lib.ListN.{length, take, drop, length-drop}
+use lib.Seq.{take_all, take-add}
+use borrow.Author.Tests.{eqb-true, ltb-false}
 use borrow.Table.Steps.{cases}
+use Rattle.std.specs.List.{position, position_or_len}
+use Rattle.std.specs.Option.{unwrap_or}
+use Rattle.std.proofs.lemmas.List.Recursion.{is_position_or_len}
 use Rattle.lines.specs.Lines.{before, ended, left, up_to}
 use Rattle.lines.proofs.Pieces.{ended-none, left-none, ended-byte, left-byte}
-
--- ---- a turn of the search, and its end
-
-pub end-at : (s : List ℕ) (i : ℕ) → i < length s → up_to (drop i s) ≡ cond (eqb (get_or s i 0) 10) [] (get_or s i 0 ∷ up_to (drop (i + 1) s))
-unfolding before
-end-at s i h = rw (drop-cons s i 0 h, add-one i)
-
-pub end_none : (s : List ℕ) (i : ℕ) → length s ≤ i → up_to (drop i s) ≡ []
-unfolding before
-end_none s i h = rw (drop_of_length-le s h)
 
 -- ---- the bytes before the first newline
 
@@ -35,6 +27,19 @@ line-le : (t : List ℕ) → length (up_to t) ≤ length t
 unfolding before
 line-le [] = omega arith
 line-le (b ∷ t) = cases (eqb b 10) (λ e. rw e (omega arith)) λ e. rw e (omega (arith, line-le t))
+
+-- ---- the search for it
+
+newline_or : (t : List ℕ) → length (up_to t) ≡ position_or_len (λ b. eqb b 10) t
+unfolding before
+newline_or t = is_position_or_len (λ s. length (up_to s)) (λ b. eqb b 10) refl (λ b s. cases (eqb b 10) (λ e. rw e) (λ e. rw e (omega arith))) t
+
+pub newline-at : (t : List ℕ) → unwrap_or (position (λ b. eqb b 10) t) (length t) ≡ length (up_to t)
+newline-at t =
+    rw newline_or
+    (cases (ltb (position_or_len (λ b. eqb b 10) t) (length t))
+    (λ e. rw e)
+    (λ e. let all = ltb-false _ _ e in let few : position_or_len (λ b. eqb b 10) t ≤ length t = rw (← newline_or t) (line-le t) in rw e (omega arith)))
 
 -- no line ends in them
 pub ended-free : (p t : List ℕ) → ended p (up_to t) ≡ []

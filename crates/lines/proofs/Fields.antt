@@ -19,10 +19,10 @@ use Rattle.lines.specs.declared.Kind.{Kind}
 use Rattle.lines.specs.declared.Kind.TheVariants.{Open, Sample, Frame, Read, Malformed}
 use Rattle.lines.specs.declared.Rules.{Rules}
 use Rattle.lines.specs.declared.Line.{Line}
-use Rattle.lines.specs.declared.Field.{Field}
-use Rattle.lines.specs.declared.Field.TheVariants.{Good, Bad}
+use Rattle.std.proofs.Common.{Option, Some, None}
+use Rattle.lines.specs.declared.Number.{Number}
 use Rattle.lines.specs.Line.{words, worth, starts_well, is_number, negative, unsigned, size_of, is_field, letter, kind_of, rules_of, is_shunt, all_fields, obeys, any_negative, blank, malformed, said, words_say, line_of}
-use Rattle.lines.specs.Way.{rest_at, end_at, front, number_at, field_at, found_at}
+use Rattle.lines.specs.Way.{rest_at, end_at, front, number, number_at, field_at, found_at}
 use Rattle.lines.proofs.Words.{rest_end, rest-on, end_on, before-long, rest-drop, end-behind}
 use Rattle.lines.proofs.Numbers.{field_in}
 use Rattle.lines.proofs.Fronts.{front_long, number_word, front-or, plain-negative, plain-unsigned}
@@ -56,41 +56,41 @@ line_from r k m n numbers ws =
     malformed
 
 -- the same after one field more
-unfoldable pub on_field : Rules → Kind → Bool → ℕ → List ℕ → List ℕ → Field → Line
-on_field r k m n numbers s Bad = malformed
-on_field r k m n numbers s (Good sign v next) = line_from r k (m || sign) (n + 1) (set numbers n v) (behind 32 (rest_at s next))
+unfoldable pub on_field : Rules → Kind → Bool → ℕ → List ℕ → List ℕ → Option Number → Line
+on_field r k m n numbers s None = malformed
+on_field r k m n numbers s (Some f) = line_from r k (m || f.minus) (n + 1) (set numbers n f.size) (behind 32 (rest_at s f.next))
 
 -- a number that was read lies behind its place and in its line, and so does a field
-number_past : (largest : ℕ) (minus : Bool) (s : List ℕ) (at : ℕ) {m : Bool} {v next : ℕ} → number_at largest minus at (rest_at s at) ≡ Good m v next
-    → (at ≤ next) × (end_at s next ≡ end_at s at)
+number_past : (largest : ℕ) (minus : Bool) (s : List ℕ) (at : ℕ) {f : Number} → number_at largest minus at (rest_at s at) ≡ Some f
+    → (at ≤ f.next) × (end_at s f.next ≡ end_at s at)
 unfolding number_at
-number_past largest minus s at {m} {v} {next} e =
+number_past largest minus s at {f} e =
     let w = front (rest_at s at) in
     split (is_number largest w && not (minus && eqb (worth 0 w) 0))
     (λ t.
-    let q : Good minus (worth 0 w) (at + length w) ≡ Good m v next = rw t at e in
-    let l : at + length w ≡ next = cc in
+    let q : Some (number minus (worth 0 w) (at + length w)) ≡ Some f = rw t at e in
+    let l : at + length w ≡ f.next = cc in
     (omega arith, rw (sym l) (end-behind s at (length w) (front_long (rest_at s at)))))
     (λ t.
-    let q : Bad ≡ Good m v next = rw t at e in
+    let q : None ≡ Some f = rw t at e in
     let z : ◌≡◌ {A = ℕ} 0 1 = cc in
     absurd (omega arith))
 
-pub field_past : (largest : ℕ) (signed : Bool) (s : List ℕ) (at : ℕ) {m : Bool} {v next : ℕ} → field_at largest signed at (rest_at s at) ≡ Good m v next
-    → (at ≤ next) × (end_at s next ≡ end_at s at)
-field_past largest signed s at {m} {v} {next} e =
+pub field_past : (largest : ℕ) (signed : Bool) (s : List ℕ) (at : ℕ) {f : Number} → field_at largest signed at (rest_at s at) ≡ Some f
+    → (at ≤ f.next) × (end_at s f.next ≡ end_at s at)
+field_past largest signed s at {f} e =
     let b = get_or s at 10 in
-    let f = rw (field_in largest signed s at refl) at e in
+    let g = rw (field_in largest signed s at refl) at e in
     split (eqb b 45)
     (λ sign.
-    let g = rw sign at f in
+    let h = rw sign at g in
     split signed
-    (λ t. let far = number_past largest true s (at + 1) (rw t at g) in (omega (arith, far.0), far.1 ∙ end_on s at refl (λ n. omega (arith, eqb-true b 45 sign, n))))
+    (λ t. let far = number_past largest true s (at + 1) (rw t at h) in (omega (arith, far.0), far.1 ∙ end_on s at refl (λ n. omega (arith, eqb-true b 45 sign, n))))
     (λ t.
-    let q : Bad ≡ Good m v next = rw t at g in
+    let q : None ≡ Some f = rw t at h in
     let z : ◌≡◌ {A = ℕ} 0 1 = cc in
     absurd (omega arith)))
-    (λ plain. number_past largest false s at (rw plain at f))
+    (λ plain. number_past largest false s at (rw plain at g))
 
 -- a line is malformed by its words, or by its length
 pub found-malformed : (s : List ℕ) (at : ℕ) → words_say (words (rest_at s at)) ≡ malformed → found_at s at ≡ record { line = malformed; end = end_at s at }
@@ -153,7 +153,7 @@ module _ (r : Rules) (k : Kind) (m : Bool) (n : ℕ) (numbers : List ℕ) where
   -- behind a minus sign it is the word's rest
   signed-line : (s : List ℕ) (at : ℕ) → eqb (get_or s at 10) 45 ≡ true
       → cond (is_field r.largest (is_shunt r n) (word_at s at)) (line_from r k (m || negative (word_at s at)) (n + 1) (set numbers n (size_of (word_at s at))) (behind 32 (rest_at s (at + length (word_at s at))))) malformed
-      ≡ on_field r k m n numbers s (cond (is_shunt r n) (number_at r.largest true (at + 1) (rest_at s (at + 1))) Bad)
+      ≡ on_field r k m n numbers s (cond (is_shunt r n) (number_at r.largest true (at + 1) (rest_at s (at + 1))) None)
   unfolding is_field negative unsigned on_field before
   signed-line s at sign =
       let b = get_or s at 10 in
@@ -240,8 +240,8 @@ module _ (r : Rules) (k : Kind) (m : Bool) (n : ℕ) (numbers : List ℕ) where
       after-space = rw (after-words, words-at s (at + 1)) (field-line s (at + 1))
 
       -- a field was read and stored
-      pub after-field : {f : Field} {sign : Bool} {v next : ℕ} {new : List ℕ} → f ≡ field_at r.largest (is_shunt r n) (at + 1) (rest_at s (at + 1)) → f ≡ Good sign v next → new ≡ set numbers n v
-          → line_from r k m n numbers (behind 32 (rest_at s at)) ≡ line_from r k (m || sign) (n + 1) new (behind 32 (rest_at s next))
+      pub after-field : {f : Option Number} {v : Number} {new : List ℕ} → f ≡ field_at r.largest (is_shunt r n) (at + 1) (rest_at s (at + 1)) → f ≡ Some v → new ≡ set numbers n v.size
+          → line_from r k m n numbers (behind 32 (rest_at s at)) ≡ line_from r k (m || v.minus) (n + 1) new (behind 32 (rest_at s v.next))
       unfolding on_field
       after-field is good stored = rw (after-space, ← is, good, stored)
 

@@ -1,19 +1,21 @@
 -- A cutter keeps what it is given, up to 201 bytes, and makes a block of one line of it.
 -- Assumes nothing.
-use Prim.Native.Nat.{ℕ, ◌+◌, ◌<◌, ◌≤◌, min}
+use Prim.Native.Nat.{ℕ, suc, ◌+◌, ◌-◌, ◌<◌, ◌≤◌, min}
 use native.Mathlib.Omega.{arith}
 use native.Mathlib.Numerals.{add-one}
 use mathlib.Core.Path.{◌≡◌, refl, sym, ap, ◌∙◌}
 use mathlib.Core.List.{List, [], ◌∷◌, ◌++◌, append_assoc, append-nil}
 use lib.Dec.{leb, ltb}
-use lib.ListN.{length, get_or, take, drop, length-append, length-take, length-set, drop_of_length-le}
-use lib.Seq.{take-suc-set, take-take, take-length, take_all, take_at, drop-cons, length-take-le}
-use borrow.Author.Tests.{leb-true, leb-false, ltb-true, ltb-false}
+use lib.ListN.{length, take, drop, length-append, length-take, length-set, set, take-append-drop, drop_of_length-le}
+use lib.Seq.{take-suc-set, take-take, take-length, take_all, take_at, drop-drop, length-take-le}
+use borrow.Author.Tests.{leb-true, leb-false, le-leb, lt-leb, ltb-true, ltb-false}
+use Rattle.std.proofs.lemmas.List.{drop-set-lt}
+use borrow.Rule.Slice.PartMut.{put_mid}
 use borrow.Table.Steps.{cases}
 use Rattle.lines.specs.declared.Cutter.{Cutter}
 use Rattle.lines.specs.Lines.{before, pieces, up_to}
 use Rattle.lines.specs.Line.{kind_of, words_say, malformed, line_of}
-use Rattle.lines.specs.Way.{most, clip, held, byte_kept, list_kept, Kept, one_line, line_ended}
+use Rattle.lines.specs.Way.{most, clip, held, byte_kept, list_kept, Kept, one_line, line_ended, Ended}
 use Rattle.lines.proofs.Fields.{from-malformed}
 use Rattle.lines.proofs.Words.{all-before}
 use Rattle.lines.proofs.Newlines.{newline-malformed}
@@ -47,17 +49,51 @@ held-list [] c long = rw (append-nil (held c)) (sym (held-clip c))
 held-list (b ∷ s) c long =
     held-list s (byte_kept c b) (rw (byte-long c b) long) ∙ rw (held-byte c b long, clip-append (held c ++ (b ∷ [])) s, append_assoc (held c) (b ∷ []) s)
 
--- a turn of the keeping of a list, and its end
-pub kept-turn : (c next after : Cutter) (s : List ℕ) (i : ℕ) → list_kept c s ≡ list_kept next (drop i s) → after ≡ byte_kept next (get_or s i 0) → i < length s
-    → list_kept c s ≡ list_kept after (drop (i + 1) s)
-unfolding list_kept
-kept-turn c next after s i e k h = e ∙ rw (drop-cons s i 0 h, add-one i, k)
+-- a list that has room is kept in one go
+kept-room : (s : List ℕ) (bytes : List ℕ) (len : ℕ) → len + length s ≤ most → most < length bytes
+    → list_kept (record { bytes = bytes; len = len }) s ≡ record { bytes = put_mid len (length s) bytes s; len = len + length s }
+unfolding list_kept byte_kept
+kept-room [] bytes len h long = let all : bytes ≡ put_mid len 0 bytes [] = sym (take-append-drop len bytes) in let same : len ≡ len + 0 = omega arith in (λ i. record { bytes = all i; len = same i })
+kept-room (b ∷ s) bytes len h long =
+    let few : len < most = omega arith in
+    let more : list_kept (record { bytes = set bytes len b; len = len + 1 }) s ≡ record { bytes = put_mid (len + 1) (length s) (set bytes len b) s; len = len + 1 + length s } =
+    kept-room s (set bytes len b) (len + 1) (omega arith) (rw length-set long) in
+    let on : len + 1 + length s ≡ len + suc (length s) = omega arith in
+    let end : len + suc (length s) ≡ suc len + length s = omega arith in
+    let front : put_mid (len + 1) (length s) (set bytes len b) s ≡ put_mid len (suc (length s)) bytes (b ∷ s) =
+    rw (add-one len, take-suc-set bytes len b (omega arith), append_assoc, drop-set-lt (suc len) bytes len b (omega arith), drop-drop (length s) (suc len) bytes, drop-drop (suc (length s)) len bytes, end) in
+    rw (lt-leb most len few, more, on, front)
 
-pub kept-all : (c next : Cutter) (s : List ℕ) (i : ℕ) → list_kept c s ≡ list_kept next (drop i s) → length s ≤ i → most < length c.bytes → Kept c s next
+kept-full : (s : List ℕ) (c : Cutter) → most ≤ c.len → list_kept c s ≡ c
+unfolding list_kept byte_kept
+kept-full [] c h = refl
+kept-full (b ∷ s) c h = rw (le-leb most c.len h) (kept-full s c h)
+
+kept-append : (a b : List ℕ) (c : Cutter) → list_kept c (a ++ b) ≡ list_kept (list_kept c a) b
 unfolding list_kept
-kept-all c next s i e h long =
-    let all : next ≡ list_kept c s = sym (rw (drop_of_length-le s h) at e) in
-    record { whole = all; line = ap held all ∙ held-list s c long }
+kept-append [] b c = refl
+kept-append (x ∷ a) b c = kept-append a b (byte_kept c x)
+
+module _ (c : Cutter) (s : List ℕ) (long : most < length c.bytes) where
+  -- without room nothing more is kept
+  pub kept-none : most ≤ c.len → Kept c s c
+  kept-none h = let all = kept-full s c h in record { whole = sym all; line = ap held (sym all) ∙ held-list s c long }
+
+  -- with it as much as it takes
+  pub kept-some : (n : ℕ) (new : List ℕ) → c.len < most → n ≡ min (length s) (most - c.len) → new ≡ take n s
+      → Kept c s (record { bytes = put_mid c.len (c.len + n - c.len) c.bytes new; len = c.len + n })
+  unfolding list_kept
+  kept-some n new h e is =
+      let room : Cutter = record { bytes = put_mid c.len n c.bytes (take n s); len = c.len + n } in
+      let few : length (take n s) ≡ n = length-take-le n s (omega arith) in
+      let first : list_kept c (take n s) ≡ room = rw few at (kept-room (take n s) c.bytes c.len (rw few (omega arith)) long) in
+      let none : list_kept room (drop n s) ≡ room =
+      cases (leb most (c.len + n))
+      (λ t. kept-full (drop n s) room (leb-true most (c.len + n) t))
+      (λ t. let all : length s ≤ n = omega (arith, leb-false most (c.len + n) t) in rw (drop_of_length-le s all) refl) in
+      let all : list_kept c s ≡ room = ap (list_kept c) (sym (take-append-drop n s)) ∙ kept-append (take n s) (drop n s) c ∙ ap (λ (d : Cutter). list_kept d (drop n s)) first ∙ none in
+      let same : c.len + n - c.len ≡ n = omega arith in
+      rw (same, is) (record { whole = sym all; line = ap held (sym all) ∙ held-list s c long })
 
 -- ---- the block of one line
 
@@ -96,6 +132,9 @@ unfolding one_line held
 one-short c =
     cases (ltb (length (up_to (held c))) (length (held c))) (λ e. rw e (omega arith)) (λ e. rw e (omega (arith, length-take (min c.len most) c.bytes)))
 
-pub one_block : (c : Cutter) → most < length c.bytes → take (line_ended c).len (line_ended c).bytes ≡ one_line c ++ (10 ∷ [])
+one_block : (c : Cutter) → most < length c.bytes → take (line_ended c).len (line_ended c).bytes ≡ one_line c ++ (10 ∷ [])
 unfolding line_ended
 one_block c long = rw (add-one (length (one_line c)), take-suc-set c.bytes (length (one_line c)) 10 (omega (arith, one-short c)), one-take c)
+
+pub line-ends : (c next : Cutter) → next ≡ line_ended c → most < length c.bytes → Ended c next
+line-ends c next e long = record { whole = e; block = rw e (one_block c long) }

@@ -10,9 +10,9 @@ use lib.ListN.{length, get_or}
 use borrow.Author.Tests.{eqb-true, eqb-false, ne_eqb, le-leb, lt-leb, leb-true}
 use Rattle.lists.specs.Every.{every}
 use Rattle.lists.proofs.Split.{split, both}
-use Rattle.lines.specs.declared.Field.TheVariants.{Good, Bad}
+use Rattle.std.proofs.Common.{Some, None}
 use Rattle.lines.specs.Line.{is_digit, worth, starts_well, is_number}
-use Rattle.lines.specs.Way.{rest_at, digits, front, digits_from, number_at, field_at}
+use Rattle.lines.specs.Way.{rest_at, digits, front, number, digits_from, number_at, field_at}
 use Rattle.lines.proofs.Words.{rest-at, rest_end, rest-on}
 
 -- digits more make no number smaller
@@ -51,7 +51,7 @@ module _ (s : List ℕ) (i : ℕ) {b : ℕ} (e : b ≡ get_or s i 10) (d : is_di
       rw (rest-at s i e) (split (eqb b 10) (λ t. rw t) (λ t. rw (t, ne_eqb b 48 other, d)))
 
 module _ (largest : ℕ) (m : Bool) where
-  pub digits-over : (i v : ℕ) (t : List ℕ) → largest < v → digits_from largest m i v t ≡ Bad
+  pub digits-over : (i v : ℕ) (t : List ℕ) → largest < v → digits_from largest m i v t ≡ None
   unfolding digits_from
   digits-over i v t h =
       let over : largest < worth v (digits t) = omega (arith, worth-grows v (digits t)) in
@@ -64,7 +64,7 @@ module _ (largest : ℕ) (m : Bool) where
       let one : i + suc (length (digits t)) ≡ i + 1 + length (digits t) = omega arith in
       rw (d, one)
 
-  digits-none : (i v : ℕ) (t : List ℕ) → digits t ≡ [] → v ≤ largest → digits_from largest m i v t ≡ Good m v i
+  digits-none : (i v : ℕ) (t : List ℕ) → digits t ≡ [] → v ≤ largest → digits_from largest m i v t ≡ Some (number m v i)
   unfolding digits_from worth
   digits-none i v t e h = let here : i + 0 ≡ i = omega arith in rw (e, le-leb v largest h, here)
 
@@ -78,11 +78,11 @@ module _ (largest : ℕ) (m : Bool) where
       let some : worth (b - 48) w ≡ 0 → ⊥ = λ z. p (omega (arith, worth-grows (b - 48) w, digit-range b d)) in
       rw (ne_eqb b 48 p, d, ne_eqb b 48 p, d, digits-all t, start, ne_eqb (worth (b - 48) w) 0 some, and-false m, and-true, one)
 
-  number-wrong : (at : ℕ) (t : List ℕ) → front t ≡ [] → number_at largest m at t ≡ Bad
+  number-wrong : (at : ℕ) (t : List ℕ) → front t ≡ [] → number_at largest m at t ≡ None
   unfolding number_at is_number starts_well
   number-wrong at t e = rw e
 
-  number-zero : (at : ℕ) (t : List ℕ) → number_at largest m at (48 ∷ t) ≡ cond m Bad (Good false 0 (at + 1))
+  number-zero : (at : ℕ) (t : List ℕ) → number_at largest m at (48 ∷ t) ≡ cond m None (Some (number false 0 (at + 1)))
   unfolding number_at front is_number starts_well every worth
   number-zero at t = rw (le-leb 0 largest (omega arith)) (split m (λ k. rw k) (λ k. rw k))
 
@@ -91,21 +91,21 @@ module _ (largest : ℕ) (m : Bool) where
     pub digits-turn : (v : ℕ) → is_digit b ≡ true → digits_from largest m i v (rest_at s i) ≡ digits_from largest m (i + 1) (v * 10 + (b - 48)) (rest_at s (i + 1))
     digits-turn v d = rw (rest-on s i e (digit-on d)) (digits_more i v b (rest_at s (i + 1)) d)
 
-    pub digits-end : (v : ℕ) → is_digit b ≡ false → v ≤ largest → digits_from largest m i v (rest_at s i) ≡ Good m v i
+    pub digits-end : (v : ℕ) → is_digit b ≡ false → v ≤ largest → digits_from largest m i v (rest_at s i) ≡ Some (number m v i)
     digits-end v d h = digits-none i v (rest_at s i) (digits-here s i e d) h
 
     pub number_more : is_digit b ≡ true → (b ≡ 48 → ⊥) → number_at largest m i (rest_at s i) ≡ digits_from largest m (i + 1) (b - 48) (rest_at s (i + 1))
     number_more d p = rw (rest-on s i e (digit-on d)) (number_digits i b (rest_at s (i + 1)) d p)
 
-    pub number-nought : b ≡ 48 → number_at largest m i (rest_at s i) ≡ cond m Bad (Good false 0 (i + 1))
+    pub number-nought : b ≡ 48 → number_at largest m i (rest_at s i) ≡ cond m None (Some (number false 0 (i + 1)))
     number-nought z = rw (rest-on s i e (λ t. omega arith), z) (number-zero i (rest_at s (i + 1)))
 
-    pub number-none : is_digit b ≡ false → number_at largest m i (rest_at s i) ≡ Bad
+    pub number-none : is_digit b ≡ false → number_at largest m i (rest_at s i) ≡ None
     number-none d = number-wrong i (rest_at s i) (front-here s i e d)
 
 -- a field by its first byte, the minus sign or another
 module _ (largest : ℕ) (signed : Bool) (s : List ℕ) (at : ℕ) {b : ℕ} (e : b ≡ get_or s at 10) where
-  pub field_in : field_at largest signed at (rest_at s at) ≡ cond (eqb b 45) (cond signed (number_at largest true (at + 1) (rest_at s (at + 1))) Bad) (number_at largest false at (rest_at s at))
+  pub field_in : field_at largest signed at (rest_at s at) ≡ cond (eqb b 45) (cond signed (number_at largest true (at + 1) (rest_at s (at + 1))) None) (number_at largest false at (rest_at s at))
   unfolding field_at
   field_in =
       split (eqb b 10)

@@ -15,12 +15,6 @@ use Rattle.lists.proofs.Split.{split}
 use Rattle.lines.specs.Lines.{before}
 use Rattle.lines.specs.Way.{rest_at, end_at}
 
--- a byte of the bytes, whatever stands for those behind their end
-pub byte-any : (s : List ℕ) (i d e : ℕ) → i < length s → get_or s i d ≡ get_or s i e
-byte-any [] i d e p = absurd (not-suc-le-zero p)
-byte-any (b ∷ s) zero d e p = refl
-byte-any (b ∷ s) (suc i) d e p = byte-any s i d e (le_of_suc-le-suc p)
-
 within : (s : List ℕ) (i d : ℕ) → (get_or s i d ≡ d → ⊥) → i < length s
 within [] i d p = absurd (p refl)
 within (b ∷ s) zero d p = omega arith

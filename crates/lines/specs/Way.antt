@@ -1,11 +1,10 @@
 -- On the way to a line of the input: what is kept of a line that has not ended, and what is read at a place of some bytes. That these
 -- come to the lines of Lines and to what Line says of them is shown in proofs; nobody need believe them.
 -- Assumes nothing.
-use Rattle.std.specs.Prelude.{ℕ, ◌+◌, min, ◌≡◌, cond, Bool, true, false, not, ◌&&◌, List, [], ◌∷◌, ◌++◌, leb, ltb, eqb, length, take, set, replicate, drop}
+use Rattle.std.specs.Prelude.{ℕ, ◌+◌, min, ◌≡◌, cond, Bool, true, false, not, ◌&&◌, List, [], ◌∷◌, ◌++◌, leb, ltb, eqb, length, take, set, replicate, drop, Option, Some, None}
 use Prim.Native.Char.{code}
 use Rattle.lines.specs.declared.Cutter.{Cutter}
-use Rattle.lines.specs.declared.Field.{Field}
-use Rattle.lines.specs.declared.Field.TheVariants.{Good, Bad}
+use Rattle.lines.specs.declared.Number.{Number}
 use Rattle.lines.specs.declared.Found.{Found}
 use Rattle.lines.specs.Lines.{newline, ended, left, up_to}
 use Rattle.lines.specs.Line.{is_digit, worth, is_number, line_of}
@@ -59,6 +58,10 @@ one_line c = cond (ltb (length (up_to (held c))) (length (held c))) [] (held c)
 unfoldable pub line_ended : Cutter → Cutter
 line_ended c = record { bytes = set c.bytes (length (one_line c)) newline; len = length (one_line c) + 1 }
 
+pub record Ended (c next : Cutter) : Type 0 where
+  pub whole : next ≡ line_ended c
+  pub block : take next.len next.bytes ≡ one_line c ++ (newline ∷ [])
+
 -- ---- what is read at a place of some bytes: the rest of a line, a number or a field in front of it, and the whole line
 -- the line from a place on, and where it ends
 abbrev pub rest_at : List ℕ → ℕ → List ℕ
@@ -77,21 +80,25 @@ unfoldable pub front : List ℕ → List ℕ
 front [] = []
 front (b ∷ t) = cond (eqb b (code "0")) (b ∷ []) (digits (b ∷ t))
 
+-- a size with its sign, and the place behind it
+abbrev pub number : Bool → ℕ → ℕ → Number
+number minus size next = record { minus = minus; size = size; next = next }
+
 -- what the digits in front of some bytes make, behind others that come to v
-unfoldable pub digits_from : ℕ → Bool → ℕ → ℕ → List ℕ → Field
-digits_from largest minus at v t = cond (leb (worth v (digits t)) largest) (Good minus (worth v (digits t)) (at + length (digits t))) Bad
+unfoldable pub digits_from : ℕ → Bool → ℕ → ℕ → List ℕ → Option Number
+digits_from largest minus at v t = cond (leb (worth v (digits t)) largest) (Some (number minus (worth v (digits t)) (at + length (digits t)))) None
 
 -- the number in front of some bytes that begin at a place, and not 0 behind a minus sign
-unfoldable pub number_at : ℕ → Bool → ℕ → List ℕ → Field
+unfoldable pub number_at : ℕ → Bool → ℕ → List ℕ → Option Number
 number_at largest minus at t =
     let w = front t in
-    cond (is_number largest w && not (minus && eqb (worth 0 w) 0)) (Good minus (worth 0 w) (at + length w)) Bad
+    cond (is_number largest w && not (minus && eqb (worth 0 w) 0)) (Some (number minus (worth 0 w) (at + length w))) None
 
 -- the same, with a minus sign where one may stand. Whether a space or the end of the line is next is not asked here
-unfoldable pub field_at : ℕ → Bool → ℕ → List ℕ → Field
-field_at largest signed at [] = Bad
+unfoldable pub field_at : ℕ → Bool → ℕ → List ℕ → Option Number
+field_at largest signed at [] = None
 field_at largest signed at (b ∷ t) =
-    cond (eqb b (code "-")) (cond signed (number_at largest true (at + 1) t) Bad) (number_at largest false at (b ∷ t))
+    cond (eqb b (code "-")) (cond signed (number_at largest true (at + 1) t) None) (number_at largest false at (b ∷ t))
 
 -- the line that begins at a place
 unfoldable pub found_at : List ℕ → ℕ → Found

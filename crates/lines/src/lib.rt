@@ -2,11 +2,12 @@
 // of blocks of bytes, where one ends and what is kept of one that a block cuts in two.
 #![tactic(auto)]
 
-ghost use Rattle.std.specs.Prelude.{◌≡◌, ◌+◌, ◌≤◌, get_or, length, drop};
+ghost use Rattle.std.specs.Prelude.{◌≡◌, ◌+◌, ◌≤◌, ◌==◌, get_or, length, drop, position};
 ghost use Rattle.lines.specs.Lines.{up_to};
-ghost use Rattle.lines.specs.Line.{is_digit, letter, rules_of, blank, malformed};
-ghost use Rattle.lines.specs.Way.{held, nothing, emptied_of, byte_kept, Kept, one_line, line_ended, rest_at, end_at, digits_from, number_at, field_at, found_at};
+ghost use Rattle.lines.specs.Line.{letter, rules_of, malformed};
+ghost use Rattle.lines.specs.Way.{held, nothing, emptied_of, Kept, one_line, Ended, rest_at, end_at, digits_from, number_at, field_at, found_at};
 
+// A line's kind; one that is malformed says no more than that, and is answered as any other line is.
 #[derive(Clone, Copy)]
 pub enum Kind {
     Open,
@@ -24,7 +25,8 @@ struct Rules {
     largest: u32,
 }
 
-// As many numbers as count says, the first 21 of them kept, with zeros behind them; minus says that the shunt is negative.
+// As many numbers as count says, the first 21 of them kept, with zeros behind them (fixed memory: a line may have more than are
+// kept, so the count is no slice's length); minus says that the shunt is negative: the other numbers have no sign, and all stand in one array.
 #[derive(Clone, Copy)]
 pub struct Line {
     pub kind: Kind,
@@ -40,15 +42,16 @@ pub struct Found {
     pub end: usize,
 }
 
-// A number with or without its minus sign, and the place behind it.
+// A number with or without its minus sign, as it goes into a line, and the place behind it.
 #[derive(Clone, Copy)]
-enum Field {
-    Good { minus: bool, size: u32, next: usize },
-    Bad,
+struct Number {
+    minus: bool,
+    size: u32,
+    next: usize,
 }
 
 // The first bytes of a line that has not ended. A line is at most 200 bytes long, so 201 are enough to know one that is too long;
-// one place more is for its newline.
+// one place more is for its newline. Memory is fixed, so how many are kept stands beside their places.
 #[derive(Clone, Copy)]
 pub struct Cutter {
     pub bytes: [u8; 202],
@@ -80,105 +83,85 @@ fn rules_of(k: Kind) -> Rules
         Kind::Open => Rules {
             head: 0,
             most: 100,
-            largest: largest,
+            largest,
         },
         Kind::Sample => Rules {
             head: 5,
             most: 21,
-            largest: largest,
+            largest,
         },
         Kind::Frame => Rules {
             head: 0,
             most: 16,
             largest: 255,
         },
-        Kind::Read => Rules {
+        Kind::Read | Kind::Malformed => Rules {
             head: 0,
             most: 0,
-            largest: largest,
-        },
-        Kind::Malformed => Rules {
-            head: 0,
-            most: 0,
-            largest: largest,
+            largest,
         },
     }
 }
 
-// ---- bytes
+// ---- fields: a place in the bytes beside them, and not what is left of them, which kept two numbers in registers where one does (docs/PERFORMANCE.md)
 
 // The byte at a place; behind the last one a newline, since the end of the bytes ends a line too.
 fn byte_at(s: &[u8], at: usize) -> u8
     ensures { result ≡ get_or s.now at 10 }
 {
-    if at < s.len() {
-        return s[at];
-    }
-    10
+    s.get(at).copied().unwrap_or(b'\n')
 }
 
-fn is_digit(b: u8) -> bool
-    ensures { result ≡ is_digit b }
-{
-    if b < b'0' {
-        return false;
-    }
-    b <= b'9'
-}
-
-// ---- fields
-
-// The number whose first digits come to v: the digits behind them, read once.
-fn digits_from(s: &[u8], at: usize, largest: u32, minus: bool, v: u32) -> Field
+// The number whose first digits come to v: the digits behind them, read once. A loop by hand, as the place where it ends is told too.
+fn digits_from(s: &[u8], at: usize, largest: u32, minus: bool, v: u32) -> Option<Number>
     requires { v ≤ largest }
     ensures { result ≡ digits_from largest minus at v (rest_at s.now at) }
 {
     // ten times the largest number and a digit more still fit
-    let top = largest as u64;
-    let mut sum = v as u64;
-    let mut i = at;
+    let top = u64::from(largest);
+    let mut sum = u64::from(v);
+    let mut next = at;
     loop {
-        let b = byte_at(s, i);
-        if is_digit(b) {
-            sum = sum * 10 + (b - b'0') as u64;
-            if top < sum {
-                return Field::Bad;
-            }
-            i += 1;
-        } else {
-            return Field::Good {
-                minus: minus,
+        let b = byte_at(s, next);
+        if !b.is_ascii_digit() {
+            return Some(Number {
+                minus,
                 size: sum as u32,
-                next: i,
-            };
+                next,
+            });
         }
+        sum = sum * 10 + u64::from(b - b'0');
+        if top < sum {
+            return None;
+        }
+        next += 1;
     }
 }
 
 // The number that begins here. A 0 has no digit behind it, and no minus sign in front.
-fn number_at(s: &[u8], at: usize, largest: u32, minus: bool) -> Field
+fn number_at(s: &[u8], at: usize, largest: u32, minus: bool) -> Option<Number>
     requires { 9 ≤ largest }
     ensures { result ≡ number_at largest minus at (rest_at s.now at) }
 {
     let first = byte_at(s, at);
     if first == b'0' {
         if minus {
-            return Field::Bad;
+            return None;
         }
-        return Field::Good {
+        return Some(Number {
             minus: false,
             size: 0,
             next: at + 1,
-        };
+        });
     }
-    if is_digit(first) {
-        return digits_from(s, at + 1, largest, minus, (first - b'0') as u32);
+    if first.is_ascii_digit() {
+        return digits_from(s, at + 1, largest, minus, u32::from(first - b'0'));
     }
-    Field::Bad
+    None
 }
 
 // The field that begins here; a minus sign only where one may stand. Its word has to end behind it, which line_at sees.
-fn field_at(s: &[u8], at: usize, largest: u32, signed: bool) -> Field
+fn field_at(s: &[u8], at: usize, largest: u32, signed: bool) -> Option<Number>
     requires { 9 ≤ largest }
     ensures { result ≡ field_at largest signed at (rest_at s.now at) }
 {
@@ -188,66 +171,53 @@ fn field_at(s: &[u8], at: usize, largest: u32, signed: bool) -> Field
     if signed {
         return number_at(s, at + 1, largest, true);
     }
-    Field::Bad
+    None
 }
 
 // ---- lines
 
-// The places for the numbers, with none in them.
-fn no_numbers() -> [u32; 21]
-    ensures { result ≡ blank }
-{
-    [0; 21]
-}
-
-// A malformed line says nothing else.
-fn malformed_line() -> Line
-    ensures { result ≡ malformed }
-{
-    Line {
-        kind: Kind::Malformed,
-        minus: false,
-        count: 0,
-        numbers: no_numbers(),
-    }
-}
-
-// A malformed line that is read up to this place.
+// A malformed line, which says nothing else, that is read up to this place.
 fn malformed_from(s: &[u8], at: usize) -> Found
     ensures { result ≡ record { line = malformed; end = end_at s.now at } }
 {
     Found {
-        line: malformed_line(),
+        line: Line {
+            kind: Kind::Malformed,
+            minus: false,
+            count: 0,
+            numbers: [0; 21],
+        },
         end: line_end(s, at),
     }
 }
 
 // The line that begins here: a letter, and behind each space a field, up to the newline. One of more than 200 bytes is malformed.
+// A loop by hand: each field says where the next begins.
 pub fn line_at(s: &[u8], start: usize) -> Found
     ensures { result ≡ found_at s.now start }
 {
     let first = byte_at(s, start);
-    if first == 10 {
+    if first == b'\n' {
         return malformed_from(s, start);
     }
     let kind = kind_of(first);
     let rules = rules_of(kind);
-    let mut numbers = no_numbers();
+    let mut numbers = [0; 21];
     let mut minus = false;
     let mut n = 0;
     let mut at = start + 1;
     loop {
         let b = byte_at(s, at);
         if b != b' ' {
-            if (b != 10) | (n < rules.head) | (200 < at - start) {
+            if (b != b'\n') | (n < rules.head) | (200 < at - start) {
                 return malformed_from(s, at);
             }
             return Found {
                 line: Line {
-                    kind: kind,
-                    minus: minus,
+                    kind,
+                    minus,
                     count: n,
-                    numbers: numbers,
+                    numbers,
                 },
                 end: at,
             };
@@ -255,119 +225,88 @@ pub fn line_at(s: &[u8], start: usize) -> Found
         if rules.most <= n {
             return malformed_from(s, at);
         }
-        match field_at(s, at + 1, rules.largest, n + 1 == rules.head) {
-            Field::Bad => {
-                return malformed_from(s, at);
-            }
-            Field::Good {
-                minus: m,
-                size,
-                next,
-            } => {
-                if n < 21 {
-                    numbers[n] = size;
-                }
-                minus = minus | m;
-                n += 1;
-                at = next;
-            }
+        let Some(number) = field_at(s, at + 1, rules.largest, n + 1 == rules.head) else {
+            return malformed_from(s, at);
+        };
+        if n < 21 {
+            numbers[n] = number.size;
         }
+        minus |= number.minus;
+        n += 1;
+        at = number.next;
     }
 }
 
-// ---- lines out of blocks
-
-pub fn new_cutter() -> Cutter
-    ensures { result ≡ nothing }
+fn first_newline(s: &[u8]) -> Option<usize>
+    ensures { result ≡ position (λ b. b == 10) s.now }
 {
-    Cutter {
-        bytes: [0; 202],
-        len: 0,
-    }
-}
-
-// Nothing kept; the old bytes need no clearing.
-pub fn emptied(c: Cutter) -> Cutter
-    ensures { result ≡ emptied_of c }
-{
-    let mut next = c;
-    next.len = 0;
-    next
-}
-
-fn keep_byte(c: Cutter, b: u8) -> Cutter
-    ensures { result ≡ byte_kept c b }
-{
-    let len = c.len;
-    if 201 <= len {
-        return c;
-    }
-    let mut next = c;
-    next.bytes[len] = b;
-    next.len = len + 1;
-    next
-}
-
-// Keeps s behind what is kept.
-pub fn keep(c: Cutter, s: &[u8]) -> Cutter
-    ensures { Kept c s.now result }
-{
-    let mut next = c;
-    let mut i = 0;
-    while i < s.len() {
-        next = keep_byte(next, s[i]);
-        i += 1;
-    }
-    next
-}
-
-// How many bytes are kept.
-pub fn kept_len(c: Cutter) -> usize
-    ensures { result ≡ length (held c) }
-{
-    let bytes = c.bytes;
-    let len = c.len;
-    if len < bytes.len() {
-        len
-    } else {
-        bytes.len() - 1
-    }
-}
-
-// How many of them make a line: none where a newline is among them, since such bytes are no line, and no more is an empty one.
-fn one_len(c: Cutter) -> usize
-    ensures { result ≡ length (one_line c) }
-{
-    let bytes = c.bytes;
-    let len = kept_len(c);
-    if line_end(&bytes[..len], 0) < len {
-        0
-    } else {
-        len
-    }
-}
-
-// What is kept as a block of one line, with the newline that ends it.
-pub fn end_line(c: Cutter) -> Cutter
-    ensures { result ≡ line_ended c }
-{
-    let len = one_len(c);
-    let mut next = c;
-    next.bytes[len] = 10;
-    next.len = len + 1;
-    next
+    s.iter().position(|b| *b == b'\n')
 }
 
 // The place of the first newline from at on, or the end.
 pub fn line_end(s: &[u8], at: usize) -> usize
     ensures { result ≡ at + length (up_to (drop at s.now)) }
 {
-    let mut i = at;
-    while i < s.len() {
-        if s[i] == 10 {
-            return i;
+    let rest = s.get(at..).unwrap_or(&[]);
+    at + first_newline(rest).unwrap_or(rest.len())
+}
+
+// ---- lines out of blocks
+
+impl Cutter {
+    pub fn new() -> Cutter
+        ensures { result ≡ nothing }
+    {
+        Cutter {
+            bytes: [0; 202],
+            len: 0,
         }
-        i += 1;
     }
-    i
+
+    // Nothing kept; the old bytes need no clearing.
+    pub fn clear(&mut self)
+        ensures { self.new ≡ emptied_of self.old }
+    {
+        self.len = 0;
+    }
+
+    // Keeps s behind what is kept, as far as there is room.
+    pub fn keep(&mut self, s: &[u8])
+        ensures { Kept self.old s.now self.new }
+    {
+        if self.len < 201 {
+            let len = self.len;
+            let more = s.len().min(201 - len);
+            self.bytes[len..len + more].copy_from_slice(&s[..more]);
+            self.len = len + more;
+        }
+    }
+
+    // How many bytes are kept.
+    pub fn kept_len(&self) -> usize
+        ensures { result ≡ length (held self.now) }
+    {
+        self.len.min(201)
+    }
+
+    // How many of them make a line: none where a newline is among them, since such bytes are no line, and no more is an empty one.
+    fn one_len(&self) -> usize
+        ensures { result ≡ length (one_line self.now) }
+    {
+        let len = self.kept_len();
+        if line_end(&self.bytes[..len], 0) < len {
+            0
+        } else {
+            len
+        }
+    }
+
+    // What is kept as a block of one line, with the newline that ends it.
+    pub fn end_line(&mut self)
+        ensures { Ended self.old self.new }
+    {
+        let len = self.one_len();
+        self.bytes[len] = b'\n';
+        self.len = len + 1;
+    }
 }

@@ -4,4 +4,3 @@ pub mod Fill
 pub mod Below
 pub mod Each
 pub mod Marks
-pub mod While

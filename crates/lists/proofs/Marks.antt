@@ -7,9 +7,9 @@ use native.Mathlib.Omega.{arith}
 use mathlib.Core.Path.{◌≡◌, refl, ap, sym, ◌∙◌}
 use mathlib.Core.Bool.{Bool, true, false, not, ◌&&◌, ◌||◌}
 use mathlib.Core.List.{List, [], ◌∷◌}
-use borrow.Author.Tests.{eqb-true, eqb-false, eq-eqb, ne_eqb}
+use borrow.Author.Tests.{eqb-true, eqb-false, eq-eqb, ne_eqb, le-ltb}
 use lib.Bits.{bit_and, bit_or, bit_xor, differ, and_step, or_step, xor_step}
-use lib.Dec.{eqb, lit<}
+use lib.Dec.{eqb, ltb, lit<}
 use lib.ListN.{length, get_or}
 use lib.Pow.{pow_mono, mod-pow-add, shl_exact}
 use Rattle.lists.specs.Marks.{bit, number, marked, marks, lowest}
@@ -17,6 +17,10 @@ use Rattle.lists.specs.Marks.{bit, number, marked, marks, lowest}
 -- a number of w places has no cell from place w up
 pub marked-above : (w set at : ℕ) → set < 2 ^ w → w ≤ at → marked set at ≡ false
 marked-above w set at h p = rw (div-eq_of_lt (lt_of_lt_of_le h (pow_mono p)))
+
+-- nor has a u16 one past its 16 places
+pub no_place : (set at : ℕ) → set < 65536 → 16 ≤ at → ltb at 16 ≡ marked set at
+no_place set at h p = le-ltb at 16 p ∙ sym (marked-above 16 set at h p)
 
 pub marks-length : (n set : ℕ) → length (marks n set) ≡ n
 unfolding marks

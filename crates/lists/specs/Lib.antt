@@ -2,4 +2,3 @@ pub mod Compare
 pub mod Every
 pub mod Each
 pub mod Marks
-pub mod While

@@ -6,11 +6,9 @@ ghost use Rattle.std.specs.Prelude.{◌≡◌};
 ghost use Rattle.lists.specs.Marks.{marked};
 
 // Whether the set has the cell at this place, counted from 0.
+#[tactic(auto, using(crate::proofs::Marks::no_place))]
 pub fn mark_at(set: u16, at: usize) -> bool
     ensures { result ≡ marked set at }
 {
-    if 16 <= at {
-        return false;
-    }
-    (set >> at) % 2 == 1
+    at < 16 && (set >> at) % 2 == 1
 }

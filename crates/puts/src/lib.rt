@@ -4,15 +4,13 @@
 ghost use Rattle.std.specs.Prelude.{◌+◌, ◌≤◌, length};
 ghost use Rattle.puts.specs.Put.{Put};
 
-// Puts s into out from at on, and gives the place after it.
+// Puts s into out from at on, and gives the place after it. The place stands beside the memory, and no rest of it is lent, since what is promised is
+// said of the whole memory.
 pub fn put_bytes(out: &mut [u8], at: usize, s: &[u8]) -> usize
     requires { at + length s.now ≤ length out.old }
     ensures { Put at s.now out.old out.new result }
 {
-    let mut i = 0;
-    while i < s.len() {
-        out[at + i] = s[i];
-        i += 1;
-    }
-    at + i
+    let end = at + s.len();
+    out[at..end].copy_from_slice(s);
+    end
 }

@@ -1,4 +1,5 @@
 pub mod Numbers
+pub mod Told
 pub mod Steps
 pub mod Many
 pub mod Whole

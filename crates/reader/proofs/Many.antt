@@ -14,8 +14,11 @@ use Rattle.refusal.specs.Said.{first}
 use Rattle.format.specs.Read.{Test, bar_of, act_long, board_tests, act_tests, boards_tests, acts_tests}
 use Rattle.format.proofs.Fronts.{real_tests, board-real, act-real}
 use Rattle.format.proofs.WrittenAgain.{board-clear, act-clear}
-use Rattle.reader.specs.declared.Step.{Step}
-use Rattle.reader.specs.Reader.{stop, stop_of, board_step, act_step, boards_step, acts_step}
+use Rattle.std.proofs.Common.{Err}
+use Rattle.reader.specs.declared.Stop.{Stop}
+use Rattle.reader.specs.Told.{step_told}
+use Rattle.reader.proofs.Told.{told-some}
+use Rattle.reader.specs.Reader.{Step, stop, stop_of, board_step, act_step, boards_step, acts_step}
 
 -- the number told is that of the first test that holds
 pub number_is : (ts : List Test) (next : ℕ) → (stop_of ts next).number ≡ first (map bar_of ts)
@@ -82,43 +85,43 @@ acts-turn n at rest e =
     let there : at + length rest ≡ at + act_long rest + length (drop (act_long rest) rest) = omega (arith, length-drop (act_long rest) rest, inside) in
     stop-append (act_tests at rest) (acts_tests n (at + act_long rest) (drop (act_long rest) rest)) (at + act_long rest) (at + length rest) (act-real at rest) ∙ rw (eq-eqb _ 0 e, there)
 
--- ---- a loop over boards, and one over acts, where r is what came of the one from `at` on
-module _ (bytes : List ℕ) (many i at : ℕ) (here : i < many) (r : Step) where
+-- ---- a loop over boards, and one over acts: what is left, and the first of it
+module _ (bytes : List ℕ) (many i at : ℕ) (here : i < many) where
   one_fewer : many - i ≡ suc (many - (i + 1))
   one_fewer = omega (arith, here)
 
-  pub boards-ends : r ≡ board_step at (drop at bytes) → (r.number ≡ 0 → ⊥) → r ≡ boards_step (many - i) at (drop at bytes)
-  boards-ends e some = rw one_fewer (e ∙ boards-stop (many - (i + 1)) at (drop at bytes) (λ z. some (ap (λ (s : Step). s.number) e ∙ z)))
+  pub boards-ends : (e : Stop) → step_told (Err e) ≡ board_step at (drop at bytes) → step_told (Err e) ≡ boards_step (many - i) at (drop at bytes)
+  boards-ends e so = rw one_fewer (so ∙ boards-stop (many - (i + 1)) at (drop at bytes) (told-some e so))
 
-  pub boards-next : r ≡ board_step at (drop at bytes) → r.number ≡ 0 → at ≤ length bytes
-      → (r.at ≡ at + 2) × (r.at ≤ length bytes) × (boards_step (many - (i + 1)) r.at (drop r.at bytes) ≡ boards_step (many - i) at (drop at bytes))
-  boards-next e none inside =
-      let zero' : (board_step at (drop at bytes)).number ≡ 0 = sym (ap (λ (s : Step). s.number) e) ∙ none in
-      let on = board-on at (drop at bytes) zero' in
-      let there : r.at ≡ at + 2 = ap (λ (s : Step). s.at) (e ∙ on.0) in
-      (there, omega (arith, there, on.1, length-drop at bytes, inside), rw (there, one_fewer) (sym (boards-turn (many - (i + 1)) at (drop at bytes) zero' ∙ ap (boards_step (many - (i + 1)) (at + 2)) (drop-drop 2 at bytes))))
+  pub boards-next : (next : ℕ) → stop 0 next ≡ board_step at (drop at bytes) → at ≤ length bytes
+      → (next ≤ length bytes) × (boards_step (many - (i + 1)) next (drop next bytes) ≡ boards_step (many - i) at (drop at bytes))
+  boards-next next so inside =
+      let none : (board_step at (drop at bytes)).number ≡ 0 = sym (ap (λ (s : Step). s.number) so) in
+      let on = board-on at (drop at bytes) none in
+      let there : next ≡ at + 2 = ap (λ (s : Step). s.at) (so ∙ on.0) in
+      (omega (arith, there, on.1, length-drop at bytes, inside), rw (there, one_fewer) (sym (boards-turn (many - (i + 1)) at (drop at bytes) none ∙ ap (boards_step (many - (i + 1)) (at + 2)) (drop-drop 2 at bytes))))
 
-  pub acts-ends : r ≡ act_step at (drop at bytes) → (r.number ≡ 0 → ⊥) → r ≡ acts_step (many - i) at (drop at bytes)
-  acts-ends e some = rw one_fewer (e ∙ acts-stop (many - (i + 1)) at (drop at bytes) (λ z. some (ap (λ (s : Step). s.number) e ∙ z)))
+  pub acts-ends : (e : Stop) → step_told (Err e) ≡ act_step at (drop at bytes) → step_told (Err e) ≡ acts_step (many - i) at (drop at bytes)
+  acts-ends e so = rw one_fewer (so ∙ acts-stop (many - (i + 1)) at (drop at bytes) (told-some e so))
 
-  pub acts-next : r ≡ act_step at (drop at bytes) → r.number ≡ 0 → at ≤ length bytes
-      → (r.at ≤ length bytes) × (acts_step (many - (i + 1)) r.at (drop r.at bytes) ≡ acts_step (many - i) at (drop at bytes))
-  acts-next e none inside =
-      let zero' : (act_step at (drop at bytes)).number ≡ 0 = sym (ap (λ (s : Step). s.number) e) ∙ none in
-      let on = act-on at (drop at bytes) zero' in
+  pub acts-next : (next : ℕ) → stop 0 next ≡ act_step at (drop at bytes) → at ≤ length bytes
+      → (next ≤ length bytes) × (acts_step (many - (i + 1)) next (drop next bytes) ≡ acts_step (many - i) at (drop at bytes))
+  acts-next next so inside =
+      let none : (act_step at (drop at bytes)).number ≡ 0 = sym (ap (λ (s : Step). s.number) so) in
+      let on = act-on at (drop at bytes) none in
       let long = act_long (drop at bytes) in
-      let there : r.at ≡ at + long = ap (λ (s : Step). s.at) (e ∙ on.0) in
-      (omega (arith, there, on.1, length-drop at bytes, inside), rw (there, one_fewer) (sym (acts-turn (many - (i + 1)) at (drop at bytes) zero' ∙ ap (acts_step (many - (i + 1)) (at + long)) (drop-drop long at bytes))))
+      let there : next ≡ at + long = ap (λ (s : Step). s.at) (so ∙ on.0) in
+      (omega (arith, there, on.1, length-drop at bytes, inside), rw (there, one_fewer) (sym (acts-turn (many - (i + 1)) at (drop at bytes) none ∙ ap (acts_step (many - (i + 1)) (at + long)) (drop-drop long at bytes))))
 
-module _ (bytes : List ℕ) (many i at : ℕ) (r : Step) (over : many ≤ i) where
+module _ (bytes : List ℕ) (many i at : ℕ) (over : many ≤ i) where
   none_left : many - i ≡ 0
   none_left = omega (arith, over)
 
-  pub boards-over : r ≡ stop 0 at → r ≡ boards_step (many - i) at (drop at bytes)
-  boards-over e = rw none_left (e ∙ sym (boards-none at (drop at bytes)))
+  pub boards-over : stop 0 at ≡ boards_step (many - i) at (drop at bytes)
+  boards-over = rw none_left (sym (boards-none at (drop at bytes)))
 
-  pub acts-over : r ≡ stop 0 at → length bytes ≤ at → r ≡ acts_step (many - i) at (drop at bytes)
-  acts-over e end = rw none_left (e ∙ acts-none at (drop at bytes) (omega (arith, length-drop at bytes, end)))
+  pub acts-over : length bytes ≤ at → stop 0 at ≡ acts_step (many - i) at (drop at bytes)
+  acts-over end = rw none_left (acts-none at (drop at bytes) (omega (arith, length-drop at bytes, end)))
 
-  pub acts-more : r ≡ stop 19 at → at < length bytes → r ≡ acts_step (many - i) at (drop at bytes)
-  acts-more e more = rw none_left (e ∙ acts-left at (drop at bytes) (omega (arith, length-drop at bytes, more)))
+  pub acts-more : at < length bytes → stop 19 at ≡ acts_step (many - i) at (drop at bytes)
+  acts-more more = rw none_left (acts-left at (drop at bytes) (omega (arith, length-drop at bytes, more)))

@@ -5,6 +5,7 @@ use native.Mathlib.Omega.{arith}
 use mathlib.Core.Path.{◌≡◌, refl, sym, ap, ◌∙◌}
 use mathlib.Core.Bool.{Bool, true, false, true≢false, cond, ◌||◌}
 use mathlib.Core.List.{List, ◌++◌, map}
+use Rattle.std.proofs.Common.{Ok, Err}
 use lib.Dec.{eqb, ltb}
 use lib.ListN.{length, drop, length-drop}
 use borrow.Author.Tests.{eq-eqb, ne_eqb, eqb-true, ltb-false}
@@ -14,9 +15,11 @@ use Rattle.refusal.specs.Said.{first}
 use Rattle.format.specs.Read.{board_count, act_count, acts_at, act_long, bar_of, head_tests, act_tests, boards_tests, acts_tests, read_tests, read_bars}
 use Rattle.format.proofs.Fronts.{real_tests, real-append, head-real, boards-real, act-real}
 use Rattle.format.proofs.WrittenAgain.{head_clear, boards-clear, board-clear}
-use Rattle.reader.specs.declared.Step.{Step}
-use Rattle.reader.specs.declared.Read.{Read}
-use Rattle.reader.specs.Reader.{stop, stop_of, refused_read, read_of, head_stop, boards_step, acts_step}
+use Rattle.reader.specs.declared.Stop.{Stop}
+use Rattle.reader.specs.declared.Counts.{Counts}
+use Rattle.reader.specs.Reader.{Step, Read, stop, stop_of, refused_read, read_of, head_stop, boards_step, acts_step}
+use Rattle.reader.specs.Told.{counted, step_told, read_told}
+use Rattle.reader.proofs.Told.{told-some}
 use Rattle.reader.proofs.Many.{number_is, stop-append, goes_on}
 
 -- the number of a reading is the first of its refusals in their order
@@ -108,52 +111,50 @@ module _ (bytes : List ℕ) where
       unfolding read_of
       read-acts e = sym (ap by acts-last ∙ rw (ne_eqb acts.number 0 e))
 
-      -- they end where the bytes do
-      pub read_all : acts.number ≡ 0 → record { at = acts.at; boards = board_count bytes; acts = act_count bytes; number = 0 } ≡ read_of bytes
+      pub read_all : acts.number ≡ 0 → read_told (length bytes) (Ok (counted bytes)) ≡ read_of bytes
       unfolding read_of
-      read_all e =
-          let whole : stop_of (read_tests bytes) (length bytes) ≡ stop 0 (length bytes) = goes_on (read_tests bytes) (length bytes) (read_real bytes) (ap (λ (s : Step). s.number) acts-last ∙ e) in
-          let end : acts.at ≡ length bytes = ap (λ (s : Step). s.at) (sym acts-last ∙ whole) in
-          sym (ap by acts-last ∙ rw (eq-eqb acts.number 0 e, end))
+      read_all e = sym (ap by acts-last ∙ rw (eq-eqb acts.number 0 e))
 
 -- ---- the same of what each part of the code found
-module _ (bytes : List ℕ) (h : Step) (eh : h ≡ head_stop bytes) where
-  abbrev number_of : Step → ℕ
-  number_of s = s.number
+module _ (bytes : List ℕ) where
+  pub stops-head : (e : Stop) → step_told (Err e) ≡ head_stop bytes → read_told (length bytes) (Err e) ≡ read_of bytes
+  stops-head e eh = ap refused_read eh ∙ read_head bytes (told-some e eh)
 
-  pub stops-head : (h.number ≡ 0 → ⊥) → (r : Read) → r ≡ refused_read h → r ≡ read_of bytes
-  stops-head e r so = so ∙ ap refused_read eh ∙ read_head bytes (λ z. e (ap number_of eh ∙ z))
-
-  module _ (head : h.number ≡ 0) where
+  module _ (head : stop 0 8 ≡ head_stop bytes) where
     head-none : (head_stop bytes).number ≡ 0
-    head-none = sym (ap number_of eh) ∙ head
+    head-none = sym (ap (λ (s : Step). s.number) head)
 
-    pub head-room : (8 ≤ length bytes) × (board_count bytes ≤ 16)
-    head-room = let on = head-on bytes head-none in (on.0, few (board_count bytes) on.1)
+    pub head-room : 8 ≤ length bytes
+    head-room = (head-on bytes head-none).0
 
-    module _ (n : ℕ) (en : n ≡ board_count bytes) (b : Step) (eb : b ≡ boards_step n 8 (drop 8 bytes)) where
-      these : b ≡ boards bytes
-      these = eb ∙ ap (λ (k : ℕ). boards_step k 8 (drop 8 bytes)) en
+    module _ (counts : Counts) (these : counts ≡ counted bytes) where
+      abbrev listed : Step
+      listed = boards_step counts.boards 8 (drop 8 bytes)
 
-      pub stops-boards : (b.number ≡ 0 → ⊥) → (r : Read) → r ≡ refused_read b → r ≡ read_of bytes
-      stops-boards e r so = so ∙ ap refused_read these ∙ read-boards bytes head-none (λ z. e (ap number_of these ∙ z))
+      same : listed ≡ boards bytes
+      same = rw these
 
-      module _ (listed : b.number ≡ 0) where
+      pub stops-boards : (e : Stop) → step_told (Err e) ≡ listed → read_told (length bytes) (Err e) ≡ read_of bytes
+      stops-boards e eb = ap refused_read (eb ∙ same) ∙ read-boards bytes head-none (told-some e (eb ∙ same))
+
+      module _ (next : ℕ) (eb : stop 0 next ≡ listed) where
         boards-none : (boards bytes).number ≡ 0
-        boards-none = sym (ap number_of these) ∙ listed
+        boards-none = sym (ap (λ (s : Step). s.number) (eb ∙ same))
 
-        there : b.at ≡ acts_at bytes
-        there = ap (λ (s : Step). s.at) (these ∙ (boards-on (board_count bytes) 8 (drop 8 bytes) boards-none).0)
+        there : next ≡ acts_at bytes
+        there = ap (λ (s : Step). s.at) (eb ∙ same ∙ (boards-on (board_count bytes) 8 (drop 8 bytes) boards-none).0)
 
-        pub acts-room : b.at ≤ length bytes
+        pub acts-room : next ≤ length bytes
         acts-room = omega (arith, there, acts-inside bytes head-none boards-none)
 
-        module _ (m : ℕ) (em : m ≡ act_count bytes) (a : Step) (ea : a ≡ acts_step m b.at (drop b.at bytes)) where
-          those : a ≡ acts bytes
-          those = ea ∙ rw (em, there)
+        abbrev acted : Step
+        acted = acts_step counts.acts next (drop next bytes)
 
-          pub stops-acts : (a.number ≡ 0 → ⊥) → (r : Read) → r ≡ refused_read a → r ≡ read_of bytes
-          stops-acts e r so = so ∙ ap refused_read those ∙ read-acts bytes head-none boards-none (λ z. e (ap number_of those ∙ z))
+        those : acted ≡ acts bytes
+        those = rw (these, there)
 
-          pub reads_all : a.number ≡ 0 → record { at = a.at; boards = n; acts = m; number = 0 } ≡ read_of bytes
-          reads_all e = rw (those, en, em) (read_all bytes head-none boards-none (sym (ap number_of those) ∙ e))
+        pub stops-acts : (e : Stop) → step_told (Err e) ≡ acted → read_told (length bytes) (Err e) ≡ read_of bytes
+        stops-acts e ea = ap refused_read (ea ∙ those) ∙ read-acts bytes head-none boards-none (told-some e (ea ∙ those))
+
+        pub reads_all : (end : ℕ) → stop 0 end ≡ acted → read_told (length bytes) (Ok counts) ≡ read_of bytes
+        reads_all end ea = rw these (read_all bytes head-none boards-none (sym (ap (λ (s : Step). s.number) (ea ∙ those))))

@@ -1,2 +1,4 @@
+pub mod Kinds
 pub mod Reader
+pub mod Told
 pub mod Way

@@ -2,8 +2,18 @@
 -- Assumes nothing.
 use Rattle.std.specs.Prelude.{ℕ, ◌+◌, ◌*◌, cond, List, [], ◌∷◌, eqb, length}
 use Rattle.format.specs.Read.{board_count, act_count, act_long, Test, head_tests, board_tests, act_tests, boards_tests, acts_tests, read_tests}
-use Rattle.reader.specs.declared.Step.{Step}
-use Rattle.reader.specs.declared.Read.{Read}
+
+-- where reading is: number 0, and the byte where it goes on; or the number of a refusal, and the byte that it is told at
+pub record Step : Type 0 where
+  pub at : ℕ
+  pub number : ℕ
+
+-- a recording as a whole: the number of a refusal or 0, the byte where reading stopped, how many boards and how many acts it has
+pub record Read : Type 0 where
+  pub at : ℕ
+  pub boards : ℕ
+  pub acts : ℕ
+  pub number : ℕ
 
 abbrev pub stop : ℕ → ℕ → Step
 stop number at = record { at = at; number = number }

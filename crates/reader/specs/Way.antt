@@ -3,8 +3,7 @@
 use Rattle.std.specs.Prelude.{ℕ, ◌+◌, cond, List, length, drop}
 use Rattle.lists.specs.Compare.{◌below◌}
 use Rattle.format.specs.Read.{number_in, values_long}
-use Rattle.reader.specs.declared.Step.{Step}
-use Rattle.reader.specs.Reader.{stop}
+use Rattle.reader.specs.Reader.{Step, stop}
 
 unfoldable pub answer_step : ℕ → List ℕ → ℕ → ℕ → Step
 answer_step at rest kind long =

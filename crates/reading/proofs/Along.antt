@@ -1,8 +1,9 @@
 -- What a walk along a row comes to: a fold over the boards from a place on, and the search of each board from a cell on.
 -- Assumes nothing.
-use Prim.Native.Nat.{ℕ, zero, suc, ◌+◌, ◌<◌, ◌≤◌}
+use Prim.Native.Nat.{ℕ, zero, suc, ◌+◌, ◌-◌, ◌<◌, ◌≤◌}
+use native.Mathlib.Omega.{arith}
 use native.Mathlib.Numerals.{add-one}
-use mathlib.Core.Path.{◌≡◌, refl}
+use mathlib.Core.Path.{◌≡◌}
 use mathlib.Core.Bool.{Bool, true, false, cond}
 use mathlib.Core.List.{List, [], ◌∷◌}
 use lib.ListN.{length, get_or, drop as drop_n, drop_of_length-le}
@@ -41,9 +42,11 @@ module _ {X Y : Type 0} (is-hit : X → ℕ → Bool) (found : ℕ → ℕ → Y
 
 -- ---- the search for a flagged cell, at the board at a place and at the cell at a place
 module _ (none : Board) (row : List Board) (i : ℕ) where
-  pub board-on : i < length row → first_on (get_or row i none) i 0 (get_or row i none).count (first_from (i + 1) (drop_n (i + 1) row)) ≡ first_from i (drop_n i row)
+  pub board-on : i < length row → first_on (get_or row i none) i 0 ((get_or row i none).count - 0) (first_from (i + 1) (drop_n (i + 1) row)) ≡ first_from i (drop_n i row)
   unfolding first_from
-  board-on l = rw (drop-cons row i none l, add-one)
+  board-on l =
+      let all : (get_or row i none).count - 0 ≡ (get_or row i none).count = omega arith in
+      rw (all, drop-cons row i none l, add-one)
 
   pub boards-end : length row ≤ i → place 0 0 ≡ first_from i (drop_n i row)
   unfolding first_from
@@ -62,15 +65,18 @@ module _ (none : Board) (row : List Board) (i : ℕ) where
   unfolding line_from
   lines-end l = rw (drop_of_length-le row l)
 
-module _ (b : Board) (i j : ℕ) (north : Place) where
-  pub flag-here : (left : ℕ) → marked b.flags j ≡ true → place_at i j ≡ first_on b i j (suc left) north
-  unfolding first_on
-  flag-here left e = rw e
+module _ (b : Board) (i j n : ℕ) (north : Place) where
+  one_left : j < n → n - j ≡ suc (n - (j + 1))
+  one_left l = omega arith
 
-  pub flag-on : (left : ℕ) → marked b.flags j ≡ false → first_on b i (j + 1) left north ≡ first_on b i j (suc left) north
+  pub flag-here : j < n → marked b.flags j ≡ true → place_at i j ≡ first_on b i j (n - j) north
   unfolding first_on
-  flag-on left e = rw e
+  flag-here l e = rw (one_left l, e)
 
-  pub flags-end : north ≡ first_on b i j zero north
+  pub flag-on : j < n → marked b.flags j ≡ false → first_on b i (j + 1) (n - (j + 1)) north ≡ first_on b i j (n - j) north
   unfolding first_on
-  flags-end = refl
+  flag-on l e = rw (one_left l, e)
+
+  pub flags-end : n ≤ j → north ≡ first_on b i j (n - j) north
+  unfolding first_on
+  flags-end l = let none : n - j ≡ 0 = omega arith in rw none

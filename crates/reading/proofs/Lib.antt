@@ -4,4 +4,3 @@ pub mod Along
 pub mod Searching
 pub mod Scanned
 pub mod Lined
-pub mod Known

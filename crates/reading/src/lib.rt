@@ -2,8 +2,8 @@
 // the fault line alone (02, ticket 9).
 #![tactic(auto)]
 
-ghost use Rattle.std.specs.Prelude.{◌≡◌, not, [], ◌+◌, ◌<◌, min};
-ghost use Rattle.lists.specs.Marks.{marks, marked};
+ghost use Rattle.std.specs.Prelude.{◌≡◌, [], ◌<◌};
+ghost use Rattle.lists.specs.Marks.{marks};
 ghost use Rattle.reading.specs.Reading.{summary_of, place};
 ghost use Rattle.reading.specs.Way.{with_board, seen_of, seen_with, seen_row, place_at, first_from, up, whole_of, read_row, up_at, none_up, line_row};
 
@@ -21,26 +21,26 @@ pub struct Summary {
 
 // The summary of a board's record.
 #[tactic(auto, unfolding(crate::specs::Reading::summary_of))]
-fn summary_of(b: Board) -> Summary
-    ensures { result ≡ summary_of b }
+fn summary_of(b: &Board) -> Summary
+    ensures { result ≡ summary_of b.now }
 {
     Summary {
         latched: latches::any_latch(b.latches),
-        chg: latches::chg_on(board::may_chg(b.kind, b.control), b.latches),
-        dsg: latches::dsg_on(board::may_dsg(b.kind, b.control), b.latches),
+        chg: latches::chg_on(b.may_chg(), b.latches),
+        dsg: latches::dsg_on(b.may_dsg(), b.latches),
         count: b.count,
         flags: b.flags,
     }
 }
 
-// A board and a cell on it, each counted from 1; or 0 and 0.
-#[derive(Clone, Copy)]
+// A board and a cell on it, each counted from 1; or 0 and 0, which is what the paper has for none and C's reading holds.
+#[derive(Clone, Copy, Debug, PartialEq, Eq)]
 pub struct Place {
     pub board: u8,
     pub cell: u8,
 }
 
-#[derive(Clone, Copy)]
+#[derive(Clone, Copy, Debug, PartialEq, Eq)]
 pub struct Whole {
     pub line: bool,
     pub chg: bool,
@@ -54,11 +54,11 @@ pub struct Whole {
 // A set of boards is a number, as a set of cells is: board 1 is worth 1, board 2 is worth 2, board 3 is worth 4 and so on.
 #[derive(Clone, Copy)]
 struct Seen {
-    pub count: u8,
-    pub latched: u16,
-    pub chg: bool,
-    pub dsg: bool,
-    pub flagged: bool,
+    count: u8,
+    latched: u16,
+    chg: bool,
+    dsg: bool,
+    flagged: bool,
 }
 
 // Before the first board.
@@ -84,8 +84,8 @@ fn with_board(set: u16, at: usize, is: bool) -> u16
 
 // One board more, north of those seen; a row has 16 at most.
 #[tactic(auto, unfolding(crate::specs::Way::seen_with))]
-fn see(seen: Seen, at: usize, b: Board) -> Seen
-    ensures { result ≡ seen_with seen at b }
+fn see(seen: Seen, at: usize, b: &Board) -> Seen
+    ensures { result ≡ seen_with seen at b.now }
 {
     if 16 <= at {
         return seen;
@@ -105,10 +105,8 @@ fn see_row(row: &[Board]) -> Seen
     ensures { result ≡ seen_row row.now }
 {
     let mut seen = none_seen();
-    let mut i = 0;
-    while i < row.len() {
-        seen = see(seen, i, row[i]);
-        i += 1;
+    for (i, b) in row.iter().enumerate() {
+        seen = see(seen, i, b);
     }
     seen
 }
@@ -135,43 +133,26 @@ fn place_at(board: usize, cell: usize) -> Place
     }
 }
 
-fn cell_count(b: Board) -> usize
-    ensures { result ≡ b.count }
-{
-    b.count as usize
-}
-
-fn is_flagged(b: Board, cell: usize) -> bool
-    ensures { result ≡ marked b.flags cell }
-{
-    lists::mark_at(b.flags, cell)
-}
-
-// The southernmost board with a flagged cell, and the lowest such cell on it: the first one found ends both loops.
+// The southernmost board with a flagged cell, and the lowest such cell on it: the first one found ends both loops, as the paper names it.
 fn first_flagged(row: &[Board]) -> Place
     ensures { result ≡ first_from 0 row.now }
 {
     let mut place = no_place();
-    let mut i = 0;
-    'boards: while i < row.len() {
-        let b = row[i];
-        let cells = cell_count(b);
-        let mut j = 0;
-        while j < cells {
-            if is_flagged(b, j) {
+    'boards: for (i, b) in row.iter().enumerate() {
+        for j in 0..b.count as usize {
+            if lists::mark_at(b.flags, j) {
                 place = place_at(i, j);
                 break 'boards;
             }
-            j += 1;
         }
-        i += 1;
     }
     place
 }
 
 // ---- the reading
 
-// The fault line of the lowest board of a set, with so many boards left from it northward.
+// The fault line of the lowest board of a set, with so many boards left from it northward. By recursion, as the paper names it (01, Expected form
+// in each place).
 fn line_up(latched: u16, left: u8) -> bool
     ensures { result ≡ up (marks left latched) }
 {
@@ -194,23 +175,11 @@ fn read_all(seen: Seen, flagged: Place) -> Whole
 {
     let line = line_up(seen.latched, seen.count);
     Whole {
-        line: line,
+        line,
         chg: seen.chg,
         dsg: seen.dsg,
-        flagged: flagged,
+        flagged,
     }
-}
-
-fn none_flagged(seen: Seen) -> bool
-    ensures { result ≡ not seen.flagged }
-{
-    !seen.flagged
-}
-
-fn read_without(seen: Seen) -> Whole
-    ensures { result ≡ whole_of seen (place 0 0) }
-{
-    read_all(seen, no_place())
 }
 
 // The reading of a row. A flagged cell is sought only where a board has a flag.
@@ -218,48 +187,37 @@ pub fn read_row(row: &[Board]) -> Whole
     ensures { result ≡ read_row row.now }
 {
     let seen = see_row(row);
-    if none_flagged(seen) {
-        return read_without(seen);
-    }
-    let flagged = first_flagged(row);
+    let flagged = if seen.flagged {
+        first_flagged(row)
+    } else {
+        no_place()
+    };
     read_all(seen, flagged)
 }
 
 // ---- the fault line alone
 
 // Whether the line is up, and how many boards were looked at for it.
-#[derive(Clone, Copy)]
+#[derive(Clone, Copy, Debug, PartialEq, Eq)]
 pub struct Line {
     pub up: bool,
     pub looked: u8,
 }
 
 #[tactic(auto, unfolding(crate::specs::Reading::summary_of))]
-fn has_latch(b: Board) -> bool
-    ensures { result ≡ (summary_of b).latched }
+fn has_latch(b: &Board) -> bool
+    ensures { result ≡ (summary_of b.now).latched }
 {
     latches::any_latch(b.latches)
 }
 
-// A row has 16 boards at most: the number of the board at a place, and how many there are.
-fn number_at(at: usize) -> u8
-    ensures { result ≡ min (at + 1) 16 }
-{
-    if at < 15 { at as u8 + 1 } else { 16 }
-}
-
-fn up_to_sixteen(boards: usize) -> u8
-    ensures { result ≡ min boards 16 }
-{
-    if boards < 16 { boards as u8 } else { 16 }
-}
-
+// A row has 16 boards at most: the number of the board at a place.
 fn up_at(at: usize) -> Line
     ensures { result ≡ up_at at }
 {
     Line {
         up: true,
-        looked: number_at(at),
+        looked: at.min(15) as u8 + 1,
     }
 }
 
@@ -268,7 +226,7 @@ fn none_up(boards: usize) -> Line
 {
     Line {
         up: false,
-        looked: up_to_sixteen(boards),
+        looked: boards.min(16) as u8,
     }
 }
 
@@ -276,12 +234,10 @@ fn none_up(boards: usize) -> Line
 pub fn line_row(row: &[Board]) -> Line
     ensures { result ≡ line_row row.now }
 {
-    let mut i = 0;
-    while i < row.len() {
-        if has_latch(row[i]) {
+    for (i, b) in row.iter().enumerate() {
+        if has_latch(b) {
             return up_at(i);
         }
-        i += 1;
     }
-    none_up(i)
+    none_up(row.len())
 }

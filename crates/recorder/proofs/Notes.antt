@@ -13,7 +13,7 @@ use Rattle.recorder.specs.declared.Recorder.{Recorder}
 use Rattle.recorder.specs.Recorder.{after, note_recorder, note_memory, note_other, answer_of}
 use Rattle.recorder.specs.Way.{sent_bytes, answered}
 use Rattle.recorder.proofs.Pieces.{act-is}
-use Rattle.recorder.proofs.Verdicts.{says, verdict-is, Inside, inside, barred}
+use Rattle.recorder.proofs.Verdicts.{says, verdict-is, barred}
 
 -- what a note leaves: this recorder and this memory
 abbrev pub Leaves : Recorder → Bool → Noted → List ℕ → Recorder → List ℕ → Type 0
@@ -34,9 +34,6 @@ module _ (r next : Recorder) (size : ℕ) (memory : List ℕ) (is : next ≡ aft
   module _ (v : next.verdict ≡ 0) where
     none : says r size (length memory) ≡ 0
     none = sym said ∙ v
-
-    pub note-inside : Inside r size (length memory)
-    note-inside = inside r size (length memory) none
 
     pub note-acts : next.acts ≡ r.acts + 1
     note-acts = ap (λ (s : Recorder). s.acts) is ∙ rw none

@@ -3,20 +3,23 @@
 use Prim.Native.Nat.{ℕ, ◌+◌, ◌*◌, ◌^◌, ◌<◌, ◌≤◌}
 use native.Mathlib.Omega.{arith}
 use mathlib.Core.Path.{◌≡◌, refl, sym}
-use mathlib.Core.Bool.{Bool, true, false, true≢false, cond, not, ◌&&◌, and-true, and-false}
-use mathlib.Core.List.{List}
+use mathlib.Core.Bool.{Bool, true, false, true≢false, cond, not, ◌&&◌, ◌||◌, and-true, and-false}
+use mathlib.Core.List.{List, [], ◌∷◌}
 use lib.Dec.{ltb}
 use lib.IntN.{ℤ}
 use lib.ListN.{length}
 use borrow.Author.Tests.{lt-ltb, lt-leb, le-leb, ltb-true, ltb-false}
-use mir.Syntax.{w32}
+use mir.Syntax.{w16, w32}
 use mir.Val.{SFits}
+use Rattle.std.specs.Int.{to_le_bytes, cast_unsigned}
 use Rattle.lists.specs.Every.{every}
 use Rattle.lists.proofs.Split.{split}
-use Rattle.format.specs.Format.{fits, sample, body_of, recordable}
+use Rattle.puts.specs.Put.{Put}
+use Rattle.puts.proofs.Puts.{put_then}
+use Rattle.format.specs.Format.{little, all_bytes, fits, sample, body_of, recordable}
 use Rattle.format.proofs.Sizes.{sample-length}
-use Rattle.recorder.specs.Way.{sample_fits}
-use Rattle.recorder.proofs.Numbers.{signed-fits}
+use Rattle.recorder.specs.Way.{sample_fits, sent_bytes}
+use Rattle.recorder.proofs.Numbers.{little-one, little-two, little-four, little-twos, signed-fits}
 
 -- up to 121 cells the fields decide that can be too large; from 122 on the body is too long
 pub sample-can : (board elapsed load thermistor : ℕ) (shunt : ℤ) (cells : List ℕ) → elapsed < 4294967296 → SFits w32 shunt
@@ -57,11 +60,19 @@ fitting board load thermistor cells h =
       at_cells = t.4;
     }
 
--- the other way round, as the program asks it
-pub not-fit : (b : Bool) → not b ≡ true → b ≡ false
-not-fit true e = absurd (true≢false (sym e))
-not-fit false e = refl
-
-pub do-fit : (b : Bool) → not b ≡ false → b ≡ true
-do-fit true e = refl
-do-fit false e = absurd (true≢false e)
+-- the pieces of a sample that fits, one after the other
+module _ (board elapsed load thermistor : ℕ) (shunt : ℤ) (cells : List ℕ) where
+  pub sample-put : {at a b c d e r : ℕ} {old m n o p q new : List ℕ}
+      → Fitting board load thermistor cells
+      → Put at (1 ∷ (12 + 2 * length cells) ∷ board ∷ []) old m a
+      → Put a (to_le_bytes w32 elapsed) m n b
+      → Put b (load ∷ []) n o c
+      → Put c (to_le_bytes w16 thermistor) o p d
+      → Put d (to_le_bytes w32 (cast_unsigned w32 shunt)) p q e
+      → Put e (all_bytes (little 2) cells) q new r
+      → Put at (sent_bytes (sample board elapsed load thermistor shunt cells)) old new r
+  unfolding sent_bytes body_of
+  sample-put f head four one two signed rest =
+      let long : length (body_of (sample board elapsed load thermistor shunt cells)) ≡ 12 + 2 * length cells = sample-length board elapsed load thermistor shunt cells in
+      let body = put_then (rw little-four at four) (put_then (rw (little-one load f.at_load) at one) (put_then (rw little-two at two) (put_then (rw (little-twos shunt) at signed) rest))) in
+      rw (long, ← little-one 1 (omega arith), ← little-one (12 + 2 * length cells) (omega (arith, f.few)), ← little-one board f.at-board) (put_then head body)

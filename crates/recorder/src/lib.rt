@@ -1,16 +1,19 @@
 // The recorder (02, ticket 10): it writes what was sent and what was answered into lent memory, act by act. It is a value beside that memory.
 #![tactic(auto)]
 
-ghost use Rattle.std.specs.Prelude.{◌≡◌, true, cond, [], ◌∷◌, ◌++◌, ◌+◌, ◌*◌, ◌<◌, ◌≤◌, min, eqb, length, take};
+ghost use Rattle.std.specs.Prelude.{◌≡◌, true, cond, [], ◌∷◌, ◌+◌, ◌*◌, ◌≤◌, eqb, length, take};
 ghost use Rattle.lists.specs.Every.{every};
 ghost use Rattle.refusal.specs.Said.{first};
 ghost use Rattle.puts.specs.Put.{Put};
-ghost use Rattle.format.specs.Format.{little, fits, twos, header, board_bytes, sample, frame, reading, noted, fields, all_bytes, recordable};
-ghost use Rattle.recorder.specs.Recorder.{end, listed_of, boards_of, has_garden, unbegun, begin_recorder, begin_memory, note_bars, after, note_recorder, note_memory, note_other, answer_of, frame_can};
-ghost use Rattle.recorder.specs.Way.{sample_fits, sent_bytes, answered};
+ghost use Rattle.format.specs.Format.{little, fits, header, board_bytes, sample, frame, reading, noted, all_bytes, recordable};
+ghost use Rattle.recorder.specs.Recorder.{end, listed_of, has_garden, unbegun, begin_recorder, begin_memory, note_bars, after, note_recorder, note_memory, note_other, answer_of, frame_can};
+ghost use Rattle.recorder.specs.Way.{sample_fits, sent_bytes};
+
+use board::{Plan, Readings};
 
 // How many bytes of the memory are used, and how many acts stand there; 0 while it goes on, else why it has stopped (16, no room; else 15);
-// and what was said last, of the header or of an act: 0 where it stands in memory.
+// and what was said last, of the header or of an act: 0 where it stands in memory. The record is C's, which hands it in and takes the next one
+// by value, so why it has stopped and what was said are numbers.
 #[repr(C)]
 #[derive(Clone, Copy)]
 pub struct Recorder {
@@ -20,76 +23,20 @@ pub struct Recorder {
     pub verdict: u8,
 }
 
-// ---- numbers, the lowest byte first
-
-fn put_one(memory: &mut [u8], at: usize, n: u8) -> usize
-    requires { at + 1 ≤ length memory.old }
-    ensures put { Put at (little 1 n) memory.old memory.new result }
-    ensures value { result ≡ at + 1 }
-{
-    memory[at] = n;
-    at + 1
-}
-
-fn put_two(memory: &mut [u8], at: usize, n: u16) -> usize
-    requires { at + 2 ≤ length memory.old }
-    ensures put { Put at (little 2 n) memory.old memory.new result }
-    ensures value { result ≡ at + 2 }
-{
-    memory[at] = (n % 256) as u8;
-    memory[at + 1] = (n / 256 % 256) as u8;
-    at + 2
-}
-
-fn put_four(memory: &mut [u8], at: usize, number: u32) -> usize
-    requires { at + 4 ≤ length memory.old }
-    ensures put { Put at (little 4 number) memory.old memory.new result }
-    ensures value { result ≡ at + 4 }
-{
-    memory[at] = (number % 256) as u8;
-    memory[at + 1] = (number / 256 % 256) as u8;
-    memory[at + 2] = (number / 65536 % 256) as u8;
-    memory[at + 3] = (number / 16777216 % 256) as u8;
-    at + 4
-}
-
-// The two's complement of a signed number.
-fn twos_of(n: i32) -> u32
-    ensures { result ≡ twos n }
-{
-    if n < 0 {
-        return 4294967295 - (-1 - n) as u32;
-    }
-    n as u32
-}
-
 // ---- the header
 
 fn end_of(lent: usize) -> usize
     ensures { result ≡ end lent }
 {
-    if lent < 65535 { lent } else { 65535 }
+    lent.min(65535)
 }
 
 fn has_garden(plans: &[u32]) -> bool
     ensures { result ≡ has_garden plans.now }
 {
-    let mut none = true;
-    let mut i = 0;
-    while i < plans.len() {
-        none = none & (plans[i] / 256 % 256 != 2);
-        i += 1;
-    }
-    !none
-}
-
-fn put_board(memory: &mut [u8], at: usize, plan: u32) -> usize
-    requires { at + 2 ≤ length memory.old }
-    ensures put { Put at (board_bytes (listed_of plan)) memory.old memory.new result }
-    ensures value { result ≡ at + 2 }
-{
-    let kind_end = put_one(memory, at, (plan / 256 % 256) as u8);
-    put_one(memory, kind_end, (plan % 256) as u8)
+    plans
+        .iter()
+        .any(|plan| board::is_garden(Plan::from(*plan).kind))
 }
 
 fn put_boards(memory: &mut [u8], at: usize, plans: &[u32]) -> usize
@@ -98,10 +45,9 @@ fn put_boards(memory: &mut [u8], at: usize, plans: &[u32]) -> usize
     ensures value { result ≡ at + 2 * length plans.now }
 {
     let mut next = at;
-    let mut i = 0;
-    while i < plans.len() {
-        next = put_board(memory, next, plans[i]);
-        i += 1;
+    for plan in plans {
+        let plan = Plan::from(*plan);
+        next = puts::put_bytes(memory, next, &[plan.kind, plan.cells]);
     }
     next
 }
@@ -112,9 +58,9 @@ fn put_header(memory: &mut [u8], boards: u16) -> usize
     ensures put { Put 0 (header boards 0) memory.old memory.new result }
     ensures value { result ≡ 8 }
 {
-    let edition_end = put_two(memory, 0, 1);
-    let boards_end = put_two(memory, edition_end, boards);
-    put_four(memory, boards_end, 0)
+    let edition_end = puts::put_bytes(memory, 0, &1u16.to_le_bytes());
+    let boards_end = puts::put_bytes(memory, edition_end, &boards.to_le_bytes());
+    puts::put_bytes(memory, boards_end, &0u32.to_le_bytes())
 }
 
 fn not_begun(verdict: u8) -> Recorder
@@ -124,7 +70,7 @@ fn not_begun(verdict: u8) -> Recorder
         used: 0,
         acts: 0,
         stopped: if verdict == 16 { 16 } else { 15 },
-        verdict: verdict,
+        verdict,
     }
 }
 
@@ -152,28 +98,22 @@ pub fn begin(memory: &mut [u8], plans: &[u32]) -> Recorder
     }
 }
 
-// ---- the verdict on an act
+// ---- the verdict on an act. Its number is a byte, and no Refusal: C hands any, and it is recorded as it came
 
 // It can not be recorded: so are a listing, and a look whether anything is up.
 pub fn note_other(r: Recorder) -> Recorder
     ensures { result ≡ note_other r }
 {
-    Recorder {
-        used: r.used,
-        acts: r.acts,
-        stopped: r.stopped,
-        verdict: 15,
-    }
+    Recorder { verdict: 15, ..r }
 }
 
 fn no_room(r: Recorder) -> Recorder
     ensures { result ≡ after r 0 16 }
 {
     Recorder {
-        used: r.used,
-        acts: r.acts,
         stopped: 16,
         verdict: 16,
+        ..r
     }
 }
 
@@ -182,11 +122,10 @@ fn one_more(r: Recorder, size: usize, lent: usize) -> Recorder
     requires { size ≤ 300 }
     ensures { result ≡ after r size (first (note_bars r true size lent)) }
 {
-    let stopped = r.stopped;
-    if stopped == 16 {
+    if r.stopped == 16 {
         return no_room(r);
     }
-    if stopped != 0 {
+    if r.stopped != 0 {
         return note_other(r);
     }
     if (r.used < 8) | (65535 <= r.acts) {
@@ -198,7 +137,7 @@ fn one_more(r: Recorder, size: usize, lent: usize) -> Recorder
     Recorder {
         used: r.used + size as u32,
         acts: r.acts + 1,
-        stopped: stopped,
+        stopped: r.stopped,
         verdict: 0,
     }
 }
@@ -212,28 +151,34 @@ fn answer_size(number: u8, values: usize) -> usize
     if number == 0 { 1 + values } else { 1 }
 }
 
+// An answer: its number and, where that is 0, the bytes of its values.
+fn put_answer(memory: &mut [u8], at: usize, number: u8, values: &[u8]) -> usize
+    requires { at + cond (eqb number 0) (1 + length values.now) 1 ≤ length memory.old }
+    ensures { Put at (number ∷ cond (eqb number 0) values.now []) memory.old memory.new result }
+{
+    let number_end = puts::put_bytes(memory, at, &[number]);
+    if number != 0 {
+        return number_end;
+    }
+    puts::put_bytes(memory, number_end, values)
+}
+
 // ---- a sample
 
 fn cells_fit(cells: &[u32]) -> bool
     ensures { result ≡ every (fits 2) cells.now }
 {
-    let mut fit = true;
-    let mut i = 0;
-    while i < cells.len() {
-        fit = fit & (cells[i] < 65536);
-        i += 1;
-    }
-    fit
+    cells.iter().all(|mv| *mv < 65536)
 }
 
 // More than 121 cells make a body of more than 255 bytes.
-fn sample_fits(board: u32, load: u32, thermistor: u32, cells: &[u32]) -> bool
-    ensures { result ≡ sample_fits board load thermistor cells.now }
+fn sample_fits(board: u32, x: Readings, cells: &[u32]) -> bool
+    ensures { result ≡ sample_fits board x.load x.thermistor cells.now }
 {
     if 121 < cells.len() {
         return false;
     }
-    (board < 256) & (load < 256) & (thermistor < 65536) & cells_fit(cells)
+    (board < 256) & (x.load < 256) & (x.thermistor < 65536) & cells_fit(cells)
 }
 
 fn put_cells(memory: &mut [u8], at: usize, cells: &[u32]) -> usize
@@ -242,55 +187,24 @@ fn put_cells(memory: &mut [u8], at: usize, cells: &[u32]) -> usize
     ensures value { result ≡ at + 2 * length cells.now }
 {
     let mut next = at;
-    let mut i = 0;
-    while i < cells.len() {
-        next = put_two(memory, next, cells[i] as u16);
-        i += 1;
+    for mv in cells {
+        next = puts::put_bytes(memory, next, &(*mv as u16).to_le_bytes());
     }
     next
 }
 
-fn put_sample(
-    memory: &mut [u8],
-    at: usize,
-    board: u32,
-    elapsed: u32,
-    load: u32,
-    thermistor: u32,
-    shunt: i32,
-    cells: &[u32],
-) -> usize
-    requires { (at + (14 + 2 * length cells.now) ≤ length memory.old) × (sample_fits board load thermistor cells.now ≡ true) }
-    ensures put { Put at (sent_bytes (sample board elapsed load thermistor shunt cells.now)) memory.old memory.new result }
+fn put_sample(memory: &mut [u8], at: usize, board: u32, x: Readings, cells: &[u32]) -> usize
+    requires { (at + (14 + 2 * length cells.now) ≤ length memory.old) × (sample_fits board x.load x.thermistor cells.now ≡ true) }
+    ensures put { Put at (sent_bytes (sample board x.elapsed x.load x.thermistor x.shunt cells.now)) memory.old memory.new result }
     ensures value { result ≡ at + (14 + 2 * length cells.now) }
 {
-    let kind_end = put_one(memory, at, 1);
-    let size_end = put_one(memory, kind_end, (12 + 2 * cells.len()) as u8);
-    let board_end = put_one(memory, size_end, board as u8);
-    let elapsed_end = put_four(memory, board_end, elapsed);
-    let load_end = put_one(memory, elapsed_end, load as u8);
-    let thermistor_end = put_two(memory, load_end, thermistor as u16);
-    let shunt_end = put_four(memory, thermistor_end, twos_of(shunt));
+    let head = [1, (12 + 2 * cells.len()) as u8, board as u8];
+    let board_end = puts::put_bytes(memory, at, &head);
+    let elapsed_end = puts::put_bytes(memory, board_end, &x.elapsed.to_le_bytes());
+    let load_end = puts::put_bytes(memory, elapsed_end, &[x.load as u8]);
+    let thermistor_end = puts::put_bytes(memory, load_end, &(x.thermistor as u16).to_le_bytes());
+    let shunt_end = puts::put_bytes(memory, thermistor_end, &x.shunt.to_le_bytes());
     put_cells(memory, shunt_end, cells)
-}
-
-fn put_status(memory: &mut [u8], at: usize, status: u8, bled: u16) -> usize
-    requires { at + 3 ≤ length memory.old }
-    ensures { Put at (fields (1 ∷ 2 ∷ []) (status ∷ bled ∷ [])) memory.old memory.new result }
-{
-    let status_end = put_one(memory, at, status);
-    put_two(memory, status_end, bled)
-}
-
-fn put_sampled(memory: &mut [u8], at: usize, number: u8, status: u8, bled: u16) -> usize
-    requires { at + cond (eqb number 0) 4 1 ≤ length memory.old }
-    ensures { Put at (answered (1 ∷ 2 ∷ []) number (status ∷ bled ∷ [])) memory.old memory.new result }
-{
-    let number_end = put_one(memory, at, number);
-    if number != 0 {
-        return number_end;
-    }
-    put_status(memory, number_end, status, bled)
 }
 
 // Notes a sample: its board, readings and cells as sent, the number that it returned and, where that is 0, its status and bled cells.
@@ -298,18 +212,15 @@ pub fn note_sample(
     r: Recorder,
     memory: &mut [u8],
     board: u32,
-    elapsed: u32,
-    load: u32,
-    thermistor: u32,
-    shunt: i32,
+    x: Readings,
     cells: &[u32],
     number: u8,
     status: u8,
     bled: u16,
 ) -> Recorder
-    ensures { (result ≡ note_recorder r (recordable (sample board elapsed load thermistor shunt cells.now)) (noted (sample board elapsed load thermistor shunt cells.now) (answer_of number (status ∷ bled ∷ []))) (length memory.old)) × (memory.new ≡ note_memory r (recordable (sample board elapsed load thermistor shunt cells.now)) (noted (sample board elapsed load thermistor shunt cells.now) (answer_of number (status ∷ bled ∷ []))) memory.old) }
+    ensures { (result ≡ note_recorder r (recordable (sample board x.elapsed x.load x.thermistor x.shunt cells.now)) (noted (sample board x.elapsed x.load x.thermistor x.shunt cells.now) (answer_of number (status ∷ bled ∷ []))) (length memory.old)) × (memory.new ≡ note_memory r (recordable (sample board x.elapsed x.load x.thermistor x.shunt cells.now)) (noted (sample board x.elapsed x.load x.thermistor x.shunt cells.now) (answer_of number (status ∷ bled ∷ []))) memory.old) }
 {
-    if !sample_fits(board, load, thermistor, cells) {
+    if !sample_fits(board, x, cells) {
         return note_other(r);
     }
     let size = 14 + 2 * cells.len() + answer_size(number, 3);
@@ -317,52 +228,22 @@ pub fn note_sample(
     if next.verdict != 0 {
         return next;
     }
-    let sent_end = put_sample(
-        memory,
-        r.used as usize,
-        board,
-        elapsed,
-        load,
-        thermistor,
-        shunt,
-        cells,
-    );
-    put_sampled(memory, sent_end, number, status, bled);
-    put_four(memory, 4, next.acts as u32);
+    let sent_end = put_sample(memory, r.used as usize, board, x, cells);
+    let bled = bled.to_le_bytes();
+    put_answer(memory, sent_end, number, &[status, bled[0], bled[1]]);
+    puts::put_bytes(memory, 4, &u32::from(next.acts).to_le_bytes());
     next
 }
 
-// ---- a frame
+// ---- a frame; each kind of act is a byte of the format, written here and nowhere else
 
 fn put_frame(memory: &mut [u8], at: usize, bytes: &[u8]) -> usize
     requires { (at + (2 + length bytes.now) ≤ length memory.old) × (length bytes.now ≤ 255) }
     ensures put { Put at (sent_bytes (frame bytes.now)) memory.old memory.new result }
     ensures value { result ≡ at + (2 + length bytes.now) }
 {
-    let kind_end = put_one(memory, at, 2);
-    let size_end = put_one(memory, kind_end, bytes.len() as u8);
+    let size_end = puts::put_bytes(memory, at, &[2, bytes.len() as u8]);
     puts::put_bytes(memory, size_end, bytes)
-}
-
-fn put_four_of(memory: &mut [u8], at: usize, reply: &[u8]) -> usize
-    requires { (at + 4 ≤ length memory.old) × (4 ≤ length reply.now) }
-    ensures { Put at (fields (1 ∷ 1 ∷ 1 ∷ 1 ∷ []) (take 4 reply.now)) memory.old memory.new result }
-{
-    let address_end = put_one(memory, at, reply[0]);
-    let register_end = put_one(memory, address_end, reply[1]);
-    let value_end = put_one(memory, register_end, reply[2]);
-    put_one(memory, value_end, reply[3])
-}
-
-fn put_reply(memory: &mut [u8], at: usize, number: u8, reply: &[u8]) -> usize
-    requires { (at + cond (eqb number 0) 5 1 ≤ length memory.old) × (4 ≤ length reply.now) }
-    ensures { Put at (answered (1 ∷ 1 ∷ 1 ∷ 1 ∷ []) number (take 4 reply.now)) memory.old memory.new result }
-{
-    let number_end = put_one(memory, at, number);
-    if number != 0 {
-        return number_end;
-    }
-    put_four_of(memory, number_end, reply)
 }
 
 // Notes a frame: its bytes as sent, the reply buffer after it, and the number that it returned.
@@ -387,8 +268,8 @@ pub fn note_frame(
         return next;
     }
     let sent_end = put_frame(memory, r.used as usize, bytes);
-    put_reply(memory, sent_end, number, reply);
-    put_four(memory, 4, next.acts as u32);
+    put_answer(memory, sent_end, number, &reply[..4]);
+    puts::put_bytes(memory, 4, &u32::from(next.acts).to_le_bytes());
     next
 }
 
@@ -399,53 +280,12 @@ fn put_read(memory: &mut [u8], at: usize) -> usize
     ensures put { Put at (sent_bytes reading) memory.old memory.new result }
     ensures value { result ≡ at + 2 }
 {
-    let kind_end = put_one(memory, at, 3);
-    put_one(memory, kind_end, 0)
+    puts::put_bytes(memory, at, &[3, 0])
 }
 
-fn put_seen(memory: &mut [u8], at: usize, line: u8, chg: u8, dsg: u8, board: u8, cell: u8) -> usize
-    requires { at + 5 ≤ length memory.old }
-    ensures { Put at (fields (1 ∷ 1 ∷ 1 ∷ 1 ∷ 1 ∷ []) (line ∷ chg ∷ dsg ∷ board ∷ cell ∷ [])) memory.old memory.new result }
-{
-    let line_end = put_one(memory, at, line);
-    let chg_end = put_one(memory, line_end, chg);
-    let dsg_end = put_one(memory, chg_end, dsg);
-    let board_end = put_one(memory, dsg_end, board);
-    put_one(memory, board_end, cell)
-}
-
-fn put_reading(
-    memory: &mut [u8],
-    at: usize,
-    number: u8,
-    line: u8,
-    chg: u8,
-    dsg: u8,
-    board: u8,
-    cell: u8,
-) -> usize
-    requires { at + cond (eqb number 0) 6 1 ≤ length memory.old }
-    ensures { Put at (answered (1 ∷ 1 ∷ 1 ∷ 1 ∷ 1 ∷ []) number (line ∷ chg ∷ dsg ∷ board ∷ cell ∷ [])) memory.old memory.new result }
-{
-    let number_end = put_one(memory, at, number);
-    if number != 0 {
-        return number_end;
-    }
-    put_seen(memory, number_end, line, chg, dsg, board, cell)
-}
-
-// Notes a whole-stack reading: the number that it returned and, where that is 0, its five numbers.
-pub fn note_reading(
-    r: Recorder,
-    memory: &mut [u8],
-    number: u8,
-    line: u8,
-    chg: u8,
-    dsg: u8,
-    board: u8,
-    cell: u8,
-) -> Recorder
-    ensures { (result ≡ note_recorder r true (noted reading (answer_of number (line ∷ chg ∷ dsg ∷ board ∷ cell ∷ []))) (length memory.old)) × (memory.new ≡ note_memory r true (noted reading (answer_of number (line ∷ chg ∷ dsg ∷ board ∷ cell ∷ []))) memory.old) }
+// Notes a whole-stack reading: the number that it returned and, where that is 0, its five numbers: line, CHG, DSG, board and cell.
+pub fn note_reading(r: Recorder, memory: &mut [u8], number: u8, seen: [u8; 5]) -> Recorder
+    ensures { (result ≡ note_recorder r true (noted reading (answer_of number seen)) (length memory.old)) × (memory.new ≡ note_memory r true (noted reading (answer_of number seen)) memory.old) }
 {
     let size = 2 + answer_size(number, 5);
     let next = one_more(r, size, memory.len());
@@ -453,7 +293,7 @@ pub fn note_reading(
         return next;
     }
     let sent_end = put_read(memory, r.used as usize);
-    put_reading(memory, sent_end, number, line, chg, dsg, board, cell);
-    put_four(memory, 4, next.acts as u32);
+    put_answer(memory, sent_end, number, &seen);
+    puts::put_bytes(memory, 4, &u32::from(next.acts).to_le_bytes());
     next
 }

@@ -5,13 +5,14 @@ use Prim.Native.Nat.{ℕ}
 use mathlib.Core.Path.{◌≡◌, refl, sym, ap}
 use mathlib.Core.Bool.{Bool, true, false, true≢false, cond, ◌&&◌}
 use mathlib.Core.List.{List, [], ◌∷◌}
+use Rattle.std.specs.Prelude.{Result, Ok, Err}
 use lib.Dec.{T, eqb, eqb→eq}
 use borrow.Author.Tests.{eqb-true}
 use Rattle.lists.proofs.Split.{split}
 use Rattle.refusal.specs.declared.Refusal.{Refusal}
 use Rattle.refusal.specs.declared.Refusal.TheVariants.{BadRow, NoBoard, CellList, Elapsed, OutOfRange, FrameLength, ReplyRoom, CheckByte, NoRegister, BadValue, NoCycle, Malformed, LevelsCrossed, ListRoom}
 use Rattle.refusal.specs.Refusals.{number_of, numbered, in_table}
-use Rattle.refusal.specs.Said.{Bar, first, judged}
+use Rattle.refusal.specs.Said.{Said, accepts, said_by, saying_by, Bar, first, judged}
 
 pub numbered-number : (r : Refusal) → numbered (number_of r) ≡ r
 numbered-number BadRow = refl
@@ -40,6 +41,11 @@ number-not-zero r = by (eqb (number_of r) 0) refl
 -- an answer that goes by the number of a refusal is the one that holds it
 pub said-refused : {A : Type 0} (r : Refusal) (accepted : A) (refused : Refusal → A) → cond (eqb (number_of r) 0) accepted (refused (numbered (number_of r))) ≡ refused r
 said-refused r accepted refused = rw (number-not-zero r, numbered-number r)
+
+-- an answer is determined by what it says, where its value is by the numbers that stand for it
+pub said-back : {A : Type 0} (put : A → List ℕ) (taken : Said → A) → ((a : A) → taken (accepts (put a)) ≡ a) → (r : Result A Refusal) → saying_by taken (said_by put r) ≡ r
+said-back put taken back (Ok a) = ap Ok (back a)
+said-back put taken back (Err why) = said-refused why (Ok (taken (said_by put (Err why)))) Err
 
 -- bars whose numbers are all of the table: the first that holds has a refusal of its number
 abbrev pub all_in_table : List Bar → Bool

@@ -4,7 +4,7 @@
 ghost use Rattle.std.specs.Prelude.{◌≡◌};
 ghost use Rattle.refusal.specs.Refusals.{number_of};
 
-#[derive(Clone, Copy)]
+#[derive(Clone, Copy, Debug, PartialEq, Eq)]
 pub enum Refusal {
     BadRow,
     NoBoard,
@@ -23,23 +23,25 @@ pub enum Refusal {
 }
 
 // The number that the paper gives a refusal.
-pub fn number(r: Refusal) -> u8
-    ensures { result ≡ number_of r }
-{
-    match r {
-        Refusal::BadRow => 1,
-        Refusal::NoBoard => 2,
-        Refusal::CellList => 3,
-        Refusal::Elapsed => 4,
-        Refusal::OutOfRange => 5,
-        Refusal::FrameLength => 6,
-        Refusal::ReplyRoom => 7,
-        Refusal::CheckByte => 8,
-        Refusal::NoRegister => 9,
-        Refusal::BadValue => 10,
-        Refusal::NoCycle => 11,
-        Refusal::Malformed => 12,
-        Refusal::LevelsCrossed => 13,
-        Refusal::ListRoom => 14,
+impl From<Refusal> for u8 {
+    ghost from_gives = { λ why n. n ≡ number_of why };
+
+    fn from(why: Refusal) -> u8 {
+        match why {
+            Refusal::BadRow => 1,
+            Refusal::NoBoard => 2,
+            Refusal::CellList => 3,
+            Refusal::Elapsed => 4,
+            Refusal::OutOfRange => 5,
+            Refusal::FrameLength => 6,
+            Refusal::ReplyRoom => 7,
+            Refusal::CheckByte => 8,
+            Refusal::NoRegister => 9,
+            Refusal::BadValue => 10,
+            Refusal::NoCycle => 11,
+            Refusal::Malformed => 12,
+            Refusal::LevelsCrossed => 13,
+            Refusal::ListRoom => 14,
+        }
     }
 }

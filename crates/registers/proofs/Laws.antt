@@ -1,7 +1,6 @@
 -- What a frame does to a board: programming, staging, and a refusal, which says its number and leaves the board.
 -- Assumes nothing.
 use Prim.Native.Nat.{ℕ, ◌+◌}
-use native.Mathlib.Omega.{arith}
 use mathlib.Core.Path.{◌≡◌, refl}
 use mathlib.Core.Bool.{Bool, true, false, cond, not, ◌&&◌}
 use mathlib.Core.List.{List, [], ◌∷◌}
@@ -14,7 +13,7 @@ use Rattle.settings.specs.Levels.{crossed}
 use Rattle.board.specs.declared.Board.{Board}
 use Rattle.board.specs.Plan.{is_garden}
 use Rattle.frame.specs.declared.Request.{Request}
-use Rattle.frame.specs.declared.Verdict.TheVariants as verdict
+use Rattle.std.specs.Prelude.{Err}
 use Rattle.frame.specs.Frame.{writes}
 use Rattle.frame.specs.Way.{outcome_said, outcome_saying}
 use Rattle.registers.specs.Map.{no_register, fits, read_value}
@@ -54,15 +53,15 @@ spent-works b = refl
 pub staging-unread : (b : Board) (register v k : ℕ) → read_value (shown_of (staging b register v)) k ≡ read_value (shown_of b) k
 staging-unread b register v k = refl
 
--- where the verdict is a refusal, what was there is kept
-refused-kept : {A : Type 0} (bars : List Bar) (vs : List ℕ) (old new : A) (why : Refusal) → (outcome_saying (judged bars vs)).verdict ≡ verdict.Refused why → unless_refused bars old new ≡ old
+-- where the outcome is a refusal, what was there is kept
+refused-kept : {A : Type 0} (bars : List Bar) (vs : List ℕ) (old new : A) (why : Refusal) → outcome_saying (judged bars vs) ≡ Err why → unless_refused bars old new ≡ old
 refused-kept bars vs old new why = by (eqb (first bars) 0)
   where
-    by : (t : Bool) → (outcome_saying (cond t (accepts vs) (refuses (first bars)))).verdict ≡ verdict.Refused why → cond t new old ≡ old
-    by true e = let n : ◌≡◌ {A = ℕ} 0 1 = cc in absurd (omega arith)
+    by : (t : Bool) → outcome_saying (cond t (accepts vs) (refuses (first bars))) ≡ Err why → cond t new old ≡ old
+    by true e = cc
     by false e = refl
 
-pub refused-leaves : (b : Board) (asked : Request) (why : Refusal) → (obeyed_of b asked).outcome.verdict ≡ verdict.Refused why → (obeyed_of b asked).board ≡ b
+pub refused-leaves : (b : Board) (asked : Request) (why : Refusal) → (obeyed_of b asked).outcome ≡ Err why → (obeyed_of b asked).board ≡ b
 unfolding obeyed_of
 refused-leaves b asked why e = refused-kept (access_bars b (writes asked.address) asked.register asked.value) _ b _ why e
 

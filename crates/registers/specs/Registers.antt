@@ -1,7 +1,8 @@
 -- A frame to one board: the table's refusals once the board is known, what it does and what it gives
 -- (01, Frames and registers; Refusal numbers 9, 10, 11; 02, tickets 1, 3, 5 and 7).
 -- Assumes nothing.
-use Rattle.std.specs.Prelude.{ℕ, ◌+◌, Bool, cond, not, ◌&&◌, List, [], ◌∷◌, leb, eqb}
+use Rattle.std.specs.Prelude.{ℕ, ◌+◌, Bool, cond, not, ◌&&◌, List, [], ◌∷◌, leb, eqb, Result}
+use Rattle.refusal.specs.declared.Refusal.{Refusal}
 use Rattle.refusal.specs.Said.{Bar, bar, judged, unless_refused}
 use Rattle.settings.specs.Bytes.{with_byte, same}
 use Rattle.settings.specs.Levels.{crossed}
@@ -13,7 +14,6 @@ use Rattle.latches.specs.Latches.{latches_of, latches_byte}
 use Rattle.frame.specs.declared.Request.{Request}
 use Rattle.frame.specs.Frame.{writes}
 use Rattle.frame.specs.Way.{outcome_saying}
-use Rattle.registers.specs.declared.Obeyed.{Obeyed}
 use Rattle.registers.specs.Map.{Shown, no_register, fits, read_value}
 
 -- what the registers show of a board
@@ -131,6 +131,11 @@ board_after b writes register v =
 abbrev pub reply_value : Board → Bool → ℕ → ℕ → ℕ
 reply_value after writes register v =
     cond (programs writes register) after.cycles (cond writes v (read_value (shown_of after) register))
+
+-- a board after a frame, and what it makes of the frame: the value that the reply carries, or a refusal
+pub record Obeyed : Type 0 where
+  pub board : Board
+  pub outcome : Result ℕ Refusal
 
 -- an access: the board and the reply's value, or the first refusal and the board as it was
 abbrev pub access_of : Board → ℕ → ℕ → ℕ → Obeyed

@@ -1,12 +1,5 @@
 pub mod Places
 pub mod Signs
-pub mod Taken
-pub mod Answers
-pub mod Turns
-pub mod Known
-pub mod Acted
-pub mod RunShape
-pub mod Runs
 pub mod Same
 pub mod Again
 pub mod Checks

@@ -11,8 +11,7 @@ use Rattle.lines.specs.declared.Cutter.{Cutter}
 use Rattle.lines.specs.Lines.{last_line, lines_of, ended}
 use Rattle.lines.specs.Way.{held, ended_in, left_in}
 use Rattle.lines.proofs.Clips.{lines-flatten}
-use Rattle.session.specs.declared.Fed.{Fed}
-use Rattle.session.specs.Session.{stack_after, output_of, Fold, Run, lacking}
+use Rattle.session.specs.Session.{Fed, stack_after, output_of, Fold, Run, lacking}
 use Rattle.session.proofs.Alike.{over-alike, output-alike, stack-append, output-append}
 use Rattle.session.proofs.Lasts.{finished}
 

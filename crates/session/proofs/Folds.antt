@@ -1,21 +1,27 @@
 -- Feeding a line's beginning, a line, and one part after another.
 -- Assumes nothing.
-use Prim.Native.Nat.{ℕ, ◌≤◌}
+use Prim.Native.Nat.{ℕ, ◌+◌, ◌<◌, ◌≤◌}
 use native.Mathlib.Omega.{arith}
 use native.Mathlib.Nat.{add-zero}
 use mathlib.Core.Path.{◌≡◌, refl, sym}
 use mathlib.Core.List.{List, [], ◌∷◌, ◌++◌, append-nil}
-use lib.ListN.{length}
+use lib.ListN.{length, drop}
 use Rattle.held.specs.declared.Stack.{Stack}
 use Rattle.text.specs.Text.{text_of}
 use Rattle.puts.specs.Put.{Put}
 use Rattle.puts.proofs.Puts.{put_then, put_same}
 use Rattle.lines.specs.Lines.{before, ended, left, up_to}
-use Rattle.lines.specs.Way.{clip}
+use Rattle.lines.specs.Way.{clip, rest_at, end_at}
 use Rattle.lines.proofs.Pieces.{ended-newline, left-newline}
 use Rattle.lines.proofs.Blocks.{ended-append, left-append}
-use Rattle.lines.proofs.Ends.{ended-free, left-free}
-use Rattle.session.specs.declared.Acted.{Acted}
+use Rattle.lines.proofs.Ends.{ended-free, left-free, to-newline}
+use Rattle.session.specs.declared.Fed.{Fed}
+use Rattle.session.specs.LineActs.{Acted, answered}
+use Rattle.session.specs.Way.{Sofar}
+use Rattle.text.specs.Way.{placed}
+use Rattle.text.proofs.Places.{placed-all}
+use Rattle.text.proofs.Lines.{text-short}
+use Rattle.lines.specs.Line.{line_of}
 use Rattle.session.specs.Session.{step_of, stack_after, output_of, Fold}
 use Rattle.session.proofs.Alike.{stack-append, output-append}
 
@@ -62,3 +68,21 @@ fold-then {p} {a} {b} {s = s} f g =
 -- what a caller reads off: what was written lies within the buffer
 pub fold-inside : {p bytes old new kept : List ℕ} {s s' : Stack} {from w : ℕ} → Fold p s bytes from old new kept s' w → w ≤ length new
 fold-inside f = omega (arith, put_same f.text, f.inside)
+
+-- ---- the lines of a block, one after the other
+
+pub sofar-none : (s : Stack) (block : List ℕ) (from : ℕ) (old : List ℕ) → from ≤ length old → Sofar s block from old old s (record { used = 0; wrote = from })
+unfolding clip
+sofar-none s block from old h = record { within = omega arith; fed = fold-none [] s from old refl h }
+
+-- one line more: what was fed before it, and the line
+pub sofar-line : {s s' : Stack} {block old mid new : List ℕ} {from w : ℕ} {r : Fed} → Sofar s block from old mid s' r → end_at block r.used < length block → r.wrote + 32 ≤ length old
+    → Put r.wrote (placed (length mid) r.wrote (answered s' (line_of (rest_at block r.used))).told) mid new w
+    → Sofar s block from old new (answered s' (line_of (rest_at block r.used))).stack (record { used = end_at block r.used + 1; wrote = w })
+sofar-line {s} {s'} {block} {old} {mid} {new} {r = r} so l room put =
+    let acted = answered s' (line_of (rest_at block r.used)) in
+    let line = rw (placed-all (length mid) r.wrote acted.told (omega (arith, room, put_same so.fed.text))) at put in
+    record {
+      within = omega (arith, l);
+      fed = rw (to-newline block r.used l) (fold-then so.fed (fold_line [] (drop r.used block) s' r.wrote mid new _ acted refl line (omega (arith, line.after, text-short acted.told, room, put_same so.fed.text))));
+    }

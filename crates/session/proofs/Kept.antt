@@ -6,7 +6,7 @@ use native.Mathlib.Nat.{zero-add}
 use mathlib.Core.Path.{◌≡◌, refl, sym, ap, ◌∙◌}
 use mathlib.Core.Logic.{inl, inr, ⊎_elim}
 use mathlib.Core.List.{List, [], ◌∷◌, ◌++◌, append-nil}
-use lib.ListN.{length, take, drop, length-set, take-append-drop}
+use lib.ListN.{length, take, drop, take-append-drop}
 use lib.Seq.{take_all}
 use Rattle.held.specs.declared.Stack.{Stack}
 use Rattle.text.specs.Text.{text_of}
@@ -18,11 +18,12 @@ use Rattle.lines.specs.Way.{clip, held, emptied_of, one_line, line_ended}
 use Rattle.lines.proofs.Pieces.{ended-newline}
 use Rattle.lines.proofs.Blocks.{ended-append}
 use Rattle.lines.proofs.Ends.{line-take, ended-free, left-free, to-newline, rest-free}
-use Rattle.lines.proofs.Keeping.{held-clip, one-says, one_free, one-short, one_block}
-use Rattle.session.specs.declared.Ran.{Ran}
+use Rattle.lines.proofs.Keeping.{held-clip, one-says, one_free, one-short}
+use Rattle.session.specs.declared.Session.{Session}
+use Rattle.session.specs.declared.Fed.{Fed}
 use Rattle.session.specs.LineActs.{answered}
 use Rattle.session.specs.Session.{step_of, stack_after, output_of}
-use Rattle.session.specs.Pace.{Answered, Completed}
+use Rattle.session.specs.Way.{Answered, Completed}
 use Rattle.session.proofs.Alike.{line-clip, none-held}
 use Rattle.session.proofs.Folds.{fold-none, fold-rest, fold_line, clip-none}
 
@@ -31,13 +32,13 @@ unfolding held emptied_of
 emptied-holds c = refl
 
 -- nothing is kept: there is nothing to complete
-pub completed-none : (c : Cutter) (s : Stack) (block old : List ℕ) → length (held c) ≡ 0 → Completed c s block old old (record { cutter = c; stack = s; used = 0; wrote = 0 })
-completed-none c s block old e =
-    record { within = omega arith; done = inl (none-held (held c) e); fed = fold-none (held c) s 0 old (held-clip c) (omega arith) }
+pub completed-none : (b : Session) (block old : List ℕ) → length (held b.cutter) ≡ 0 → Completed b block old old b (record { used = 0; wrote = 0 })
+completed-none b block old e =
+    record { within = omega arith; done = inl (none-held (held b.cutter) e); fed = fold-none (held b.cutter) b.stack 0 old (held-clip b.cutter) (omega arith) }
 
 -- no line ends in the block: all of it is kept
 pub completed-rest : (c kept : Cutter) (s : Stack) (block old : List ℕ) (end : ℕ) → end ≡ 0 + length (up_to block) → end ≤ length block → length block ≤ end → held kept ≡ clip (held c ++ take end block)
-    → Completed c s block old old (record { cutter = kept; stack = s; used = end; wrote = 0 })
+    → Completed (record { cutter = c; stack = s }) block old old (record { cutter = kept; stack = s }) (record { used = end; wrote = 0 })
 completed-rest c kept s block old end e h k keeps =
     let all : take end block ≡ block = take_all end block k in
     record {
@@ -63,12 +64,12 @@ first_of (x ∷ []) (y ∷ rest) l e some = let z : ◌≡◌ {A = ℕ} 0 1 = cc
 first_of (x ∷ y ∷ done) rest l e some = let z : ◌≡◌ {A = ℕ} 0 1 = cc in absurd (omega arith)
 
 -- so it is answered where there is room for a text
-one-answered : {s : Stack} {old new : List ℕ} {r : Ran} (l : List ℕ) → up_to l ≡ l → 32 ≤ length old → Answered s (l ++ (10 ∷ [])) 0 old new r
-    → (r.stack ≡ (step_of s l).stack) × Put 0 (text_of (step_of s l).told) old new r.pace.wrote
+one-answered : {s s' : Stack} {old new : List ℕ} {r : Fed} (l : List ℕ) → up_to l ≡ l → 32 ≤ length old → Answered s (l ++ (10 ∷ [])) 0 old new s' r
+    → (s' ≡ (step_of s l).stack) × Put 0 (text_of (step_of s l).told) old new r.wrote
 unfolding stack_after output_of
-one-answered {s} {old} {new} {r} l free room a =
+one-answered {s} {old = old} {new} {r} l free room a =
     let block = l ++ (10 ∷ []) in
-    let at = r.pace.at in
+    let at = r.used in
     let done = ended [] (take at block) in
     let rest = ended [] (drop at block) in
     let fed = a.sofar.fed in
@@ -85,22 +86,15 @@ one-answered {s} {old} {new} {r} l free room a =
     (fed.stack ∙ rw is, rw (is, append-nil (text_of (step_of s l).told)) at fed.text)
 
 -- as many bytes of the cutter as it says
-module _ (kept whole : Cutter) (e : whole ≡ line_ended kept) (long : length whole.bytes ≡ 202) where
-  pub whole-few : whole.len ≤ length whole.bytes
-  unfolding line_ended
-  whole-few = let few : whole.len ≤ 202 = rw e (omega (arith, one-short kept)) in omega arith
-
-  pub whole-block : take whole.len whole.bytes ≡ one_line kept ++ (10 ∷ [])
-  unfolding line_ended
-  whole-block =
-      let same : length kept.bytes ≡ 202 = sym (length-set kept.bytes (length (one_line kept)) 10) ∙ rw e at long in
-      rw e (one_block kept (omega arith))
+pub whole-few : (kept whole : Cutter) → whole ≡ line_ended kept → whole.len ≤ 202
+unfolding line_ended
+whole-few kept whole e = rw e (omega (arith, one-short kept))
 
 -- a line ends in the block: it is run behind what was kept of it
-pub completed-line : {s : Stack} {block old new : List ℕ} {r : Ran} (c kept next : Cutter) (end : ℕ) → end ≡ 0 + length (up_to block) → end < length block → held kept ≡ clip (held c ++ take end block)
-    → 32 ≤ length old → Answered s (one_line kept ++ (10 ∷ [])) 0 old new r → held next ≡ []
-    → Completed c s block old new (record { cutter = next; stack = r.stack; used = end + 1; wrote = r.pace.wrote })
-completed-line {s} {block} {old} {new} {r} c kept next end e l keeps room a empty =
+pub completed-line : {s s' : Stack} {block old new : List ℕ} {r : Fed} (c kept next : Cutter) (end : ℕ) → end ≡ 0 + length (up_to block) → end < length block → held kept ≡ clip (held c ++ take end block)
+    → 32 ≤ length old → Answered s (one_line kept ++ (10 ∷ [])) 0 old new s' r → held next ≡ []
+    → Completed (record { cutter = c; stack = s }) block old new (record { cutter = next; stack = s' }) (record { used = end + 1; wrote = r.wrote })
+completed-line {s} {block = block} {old} {new} {r} c kept next end e l keeps room a empty =
     let line = up_to block in
     let bytes : take (end + 1) block ≡ line ++ (10 ∷ []) = rw e (to-newline block 0 (omega arith)) in
     let front : take end block ≡ line = rw (e, zero-add (length line)) (line-take block) in
@@ -109,5 +103,5 @@ completed-line {s} {block} {old} {new} {r} c kept next end e l keeps room a empt
     record {
       within = omega arith;
       done = inl empty;
-      fed = rw (bytes, empty, done.0) (fold_line (held c) block s 0 old new r.pace.wrote (step_of s (one_line kept)) (ap (answered s) says) done.1 a.sofar.fed.inside);
+      fed = rw (bytes, empty, done.0) (fold_line (held c) block s 0 old new r.wrote (step_of s (one_line kept)) (ap (answered s) says) done.1 a.sofar.fed.inside);
     }

@@ -14,8 +14,7 @@ use Rattle.lines.specs.Lines.{ended, last_line}
 use Rattle.lines.specs.Way.{held}
 use Rattle.lines.proofs.Keeping.{held-clip}
 use Rattle.lines.proofs.Pieces.{ended-none, ended-newline}
-use Rattle.session.specs.declared.Fed.{Fed}
-use Rattle.session.specs.Session.{stack_after, output_of, Run, lacking}
+use Rattle.session.specs.Session.{Fed, stack_after, output_of, Run, lacking}
 use Rattle.session.proofs.Alike.{none-held}
 use Rattle.session.proofs.Folds.{fold-none}
 

@@ -1,12 +1,9 @@
 pub mod Minus
 pub mod Alike
 pub mod Folds
-pub mod While
 pub mod Rows
-pub mod Runs
 pub mod Kept
 pub mod Feeds
 pub mod Lasts
 pub mod Blocks
-pub mod Known
 pub mod Many

@@ -1,3 +1,3 @@
 pub mod LineActs
 pub mod Session
-pub mod Pace
+pub mod Way

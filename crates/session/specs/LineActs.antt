@@ -1,21 +1,27 @@
 -- A line as an act on a stack, and what is told of it (01, The bench program).
 -- Assumes nothing.
-use Rattle.std.specs.Prelude.{ℕ, ◌-◌, ◌%◌, min, Bool, cond, List, map, ℤ, pos, ◌-ℤ◌, get_or, take, drop}
+use Rattle.std.specs.Prelude.{ℕ, ◌-◌, ◌%◌, min, Bool, cond, List, map, ℤ, pos, ◌-ℤ◌, get_or, take, drop, Result, Ok, Err}
 use Rattle.board.specs.declared.Readings.{Readings}
 use Rattle.held.specs.declared.Stack.{Stack}
-use Rattle.stack.specs.declared.Opening.{Opening}
-use Rattle.stack.specs.declared.Opening.TheVariants as opening
+use Rattle.refusal.specs.declared.Refusal.{Refusal}
+use Rattle.refusal.specs.declared.Refusal.TheVariants as refusal
+use Rattle.stack.specs.Open.{Opening}
 use Rattle.held.specs.Held.{open_of}
 use Rattle.held.specs.Held.{held_row, with_row}
 use Rattle.acts.specs.declared.Act.{Act}
+use Rattle.acts.specs.declared.Act.TheVariants as act
 use Rattle.acts.specs.declared.Sample as acts-sample
 use Rattle.acts.specs.declared.Frame as acts-frame
-use Rattle.acts.specs.declared.Told.TheVariants as told
-use Rattle.acts.specs.InPlace.{opening_told, sample_act, frame_act, reading_act, act_told, act_row}
+use Rattle.acts.specs.declared.Told.{Told}
+use Rattle.acts.specs.InPlace.{opening_told, act_told, act_row}
 use Rattle.lines.specs.declared.Kind.{Kind}
 use Rattle.lines.specs.declared.Kind.TheVariants.{Open, Sample, Frame, Read, Malformed}
 use Rattle.lines.specs.declared.Line.{Line}
-use Rattle.session.specs.declared.Acted.{Acted}
+
+-- a stack after a line, and what is told of it
+pub record Acted : Type 0 where
+  pub stack : Stack
+  pub told : Result Told Refusal
 
 -- a line has its first 21 numbers, with zeros behind them; number i, from 0
 abbrev pub number_at : List ℕ → ℕ → ℕ
@@ -64,8 +70,8 @@ counts_of numbers count = take (min count 21) numbers
 
 -- a good opening replaces the stack, a refused one leaves it
 abbrev pub opened_by : Opening → Stack → Stack → Stack
-opened_by opening.Opened s new = new
-opened_by (opening.Refused why) s new = s
+opened_by (Ok done) s new = new
+opened_by (Err why) s new = s
 
 unfoldable pub opens : Stack → Line → Acted
 opens s line =
@@ -80,10 +86,10 @@ acted_on s a = record { stack = with_row s (act_row (held_row s) a); told = act_
 -- a malformed line gets 12 in any state; before a good opening the stack has no boards, and every act gets 1
 abbrev pub line_by : Kind → Stack → Line → Acted
 line_by Open s line = opens s line
-line_by Sample s line = acted_on s (sample_act (sample_of line))
-line_by Frame s line = acted_on s (frame_act (frame_of line))
-line_by Read s line = acted_on s reading_act
-line_by Malformed s line = record { stack = s; told = told.Refused 12 }
+line_by Sample s line = acted_on s (act.Sample (sample_of line))
+line_by Frame s line = acted_on s (act.Frame (frame_of line))
+line_by Read s line = acted_on s act.Reading
+line_by Malformed s line = record { stack = s; told = Err refusal.Malformed }
 
 unfoldable pub answered : Stack → Line → Acted
 answered s line = line_by line.kind s line

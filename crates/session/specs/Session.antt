@@ -8,9 +8,9 @@ use Rattle.lines.specs.Line.{line_of}
 use Rattle.lines.specs.declared.Cutter.{Cutter}
 use Rattle.lines.specs.Lines.{ended, left}
 use Rattle.lines.specs.Way.{clip, held}
-use Rattle.session.specs.declared.Acted.{Acted}
-use Rattle.session.specs.declared.Fed.{Fed}
-use Rattle.session.specs.LineActs.{answered}
+use Rattle.session.specs.declared.Session.{Session}
+use Rattle.session.specs.declared.Fed as Counts
+use Rattle.session.specs.LineActs.{Acted, answered}
 
 -- a line of bytes, as an act
 abbrev pub step_of : Stack → List ℕ → Acted
@@ -33,6 +33,16 @@ pub record Fold (p : List ℕ) (s : Stack) (bytes : List ℕ) (from : ℕ) (old 
   pub stack : s' ≡ stack_after s (ended p bytes)
   pub text : Put from (output_of s (ended p bytes)) old new wrote
   pub inside : wrote ≤ length old
+
+-- what a block did: the line that it leaves open, the stack, how many of its bytes were used, and how many were written
+pub record Fed : Type 0 where
+  pub cutter : Cutter
+  pub stack : Stack
+  pub used : ℕ
+  pub wrote : ℕ
+
+abbrev pub fed : Session → Counts.Fed → Fed
+fed s r = record { cutter = s.cutter; stack = s.stack; used = r.used; wrote = r.wrote }
 
 -- the used bytes of a block were fed, up to its end or until 32 bytes, the most that a text takes, are no longer free;
 -- some byte is used where 32 were free from the start, and none where they were not

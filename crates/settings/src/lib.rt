@@ -2,13 +2,13 @@
 // Cell levels are in mV, shunt levels in µV, delays in µs.
 #![tactic(auto)]
 
-ghost use Rattle.std.specs.Prelude.{◌≡◌, cond};
+ghost use Rattle.std.specs.Prelude.{◌≡◌};
 ghost use Rattle.settings.specs.Levels.{ov_level, ov_hysteresis, ov_release, ov_delay, uv_level, uv_hysteresis, uv_release, ocd_delay, ocd_level, uv_delay, scd_level, crossed, scd_delay};
 ghost use Rattle.settings.specs.Bytes.{byte_of, with_byte, same, allowed};
 
 // Each byte under its register's number.
 #[repr(C)]
-#[derive(Clone, Copy)]
+#[derive(Clone, Copy, Debug, PartialEq, Eq)]
 pub struct Settings {
     pub r6: u8,
     pub r7: u8,
@@ -26,13 +26,6 @@ const UV_DELAYS: [u32; 16] = [
     0, 1250, 2500, 5000, 10000, 15000, 20000, 30000, 1000000, 2000000, 3000000, 4000000, 5000000,
     6000000, 7000000, 8000000,
 ];
-
-// A byte after a write, which is to its register or to another.
-fn written(here: bool, value: u8, old: u8) -> u8
-    ensures { result ≡ cond here value old }
-{
-    if here { value } else { old }
-}
 
 impl Settings {
     pub const FACTORY: Settings = Settings {
@@ -52,8 +45,7 @@ impl Settings {
     pub fn ov_hysteresis(self) -> u32
         ensures { result ≡ ov_hysteresis self }
     {
-        let code = (self.r6 / 8 % 4) as usize;
-        OV_HYSTERESIS[code]
+        OV_HYSTERESIS[(self.r6 / 8 % 4) as usize]
     }
 
     pub fn ov_release(self) -> u32
@@ -77,15 +69,13 @@ impl Settings {
     pub fn uv_hysteresis(self) -> u32
         ensures { result ≡ uv_hysteresis self }
     {
-        let code = (self.r7 / 16 % 4) as usize;
-        UV_HYSTERESIS[code]
+        UV_HYSTERESIS[(self.r7 / 16 % 4) as usize]
     }
 
     pub fn uv_release(self) -> u32
         ensures { result ≡ uv_release self }
     {
-        let up = self.uv_level() + self.uv_hysteresis();
-        if up < 3300 { up } else { 3300 }
+        (self.uv_level() + self.uv_hysteresis()).min(3300)
     }
 
     pub fn ocd_delay(self) -> u32
@@ -99,6 +89,7 @@ impl Settings {
         }
     }
 
+    // The levels of the two currents, each by its own sentence of the paper: with a register and a step handed in they would be no plainer.
     pub fn ocd_level(self) -> u32
         ensures { result ≡ ocd_level self }
     {
@@ -108,8 +99,7 @@ impl Settings {
     pub fn uv_delay(self) -> u32
         ensures { result ≡ uv_delay self }
     {
-        let code = (self.r9 / 16 % 16) as usize;
-        UV_DELAYS[code]
+        UV_DELAYS[(self.r9 / 16 % 16) as usize]
     }
 
     pub fn scd_level(self) -> u32
@@ -122,7 +112,7 @@ impl Settings {
     pub fn crossed(self) -> bool
         ensures { result ≡ crossed self }
     {
-        !(self.ocd_level() < self.scd_level())
+        self.scd_level() <= self.ocd_level()
     }
 
     pub fn scd_delay(self) -> u32
@@ -149,47 +139,34 @@ impl Settings {
     pub fn with_byte(self, register: u8, value: u8) -> Settings
         ensures { result ≡ with_byte self register value }
     {
-        Settings {
-            r6: written(register == 6, value, self.r6),
-            r7: written(register == 7, value, self.r7),
-            r8: written(register == 8, value, self.r8),
-            r9: written(register == 9, value, self.r9),
-            r10: written(register == 10, value, self.r10),
+        let mut next = self;
+        match register {
+            6 => next.r6 = value,
+            7 => next.r7 = value,
+            8 => next.r8 = value,
+            9 => next.r9 = value,
+            10 => next.r10 = value,
+            _ => {}
         }
+        next
     }
 
-    // Equal by bytes: two codes that mean the same still differ.
+    // Equal by bytes: two codes that mean the same still differ. It is the derived equality, under the name that the contracts of a programming use.
     pub fn same(self, other: Settings) -> bool
         ensures { result ≡ same self other }
     {
-        if self.r6 != other.r6 {
-            return false;
-        }
-        if self.r7 != other.r7 {
-            return false;
-        }
-        if self.r8 != other.r8 {
-            return false;
-        }
-        if self.r9 != other.r9 {
-            return false;
-        }
-        self.r10 == other.r10
+        self == other
     }
 
     // Whether a value may be written to a register: bits that must be zero are.
     pub fn allows(register: u8, value: u8) -> bool
         ensures { result ≡ allowed register value }
     {
-        if (register < 6) | (10 < register) {
-            return false;
+        match register {
+            7 => value < 64,
+            8 => value < 32,
+            6 | 9 | 10 => true,
+            _ => false,
         }
-        if register == 7 {
-            return value < 64;
-        }
-        if register == 8 {
-            return value < 32;
-        }
-        true
     }
 }

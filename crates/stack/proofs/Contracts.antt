@@ -10,26 +10,26 @@ use prog.Memory.{Memory}
 use prog.Routine.{Routine}
 use types.Logic.{Logic}
 use contract.Monad.{Fun}
-use denote.Builtin.{u8, u32}
+use denote.Builtin.{u8, u32, unit}
+use denote.RattleType.{RattleType}
 use denote.Triple.Clauses.{closing}
 use Rattle.walks.proofs.Form.{Form, handed, shown, ended_of, clauses-of}
 use Rattle.walks.proofs.Callee.{on-cells, on-frame, on_list, of-slice}
 use Rattle.board.specs.declared.Board.{Board}
 use Rattle.board.specs.contracts.Board as Boards
 use Rattle.board.specs.contracts.Readings as Readings
-use Rattle.board.specs.contracts.Answer as Answer
+use Rattle.std.specs.contracts.result.Result as Result
+use Rattle.refusal.specs.contracts.Refusal as Refusal
+use Rattle.board.specs.contracts.Sampled as Sampled
+use Rattle.reading.specs.contracts.Whole as Whole
+use Rattle.reading.specs.contracts.Line as Line
 use Rattle.frame.specs.contracts.Reply as Reply
-use Rattle.stack.specs.Open.{open_answer, open_row, open_counts_answer, open_counts_row}
+use Rattle.stack.specs.Open.{Opening, open_answer, open_row, open_counts_answer, open_counts_row}
 use Rattle.stack.specs.Sample.{sample_answer, sample_row}
 use Rattle.stack.specs.Frame.{frame_answer, frame_row, frame_buffer}
 use Rattle.stack.specs.List.{list_answer, list_buffer}
 use Rattle.stack.specs.Read.{reading_of}
 use Rattle.stack.specs.Up.{up_of}
-use Rattle.stack.specs.declared.Opening.{Opening}
-use Rattle.stack.specs.contracts.Opening as Openings
-use Rattle.stack.specs.contracts.Listing as Listing
-use Rattle.stack.specs.contracts.Glance as Glance
-use Rattle.stack.specs.contracts.View as View
 use Rattle.stack.specs.contracts.open_row as open-row
 use Rattle.stack.specs.contracts.open_counts as open-counts
 use Rattle.stack.specs.contracts.sample_stack as sample-stack
@@ -38,12 +38,16 @@ use Rattle.stack.specs.contracts.list_stack as list-stack
 use Rattle.stack.specs.contracts.read_stack as read-stack
 use Rattle.stack.specs.contracts.up_stack as up-stack
 
+-- what an act gives, or its refusal
+abbrev pub answer_row : RattleType → RattleType
+answer_row value = Result.the_row value Refusal.the_row
+
 -- the answer and the row
 abbrev opens_by : (List Board → List ℕ → Opening) → (List Board → List ℕ → List Board) → Form
 opens_by answer after = record {
   lifetimes = 2;
   params = handed 0 tt Boards.the_row ∷ shown 1 tt u32 ∷ [];
-  result = Openings.the_row;
+  result = answer_row unit;
   says_of = λ κs a r e. (r ≡ answer a.0.now a.1.0.now) × (e.0.now ≡ after a.0.now a.1.0.now);
 }
 
@@ -54,22 +58,22 @@ abbrev pub counts_form : Form
 counts_form = opens_by open_counts_answer open_counts_row
 
 abbrev pub sample_form : Form
-sample_form = on-cells Answer.the_row Boards.the_row u32 Readings.the_row u32 sample_answer sample_row
+sample_form = on-cells (answer_row Sampled.the_row) Boards.the_row u32 Readings.the_row u32 sample_answer sample_row
 
 -- the answer, the row and the buffer
 abbrev pub frame_form : Form
-frame_form = on-frame Reply.the_row Boards.the_row u8 u8 frame_answer frame_row frame_buffer
+frame_form = on-frame (answer_row Reply.the_row) Boards.the_row u8 u8 frame_answer frame_row frame_buffer
 
 -- the answer and the buffer; the row is only read
 abbrev pub list_form : Form
-list_form = on_list Listing.the_row Boards.the_row u32 u32 list_answer list_buffer
+list_form = on_list (answer_row u32) Boards.the_row u32 u32 list_answer list_buffer
 
 -- the answer; the row is only read
 abbrev pub read_form : Form
-read_form = of-slice View.the_row Boards.the_row reading_of
+read_form = of-slice (answer_row Whole.the_row) Boards.the_row reading_of
 
 abbrev pub up_form : Form
-up_form = of-slice Glance.the_row Boards.the_row up_of
+up_form = of-slice (answer_row Line.the_row) Boards.the_row up_of
 
 module _ {M : Type 1} {𝓤 : Ura M} (𝓛 : Logic 𝓤) (mem : Memory → SProp 𝓤) (run : Routine → Fun 𝓤) where
   pub open-row-says : open-row.spec 𝓛 mem run ≡ closing 𝓛 (ended_of open_form) (clauses-of open_form 𝓤)

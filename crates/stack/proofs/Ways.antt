@@ -12,7 +12,8 @@ use borrow.Author.Tests.{lt-ltb, le-ltb, ltb-true, ltb-false, ne_eqb}
 use Rattle.lists.specs.Every.{every}
 use Rattle.lists.proofs.Split.{split, both, not_yes}
 use Rattle.lists.proofs.Every.{every-at}
-use Rattle.refusal.specs.declared.Refusal.TheVariants.{Malformed}
+use Rattle.std.specs.Prelude.{Result, Ok, Err}
+use Rattle.refusal.specs.declared.Refusal.{Refusal}
 use Rattle.refusal.specs.Refusals.{numbered}
 use Rattle.refusal.specs.Said.{first, accepts, refuses}
 use Rattle.board.specs.declared.Board.{Board}
@@ -23,11 +24,11 @@ use Rattle.frame.specs.declared.Reply.{Reply}
 use Rattle.frame.specs.Frame.{byte, board_of, writes}
 use Rattle.frame.specs.Check.{check_of}
 use Rattle.frame.specs.Reply.{reply_bytes, reply_saying}
-use Rattle.frame.specs.Way.{decoded, refused_as, taken_apart, check_after, outcome_saying, reply_by, reply_of, buffer_with}
+use Rattle.frame.specs.Way.{parts_of, taken_apart, outcome_saying, reply_by, reply_of, buffer_with}
 use Rattle.registers.specs.Registers.{access_bars, reply_value, obeyed_of}
 use Rattle.stack.specs.Row.{bad_count, good_row, no_board, place_of, board_at}
 use Rattle.stack.specs.Sample.{sample_answer, sample_row}
-use Rattle.stack.specs.Way.{no_row_sample, sample_answer_at, sample_row_at, no_row_listing, entries_in, too_long, listing_in, buffer_in, list_answer_at, list_buffer_at, obey_outcome_at, obey_row_at, no_row_reply, taken_answer, taken_row, frame_answer_in, frame_row_in, frame_buffer_in}
+use Rattle.stack.specs.Way.{row_checked, place_in, sample_answer_at, sample_row_at, entries_in, too_long, listing_in, buffer_in, list_answer_at, list_buffer_at, obey_outcome_at, obey_row_at, taken_answer, taken_row, frame_answer_in, frame_row_in, frame_buffer_in}
 use Rattle.stack.specs.List.{list_answer, list_buffer}
 use Rattle.stack.specs.Frame.{frame_place, frame_board, board_framed, frame_answer, frame_row, frame_buffer}
 use Rattle.board.proofs.Counts.{within, good-plan}
@@ -103,61 +104,39 @@ module _ (row : List Board) (good : good_row row ≡ true) where
       (λ e. let none = has-none n (ltb-false (place_of n) (length row) e) in (rw (e, good, none), rw (e, good, none)))
 
 -- a listing of a bad row
-pub list-bad : (row : List Board) (n : ℕ) (buffer : List ℕ) → good_row row ≡ false → (no_row_listing ≡ list_answer row n buffer) × (buffer ≡ list_buffer row n buffer)
+pub list-bad : (row : List Board) (n : ℕ) (buffer : List ℕ) → good_row row ≡ false → (Err (numbered 1) ≡ list_answer row n buffer) × (buffer ≡ list_buffer row n buffer)
 unfolding list_answer list_buffer
 list-bad row n buffer bad = (rw bad, rw bad)
 
 -- a sample of a bad row
-pub sample-bad : (row : List Board) (n : ℕ) (x : Readings) (mv : List ℕ) → good_row row ≡ false → (no_row_sample ≡ sample_answer row n x mv) × (row ≡ sample_row row n x mv)
+pub sample-bad : (row : List Board) (n : ℕ) (x : Readings) (mv : List ℕ) → good_row row ≡ false → (Err (numbered 1) ≡ sample_answer row n x mv) × (row ≡ sample_row row n x mv)
 unfolding sample_answer sample_row
 sample-bad row n x mv bad = (rw bad, rw bad)
 
 -- ---- a frame
 
 -- the reply to an access that is judged by its bars, and the buffer that it is put into
-abbrev judged_reply : ℕ → ℕ → ℕ → ℕ → Reply
+abbrev judged_reply : ℕ → ℕ → ℕ → ℕ → Result Reply Refusal
 judged_reply n address register v = reply_saying (cond (eqb n 0) (accepts (reply_bytes address register v)) (refuses n))
 
-reply-judged : (n address register v old check : ℕ) → eqb check (check_of (address ∷ register ∷ old ∷ [])) ≡ true
-    → let o = outcome_saying (cond (eqb n 0) (accepts (v ∷ [])) (refuses n)) in reply_by address register o.value (check_after address register old check o.value) o.verdict ≡ judged_reply n address register v
-reply-judged n address register v old check right = split (eqb n 0) (λ e. rw (e, right)) (λ e. rw (e, e))
+reply-judged : (t : Taken) (n v : ℕ) → let asked = t.request in eqb t.check (check_of (asked.address ∷ asked.register ∷ asked.value ∷ [])) ≡ true
+    → reply_of t (outcome_saying (cond (eqb n 0) (accepts (v ∷ [])) (refuses n))) ≡ judged_reply n asked.address asked.register v
+unfolding reply_by
+reply-judged t n v right = split (eqb n 0) (λ e. rw (e, right)) (λ e. rw (e, e))
 
 put-judged : (n address register v : ℕ) (buffer : List ℕ) → buffer_with buffer (judged_reply n address register v) ≡ cond (eqb n 0) (reply_bytes address register v ++ drop 4 buffer) buffer
 put-judged n address register v buffer = split (eqb n 0) (λ e. rw e) (λ e. rw (e, e))
 
 -- what the routine does on a row is what the paper says of it
-abbrev Framed : List Board → List ℕ → List ℕ → Reply → List Board → List ℕ → Type 0
+abbrev Framed : List Board → List ℕ → List ℕ → Result Reply Refusal → List Board → List ℕ → Type 0
 Framed row bytes buffer answer after put = (answer ≡ frame_answer row bytes buffer) × ((after ≡ frame_row row bytes buffer) × (put ≡ frame_buffer row bytes buffer))
-
--- by what the frame was taken apart into
-module _ (row : List Board) (bytes buffer : List ℕ) where
-  said-by : (t : Taken) → taken_apart bytes (length buffer) ≡ t → Framed row bytes buffer (taken_answer row t) (taken_row row t) (buffer_with buffer (taken_answer row t))
-      → Framed row bytes buffer (frame_answer_in row bytes buffer) (frame_row_in row bytes buffer) (frame_buffer_in row bytes buffer)
-  unfolding frame_answer_in frame_row_in frame_buffer_in
-  said-by t e w = (ap (taken_answer row) e ∙ w.0, (ap (taken_row row) e ∙ w.1.0, ap (λ (u : Taken). buffer_with buffer (taken_answer row u)) e ∙ w.1.1))
-
--- the parts of a frame that none of 6, 7 and 8 refuses
-abbrev parts_of : List ℕ → Taken
-parts_of bytes = record { request = record { address = byte bytes 0; register = byte bytes 1; value = byte bytes 2 }; check = byte bytes 3; refused = false; why = Malformed }
 
 module _ (bytes : List ℕ) (room : ℕ) where
   abbrev right : Bool
   right = eqb (byte bytes 3) (check_of (byte bytes 0 ∷ byte bytes 1 ∷ byte bytes 2 ∷ []))
 
-  apart-6 : eqb (length bytes) 4 ≡ false → taken_apart bytes room ≡ refused_as (numbered 6)
-  unfolding taken_apart decoded
-  apart-6 e6 = rw e6
-
-  apart-7 : eqb (length bytes) 4 ≡ true → ltb room 4 ≡ true → taken_apart bytes room ≡ refused_as (numbered 7)
-  unfolding taken_apart decoded
-  apart-7 e6 e7 = rw (e6, e7)
-
-  apart-8 : eqb (length bytes) 4 ≡ true → ltb room 4 ≡ false → right ≡ false → taken_apart bytes room ≡ refused_as (numbered 8)
-  unfolding taken_apart decoded
-  apart-8 e6 e7 e8 = rw (e6, e7, e8)
-
-  apart_none : eqb (length bytes) 4 ≡ true → ltb room 4 ≡ false → right ≡ true → taken_apart bytes room ≡ parts_of bytes
-  unfolding taken_apart decoded
+  apart_none : eqb (length bytes) 4 ≡ true → ltb room 4 ≡ false → right ≡ true → taken_apart bytes room ≡ Ok (parts_of bytes)
+  unfolding taken_apart
   apart_none e6 e7 e8 = rw (e6, e7, e8)
 
 -- a frame to a board of a good row
@@ -168,8 +147,11 @@ module _ (row : List Board) (bytes buffer : List ℕ) (good : good_row row ≡ t
   abbrev told : ℕ
   told = reply_value (board_framed row bytes) (writes (byte bytes 0)) (byte bytes 1) (byte bytes 2)
 
-  abbrev reply : Reply
+  abbrev reply : Result Reply Refusal
   reply = judged_reply barred (byte bytes 0) (byte bytes 1) told
+
+  abbrev sent : Result Taken Refusal
+  sent = Ok (parts_of bytes)
 
   -- which is there
   module _ (e : ltb (frame_place bytes) (length row) ≡ true) where
@@ -180,11 +162,10 @@ module _ (row : List Board) (bytes buffer : List ℕ) (good : good_row row ≡ t
     unfolding obey_outcome_at obeyed_of
     obeyed = rw e
 
-    replied : taken_answer row (parts_of bytes) ≡ reply
-    unfolding reply_of
-    replied = ap (reply_of (parts_of bytes)) obeyed ∙ reply-judged barred (byte bytes 0) (byte bytes 1) told (byte bytes 2) (byte bytes 3) e8
+    replied : taken_answer row sent ≡ reply
+    replied = ap (reply_of (parts_of bytes)) obeyed ∙ reply-judged (parts_of bytes) barred told e8
 
-    board-framed : Framed row bytes buffer (taken_answer row (parts_of bytes)) (taken_row row (parts_of bytes)) (buffer_with buffer (taken_answer row (parts_of bytes)))
+    board-framed : Framed row bytes buffer (taken_answer row sent) (taken_row row sent) (buffer_with buffer (taken_answer row sent))
     unfolding obey_row_at obeyed_of frame_answer frame_row frame_buffer
     board-framed = (
       replied ∙ rw (e6, e7, e8, good, there),
@@ -195,30 +176,42 @@ module _ (row : List Board) (bytes buffer : List ℕ) (good : good_row row ≡ t
     )
 
   -- which is not
-  none-framed : ltb (frame_place bytes) (length row) ≡ false → Framed row bytes buffer (taken_answer row (parts_of bytes)) (taken_row row (parts_of bytes)) (buffer_with buffer (taken_answer row (parts_of bytes)))
-  unfolding obey_outcome_at obey_row_at reply_of frame_answer frame_row frame_buffer
+  none-framed : ltb (frame_place bytes) (length row) ≡ false → Framed row bytes buffer (taken_answer row sent) (taken_row row sent) (buffer_with buffer (taken_answer row sent))
+  unfolding obey_outcome_at obey_row_at frame_answer frame_row frame_buffer
   none-framed e =
       let none = has-none row good (board_of (byte bytes 0)) (ltb-false (frame_place bytes) (length row) e) in
       (rw (e6, e7, e8, good, e, none), (rw (e6, e7, e8, good, e, none), rw (e6, e7, e8, good, e, none)))
 
 -- a frame to a good row
 pub frame-good : (row : List Board) (bytes buffer : List ℕ) → good_row row ≡ true → Framed row bytes buffer (frame_answer_in row bytes buffer) (frame_row_in row bytes buffer) (frame_buffer_in row bytes buffer)
-unfolding frame_answer frame_row frame_buffer
+unfolding frame_answer_in frame_row_in frame_buffer_in taken_apart frame_answer frame_row frame_buffer
 frame-good row bytes buffer good =
-    let room = length buffer in
     split (eqb (length bytes) 4)
     (λ e6.
-    split (ltb room 4)
-    (λ e7. said-by row bytes buffer (refused_as (numbered 7)) (apart-7 bytes room e6 e7) (rw (e6, e7, good), (rw (e6, e7, good), rw (e6, e7, good))))
+    split (ltb (length buffer) 4)
+    (λ e7. (rw (e6, e7, good), (rw (e6, e7, good), rw (e6, e7, good))))
     (λ e7.
-    split (right bytes room)
+    split (right bytes (length buffer))
     (λ e8.
-    said-by row bytes buffer (parts_of bytes) (apart_none bytes room e6 e7 e8)
+    rw (apart_none bytes (length buffer) e6 e7 e8)
     (split (ltb (frame_place bytes) (length row)) (λ e. board-framed row bytes buffer good e6 e7 e8 e) (λ e. none-framed row bytes buffer good e6 e7 e8 e)))
-    (λ e8. said-by row bytes buffer (refused_as (numbered 8)) (apart-8 bytes room e6 e7 e8) (rw (e6, e7, e8, good), (rw (e6, e7, e8, good), rw (e6, e7, e8, good))))))
-    (λ e6. said-by row bytes buffer (refused_as (numbered 6)) (apart-6 bytes room e6) (rw (e6, good), (rw (e6, good), rw (e6, good))))
+    (λ e8. (rw (e6, e7, e8, good), (rw (e6, e7, e8, good), rw (e6, e7, e8, good))))))
+    (λ e6. (rw (e6, good), (rw (e6, good), rw (e6, good))))
 
 -- a frame to a bad row
-pub frame-bad : (row : List Board) (bytes buffer : List ℕ) → good_row row ≡ false → Framed row bytes buffer no_row_reply row buffer
+pub frame-bad : (row : List Board) (bytes buffer : List ℕ) → good_row row ≡ false → Framed row bytes buffer (Err (numbered 1)) row buffer
 unfolding frame_answer frame_row frame_buffer
 frame-bad row bytes buffer bad = (rw bad, (rw bad, rw bad))
+
+-- ---- what the look at the row, and the look for a board, came to
+pub checked-good : (row : List Board) → row_checked row ≡ Ok tt → good_row row ≡ true
+checked-good row e = split (good_row row) (λ g. g) (λ g. cc (rw g at e))
+
+pub checked-bad : (row : List Board) (why : Refusal) → row_checked row ≡ Err why → (good_row row ≡ false) × (numbered 1 ≡ why)
+checked-bad row why e = split (good_row row) (λ g. cc (rw g at e)) (λ g. (g, cc (rw g at e)))
+
+pub place-found : (row : List Board) (n at : ℕ) → place_in row n ≡ Ok at → (ltb (place_of n) (length row) ≡ true) × (place_of n ≡ at)
+place-found row n at e = split (ltb (place_of n) (length row)) (λ h. (h, cc (rw h at e))) (λ h. cc (rw h at e))
+
+pub place-none : (row : List Board) (n : ℕ) (why : Refusal) → place_in row n ≡ Err why → (ltb (place_of n) (length row) ≡ false) × (numbered 2 ≡ why)
+place-none row n why e = split (ltb (place_of n) (length row)) (λ h. cc (rw h at e)) (λ h. (h, cc (rw h at e)))

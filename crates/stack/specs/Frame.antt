@@ -1,6 +1,7 @@
 -- A frame to the row, with its lent reply buffer (01, Frames and registers; Refusal numbers 1, 6, 7, 8, 2, 9, 10, 13, 11; 02, ticket 1).
 -- Assumes nothing.
-use Rattle.std.specs.Prelude.{ℕ, not, List, ◌∷◌, ◌++◌, length, set, drop}
+use Rattle.std.specs.Prelude.{ℕ, not, List, ◌∷◌, ◌++◌, length, set, drop, Result}
+use Rattle.refusal.specs.declared.Refusal.{Refusal}
 use Rattle.refusal.specs.Said.{Bar, bar, judged, unless_refused}
 use Rattle.board.specs.declared.Board.{Board}
 use Rattle.frame.specs.declared.Reply.{Reply}
@@ -34,7 +35,7 @@ frame_row_bars row bytes buffer =
     ∷ access_bars (frame_board row bytes) (writes (byte bytes 0)) (byte bytes 1) (byte bytes 2)))
 
 -- the answer, the row and the buffer after it
-unfoldable pub frame_answer : List Board → List ℕ → List ℕ → Reply
+unfoldable pub frame_answer : List Board → List ℕ → List ℕ → Result Reply Refusal
 frame_answer row bytes buffer = reply_saying (judged (frame_row_bars row bytes buffer) (frame_reply row bytes))
 
 unfoldable pub frame_row : List Board → List ℕ → List ℕ → List Board

@@ -1,14 +1,12 @@
 -- The opening of a lent row, by plans and by bare cell counts (01, The stack and its readings; Refusal number 1; 02, ticket 3).
 -- Assumes nothing.
-use Rattle.std.specs.Prelude.{ℕ, Bool, cond, not, ◌||◌, List, [], ◌∷◌, map, eqb, length}
-use Rattle.refusal.specs.Refusals.{number_of, numbered}
-use Rattle.refusal.specs.Said.{Said, refuses, accepts, Bar, bar, judged, unless_refused}
+use Rattle.std.specs.Prelude.{ℕ, Bool, not, ◌||◌, List, [], ◌∷◌, map, eqb, length, Result}
+use Rattle.refusal.specs.declared.Refusal.{Refusal}
+use Rattle.refusal.specs.Said.{Said, said_by, saying_by, Bar, bar, judged, unless_refused}
 use Rattle.lists.specs.Every.{every}
 use Rattle.board.specs.declared.Board.{Board}
 use Rattle.board.specs.Plan.{bad_plan, plan_of, stand_alone}
 use Rattle.board.specs.Sample.{fresh}
-use Rattle.stack.specs.declared.Opening.{Opening}
-use Rattle.stack.specs.declared.Opening.TheVariants.{Opened, Refused}
 use Rattle.stack.specs.Row.{bad_count}
 
 -- each board is of a kind that there is and has 5 to 10 cells
@@ -27,13 +25,15 @@ bad_plans plans = bad_count (length plans) || not (good_plans plans)
 abbrev pub opened : List ℕ → List Board
 opened plans = map fresh plans
 
--- the paper's number and values of each case, and the case that says them
+-- the paper's number and values of an answer, and the answer that says them: an opening gives no value
+abbrev pub Opening : Type 0
+Opening = Result (Unit {0}) Refusal
+
 abbrev pub opening_said : Opening → Said
-opening_said Opened = accepts []
-opening_said (Refused why) = refuses (number_of why)
+opening_said a = said_by (λ done. []) a
 
 abbrev pub opening_saying : Said → Opening
-opening_saying s = cond (eqb s.number 0) Opened (Refused (numbered s.number))
+opening_saying s = saying_by (λ said. tt) s
 
 -- an opening's answer, and the row after it: at a refusal the row that was lent
 unfoldable pub open_answer : List Board → List ℕ → Opening

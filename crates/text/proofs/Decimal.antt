@@ -1,13 +1,14 @@
 -- Decimal numbers: their digits.
 -- Assumes nothing.
-use Prim.Native.Nat.{ℕ, ◌+◌, ◌/◌, ◌%◌, ◌*◌, ◌<◌, ◌≤◌}
+use Prim.Native.Nat.{ℕ, zero, suc, ◌+◌, ◌/◌, ◌%◌, ◌*◌, ◌<◌, ◌≤◌}
 use native.Mathlib.Omega.{arith}
+use native.Mathlib.Numerals.{add-one}
 use mathlib.Core.Path.{◌≡◌, refl, ap, ◌∙◌}
 use mathlib.Core.Bool.{Bool, true, false}
-use mathlib.Core.List.{List, [], ◌∷◌, ◌++◌, append_assoc}
+use mathlib.Core.List.{List, [], ◌∷◌, ◌++◌, append_assoc, append-nil}
 use lib.Dec.{leb}
-use lib.ListN.{length, length-append}
-use borrow.Author.Tests.{leb-false}
+use lib.ListN.{length, length-append, take, get_or}
+use borrow.Author.Tests.{leb-false, le-leb, lt-leb}
 use borrow.Table.Steps.{cases}
 use mir.Val.{bool_byte}
 use Rattle.lists.specs.Marks.{bit}
@@ -22,15 +23,40 @@ pub decimal-five : (n : ℕ) → length (decimal n) ≤ 5
 unfolding decimal
 decimal-five n = simp length-append (omega (arith, place-long 10000 n, place-long 1000 n, place-long 100 n, place-long 10 n))
 
+-- the digits in some places, and one place more
+unfoldable pub reached : ℕ → List ℕ → List ℕ
+reached n [] = []
+reached n (place ∷ places) = place_of place n ++ reached n places
+
+pub reached-more : (n i : ℕ) (places : List ℕ) → i < length places → reached n (take (i + 1) places) ≡ reached n (take i places) ++ place_of (get_or places i 0) n
+unfolding reached
+reached-more n i [] h = absurd (omega arith)
+reached-more n zero (place ∷ places) h = append-nil (place_of place n)
+reached-more n (suc i) (place ∷ places) h =
+    let more : reached n (take (suc i) places) ≡ reached n (take i places) ++ place_of (get_or places i 0) n = rw (add-one i) at (reached-more n i places (omega arith)) in
+    rw (add-one (suc i), more, append_assoc)
+
+pub place-there : (place n : ℕ) → place ≤ n → place_of place n ≡ digit (n / place % 10) ∷ []
+unfolding place_of
+place-there place n h = rw (le-leb place n h)
+
+pub place_none : (place n : ℕ) → n < place → place_of place n ≡ []
+unfolding place_of
+place_none place n h = rw (lt-leb place n h)
+
+-- the places of a number's digits but the last
+abbrev pub all_places : List ℕ
+all_places = 10000 ∷ 1000 ∷ 100 ∷ 10 ∷ []
+
+pub reached-all : (n : ℕ) → reached n all_places ++ (digit (n % 10) ∷ []) ≡ decimal n
+unfolding reached decimal
+reached-all n = simp append_assoc
+
 -- a flag is one digit
 pub flag-digit : (b : Bool) → decimal (bit b) ≡ digit (bool_byte b) ∷ []
 unfolding decimal place_of
 flag-digit true = refl
 flag-digit false = refl
-
-pub flag_small : (b : Bool) → bool_byte b < 10
-flag_small true = omega arith
-flag_small false = omega arith
 
 -- whatever takes the digits of a number one by one into the number, as reading does, comes to the number
 module _ {A : Type 0} (f : ℕ → List ℕ → A) (step : (v d : ℕ) (s : List ℕ) → d < 10 → f v (digit d ∷ s) ≡ f (v * 10 + d) s) where

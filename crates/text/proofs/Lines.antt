@@ -12,7 +12,11 @@ use Rattle.lists.specs.Marks.{bit}
 use Rattle.lists.specs.Every.{every}
 use Rattle.lists.proofs.Split.{split}
 use Rattle.acts.specs.declared.Told.{Told}
-use Rattle.acts.specs.declared.Told.TheVariants.{Opened, Refused, Status, Reply, Reading}
+use Rattle.acts.specs.declared.Told.TheVariants.{Opened, Status, Reply, Reading}
+use Rattle.std.proofs.Common.{Result, Ok, Err}
+use Rattle.refusal.specs.declared.Refusal.{Refusal}
+use Rattle.refusal.specs.declared.Refusal.TheVariants.{BadRow, NoBoard, CellList, Elapsed, OutOfRange, FrameLength, ReplyRoom, CheckByte, NoRegister, BadValue, NoCycle, Malformed, LevelsCrossed, ListRoom}
+use Rattle.refusal.specs.Refusals.{number_of}
 use Rattle.text.specs.Text.{digit, decimal, words_of, text_of}
 use Rattle.text.specs.Way.{placed, Typed}
 use Rattle.text.proofs.Decimal.{decimal-five as five, decimal-fold, flag-digit}
@@ -32,16 +36,33 @@ flag-plain : (b : Bool) (s : List ℕ) → every plain (decimal (bit b) ++ s) �
 flag-plain true s = number-plain 1 (omega arith) s
 flag-plain false s = number-plain 0 (omega arith) s
 
-words-plain : (told : Told) → Typed told → every plain (words_of told) ≡ true
-unfolding words_of every
-words-plain Opened h = refl
-words-plain (Refused n) h = simp (number-last n (omega arith))
-words-plain (Status status bled) h = simp (number-plain status (omega arith), number-last bled (omega arith))
-words-plain (Reply address register value check) h =
-    simp (number-plain address (omega arith), number-plain register (omega arith), number-plain value (omega arith), number-last check (omega arith))
-words-plain (Reading line chg dsg board cell) h = simp (flag-plain, number-plain board (omega arith), number-last cell (omega arith))
+-- a refusal's number has two digits at most
+pub number-few : (why : Refusal) → number_of why < 15
+number-few BadRow = omega arith
+number-few NoBoard = omega arith
+number-few CellList = omega arith
+number-few Elapsed = omega arith
+number-few OutOfRange = omega arith
+number-few FrameLength = omega arith
+number-few ReplyRoom = omega arith
+number-few CheckByte = omega arith
+number-few NoRegister = omega arith
+number-few BadValue = omega arith
+number-few NoCycle = omega arith
+number-few Malformed = omega arith
+number-few LevelsCrossed = omega arith
+number-few ListRoom = omega arith
 
-pub one-newline : (told : Told) → Typed told → (text_of told ≡ words_of told ++ (10 ∷ [])) × (every plain (words_of told) ≡ true)
+words-plain : (told : Result Told Refusal) → Typed told → every plain (words_of told) ≡ true
+unfolding words_of every
+words-plain (Ok Opened) h = refl
+words-plain (Err why) h = simp (number-last (number_of why) (omega (arith, number-few why)))
+words-plain (Ok (Status s)) h = simp (number-plain s.status (omega arith), number-last s.bled (omega arith))
+words-plain (Ok (Reply r)) h =
+    simp (number-plain r.address (omega arith), number-plain r.register (omega arith), number-plain r.value (omega arith), number-last r.check (omega arith))
+words-plain (Ok (Reading w)) h = simp (flag-plain, number-plain w.flagged.board (omega arith), number-last w.flagged.cell (omega arith))
+
+pub one-newline : (told : Result Told Refusal) → Typed told → (text_of told ≡ words_of told ++ (10 ∷ [])) × (every plain (words_of told) ≡ true)
 unfolding text_of
 one-newline told h = (refl, words-plain told h)
 
@@ -49,17 +70,16 @@ number-long : (n : ℕ) (s t : List ℕ) → length ((decimal n ++ s) ++ t) ≡ 
 number-long n s t = rw (append_assoc (decimal n) s t) (length-append (decimal n) (s ++ t))
 
 -- and has 32 bytes at most, whatever its numbers
-pub text-short : (told : Told) → length (text_of told) ≤ 32
+pub text-short : (told : Result Told Refusal) → length (text_of told) ≤ 32
 unfolding text_of words_of
-text-short Opened = omega arith
-text-short (Refused n) = simp length-append (omega (arith, five n))
-text-short (Status status bled) = simp (number-long, length-append) (omega (arith, five status, five bled))
-text-short (Reply address register value check) =
-    simp (number-long, length-append) (omega (arith, five address, five register, five value, five check))
-text-short (Reading line chg dsg board cell) = simp (number-long, length-append, flag-digit) (omega (arith, five board, five cell))
+text-short (Ok Opened) = omega arith
+text-short (Err why) = simp length-append (omega (arith, five (number_of why)))
+text-short (Ok (Status s)) = simp (number-long, length-append) (omega (arith, five s.status, five s.bled))
+text-short (Ok (Reply r)) = simp (number-long, length-append) (omega (arith, five r.address, five r.register, five r.value, five r.check))
+text-short (Ok (Reading w)) = simp (number-long, length-append, flag-digit) (omega (arith, five w.flagged.board, five w.flagged.cell))
 
 -- so no line leaves its buffer
-pub placed-inside : (room at : ℕ) (told : Told) → at ≤ room → at + length (placed room at told) ≤ room
+pub placed-inside : (room at : ℕ) (told : Result Told Refusal) → at ≤ room → at + length (placed room at told) ≤ room
 unfolding placed
 placed-inside room at told h =
     split (leb (at + 32) room) (λ e. rw e (omega (arith, leb-true (at + 32) room e, text-short told))) (λ e. rw e (omega arith))

@@ -1,11 +1,13 @@
 -- The line that answers an act, as its bytes (01, The bench program).
 -- Assumes nothing.
-use Rattle.std.specs.Prelude.{ℕ, ◌+◌, ◌/◌, ◌%◌, cond, List, [], ◌∷◌, ◌++◌, leb}
+use Rattle.std.specs.Prelude.{ℕ, ◌+◌, ◌/◌, ◌%◌, cond, List, [], ◌∷◌, ◌++◌, leb, Result, Ok, Err}
 use Prim.Native.Char.{code}
 use Prim.Native.String as string
 use Rattle.lists.specs.Marks.{bit}
 use Rattle.acts.specs.declared.Told.{Told}
-use Rattle.acts.specs.declared.Told.TheVariants.{Opened, Refused, Status, Reply, Reading}
+use Rattle.acts.specs.declared.Told.TheVariants.{Opened, Status, Reply, Reading}
+use Rattle.refusal.specs.declared.Refusal.{Refusal}
+use Rattle.refusal.specs.Refusals.{number_of}
 
 -- a word as its bytes
 abbrev pub bytes : string.String → List ℕ
@@ -28,13 +30,14 @@ abbrev pub field : string.String → ℕ → List ℕ
 field word n = bytes word ++ decimal n
 
 -- the words of each answer, as the paper's session shows them; a flag is 1 or 0
-unfoldable pub words_of : Told → List ℕ
-words_of Opened = bytes "ok"
-words_of (Refused n) = field "no " n
-words_of (Status status bled) = field "st " status ++ field " bal " bled
-words_of (Reply address register value check) = field "re " address ++ (field " " register ++ (field " " value ++ field " " check))
-words_of (Reading line chg dsg board cell) = field "ln " (bit line) ++ (field " chg " (bit chg) ++ (field " dsg " (bit dsg) ++ (field " at " board ++ field " " cell)))
+unfoldable pub words_of : Result Told Refusal → List ℕ
+words_of (Ok Opened) = bytes "ok"
+words_of (Err why) = field "no " (number_of why)
+words_of (Ok (Status s)) = field "st " s.status ++ field " bal " s.bled
+words_of (Ok (Reply r)) = field "re " r.address ++ (field " " r.register ++ (field " " r.value ++ field " " r.check))
+words_of (Ok (Reading w)) =
+    field "ln " (bit w.line) ++ (field " chg " (bit w.chg) ++ (field " dsg " (bit w.dsg) ++ (field " at " w.flagged.board ++ field " " w.flagged.cell)))
 
 -- each on a line of its own
-unfoldable pub text_of : Told → List ℕ
+unfoldable pub text_of : Result Told Refusal → List ℕ
 text_of told = words_of told ++ bytes "\n"

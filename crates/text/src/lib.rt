@@ -1,145 +1,136 @@
 // The line that answers an act, put into a lent buffer (01, The bench program).
 #![tactic(auto)]
 
-ghost use Rattle.std.specs.Prelude.{[], ◌∷◌, ◌++◌, ◌+◌, ◌<◌, ◌≤◌, length};
+ghost use Rattle.std.specs.Prelude.{◌≡◌, [], List, ℕ, ◌∷◌, ◌++◌, ◌+◌, ◌<◌, ◌≤◌, length, take};
 ghost use Rattle.lists.specs.Marks.{bit};
 ghost use Rattle.puts.specs.Put.{Put};
-ghost use Rattle.acts.specs.declared.Told.TheVariants as told;
-ghost use Rattle.text.specs.Text.{digit, place_of, decimal, words_of};
+ghost use Rattle.text.specs.Text.{digit, decimal, words_of};
 ghost use Rattle.text.specs.Way.{placed};
 
 use acts::Told;
+use refusal::Refusal;
+use std::marker::Model;
 
-// Puts one digit into out from at on, and gives the place after it.
-fn put_digit(out: &mut [u8], at: usize, d: u16) -> usize
-    requires { (at + 1 ≤ length out.old) × (d < 10) }
-    ensures { Put at (digit d ∷ []) out.old out.new result }
-{
-    out[at] = 48 + d as u8;
-    at + 1
+// What is written of a line, which has 32 bytes at most; since memory is fixed its length stands beside, and contracts see a list.
+#[derive(Drop)]
+struct Written {
+    bytes: [u8; 32],
+    len: usize,
 }
 
-// The same with the digit of n in a place, where n reaches that far.
-fn put_place(out: &mut [u8], at: usize, n: u16, place: u16) -> usize
-    requires { (at + 1 ≤ length out.old) × (1 ≤ place) }
-    ensures put { Put at (place_of place n) out.old out.new result }
-    ensures upper_bound { result ≤ at + 1 }
-{
-    if n < place {
-        return at;
+impl Model for Written {
+    ghost Value = { List ℕ };
+
+    ghost view = { λ w. take w.len w.bytes };
+
+    ghost invariant = { λ w. w.len ≤ 32 };
+}
+
+impl Written {
+    fn new() -> Written
+        ensures { result ≡ [] }
+    {
+        Written {
+            bytes: [0; 32],
+            len: 0,
+        }
     }
-    put_digit(out, at, n / place % 10)
-}
 
-// The same with the decimal digits of n, five at most.
-fn put_number(out: &mut [u8], at: usize, n: u16) -> usize
-    requires { at + 5 ≤ length out.old }
-    ensures put { Put at (decimal n) out.old out.new result }
-    ensures upper_bound { result ≤ at + 5 }
-{
-    let first_end = put_place(out, at, n, 10000);
-    let second_end = put_place(out, first_end, n, 1000);
-    let third_end = put_place(out, second_end, n, 100);
-    let fourth_end = put_place(out, third_end, n, 10);
-    put_digit(out, fourth_end, n % 10)
-}
+    fn as_slice(&self) -> &[u8]
+        ensures { result.now ≡ self.now }
+    {
+        &self.bytes[..self.len]
+    }
 
-// The same with a word and a number.
-fn put_field(out: &mut [u8], at: usize, word: &[u8], n: u16) -> usize
-    requires { at + length word.now + 5 ≤ length out.old }
-    ensures put { Put at (word.now ++ decimal n) out.old out.new result }
-    ensures upper_bound { result ≤ at + length word.now + 5 }
-{
-    let word_end = puts::put_bytes(out, at, word);
-    put_number(out, word_end, n)
-}
+    fn word(&mut self, word: &[u8])
+        requires { length self.old + length word.now ≤ 32 }
+        ensures { self.new ≡ self.old ++ word.now }
+    {
+        let end = self.len + word.len();
+        self.bytes[self.len..end].copy_from_slice(word);
+        self.len = end;
+    }
 
-// The same with a word and a flag.
-fn put_flag(out: &mut [u8], at: usize, word: &[u8], flag: bool) -> usize
-    requires { at + length word.now + 1 ≤ length out.old }
-    ensures put { Put at (word.now ++ decimal (bit flag)) out.old out.new result }
-    ensures upper_bound { result ≤ at + length word.now + 1 }
-{
-    let word_end = puts::put_bytes(out, at, word);
-    put_digit(out, word_end, flag as u16)
-}
+    fn digit(&mut self, d: u16)
+        requires { (length self.old + 1 ≤ 32) × (d < 10) }
+        ensures { self.new ≡ self.old ++ digit d ∷ [] }
+    {
+        self.bytes[self.len] = b'0' + d as u8;
+        self.len += 1;
+    }
 
-fn put_status(out: &mut [u8], at: usize, status: u8, bled: u16) -> usize
-    requires { at + 31 ≤ length out.old }
-    ensures put { Put at (words_of (told.Status status bled)) out.old out.new result }
-    ensures upper_bound { result ≤ at + 31 }
-{
-    let status_end = put_field(out, at, b"st ", status as u16);
-    put_field(out, status_end, b" bal ", bled)
-}
+    // By hand, since there is no heap and the digits go straight into the line's places. The decimal digits of n, five at most: a place that n does not reach has none, and the last one always.
+    fn number(&mut self, n: u16)
+        requires { length self.old + 5 ≤ 32 }
+        ensures put { self.new ≡ self.old ++ decimal n }
+        ensures upper_bound { length self.new ≤ length self.old + 5 }
+    {
+        for place in [10000, 1000, 100, 10] {
+            if place <= n {
+                self.digit(n / place % 10);
+            }
+        }
+        self.digit(n % 10);
+    }
 
-fn put_reply(out: &mut [u8], at: usize, address: u8, register: u8, value: u8, check: u8) -> usize
-    requires { at + 31 ≤ length out.old }
-    ensures put { Put at (words_of (told.Reply address register value check)) out.old out.new result }
-    ensures upper_bound { result ≤ at + 31 }
-{
-    let address_end = put_field(out, at, b"re ", address as u16);
-    let register_end = put_field(out, address_end, b" ", register as u16);
-    let value_end = put_field(out, register_end, b" ", value as u16);
-    put_field(out, value_end, b" ", check as u16)
-}
+    fn field(&mut self, word: &[u8], n: u16)
+        requires { length self.old + length word.now + 5 ≤ 32 }
+        ensures put { self.new ≡ self.old ++ (word.now ++ decimal n) }
+        ensures upper_bound { length self.new ≤ length self.old + length word.now + 5 }
+    {
+        self.word(word);
+        self.number(n);
+    }
 
-fn put_reading(
-    out: &mut [u8],
-    at: usize,
-    line: bool,
-    chg: bool,
-    dsg: bool,
-    board: u8,
-    cell: u8,
-) -> usize
-    requires { at + 31 ≤ length out.old }
-    ensures put { Put at (words_of (told.Reading line chg dsg board cell)) out.old out.new result }
-    ensures upper_bound { result ≤ at + 31 }
-{
-    let line_end = put_flag(out, at, b"ln ", line);
-    let chg_end = put_flag(out, line_end, b" chg ", chg);
-    let dsg_end = put_flag(out, chg_end, b" dsg ", dsg);
-    let board_end = put_field(out, dsg_end, b" at ", board as u16);
-    put_field(out, board_end, b" ", cell as u16)
+    fn flag(&mut self, word: &[u8], flag: bool)
+        requires { length self.old + length word.now + 1 ≤ 32 }
+        ensures put { self.new ≡ self.old ++ (word.now ++ decimal (bit flag)) }
+        ensures upper_bound { length self.new ≤ length self.old + length word.now + 1 }
+    {
+        self.word(word);
+        self.digit(u16::from(flag));
+    }
 }
 
 // The words of an answer.
-fn put_words(out: &mut [u8], at: usize, told: Told) -> usize
-    requires { at + 31 ≤ length out.old }
-    ensures put { Put at (words_of told) out.old out.new result }
-    ensures upper_bound { result ≤ at + 31 }
+#[tactic(auto, using(std::proofs::Common::append_assoc), unfolding(crate::specs::Text::words_of))]
+fn words_of(told: Result<Told, Refusal>) -> Written
+    ensures put { result ≡ words_of told }
+    ensures upper_bound { length result ≤ 31 }
 {
+    let mut words = Written::new();
     match told {
-        Told::Opened => puts::put_bytes(out, at, b"ok"),
-        Told::Refused(n) => put_field(out, at, b"no ", n as u16),
-        Told::Status { status, bled } => put_status(out, at, status, bled),
-        Told::Reply {
-            address,
-            register,
-            value,
-            check,
-        } => put_reply(out, at, address, register, value, check),
-        Told::Reading {
-            line,
-            chg,
-            dsg,
-            board,
-            cell,
-        } => put_reading(out, at, line, chg, dsg, board, cell),
+        Ok(Told::Opened) => words.word(b"ok"),
+        Ok(Told::Status(answer)) => {
+            words.field(b"st ", u16::from(answer.status));
+            words.field(b" bal ", answer.bled);
+        }
+        Ok(Told::Reply(reply)) => {
+            words.field(b"re ", u16::from(reply.address));
+            words.field(b" ", u16::from(reply.register));
+            words.field(b" ", u16::from(reply.value));
+            words.field(b" ", u16::from(reply.check));
+        }
+        Ok(Told::Reading(whole)) => {
+            words.flag(b"ln ", whole.line);
+            words.flag(b" chg ", whole.chg);
+            words.flag(b" dsg ", whole.dsg);
+            words.field(b" at ", u16::from(whole.flagged.board));
+            words.field(b" ", u16::from(whole.flagged.cell));
+        }
+        Err(why) => words.field(b"no ", u16::from(u8::from(why))),
     }
+    words
 }
 
 // The line of an answer, and the place after it; where 32 bytes are not free from at on, nothing, and at.
-pub fn put_told(out: &mut [u8], at: usize, told: Told) -> usize
+pub fn put_told(out: &mut [u8], at: usize, told: Result<Told, Refusal>) -> usize
     ensures { Put at (placed (length out.old) at told) out.old out.new result }
 {
-    if out.len() < 32 {
+    if out.len() < 32 || out.len() - 32 < at {
         return at;
     }
-    if out.len() - 32 < at {
-        return at;
-    }
-    let words_end = put_words(out, at, told);
-    puts::put_bytes(out, words_end, b"\n")
+    let mut line = words_of(told);
+    line.word(b"\n");
+    puts::put_bytes(out, at, line.as_slice())
 }

@@ -19,11 +19,10 @@
 //                 f(&mut row[at], x, ..)            lends-at: its answer is returned
 //                 .. row[at] ..                     copies-at, of a `&[T]`: a piece that has a copy of the element at hand, as for a call by value
 //
-// crates/registers has obey_board (branches by what is asked) and program_board (by the record), crates/stack sample_stack (by the row), sample_at (a place in a row) and list_at (a place in a row that is only
-// shown), and crates/board sample_board (a look first).
+// No function of this repository is proved so any more: the checker walks them all by itself. What is used are the forms by which a contract is cited
+// (proofs/Form.antt, proofs/Callee.antt), in crates/stack, crates/adomvik and crates/determined.
 //
 // Else it is one of the shapes below, each in proofs/NAME.antt, statement for statement, and is proved by a file that fills in the records Shape and Knows of its theorem and cites `meets`.
-// crates/board, crates/stack, crates/held and crates/session have functions of these shapes with that file, and proofs/Known.antt with what is to be known of the crate's own types.
 //
 // T is a declared struct of plain fields. X, N, K, S, Y, Z, B and O are plain: a number, a bool, a declared struct or enum of such, an array of such. E and G are what a
 // slice can hold, and where they fill a local array they are plain too. Names of locals, fields and functions are free; statements, their order and the order of

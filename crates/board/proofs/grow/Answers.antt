@@ -7,4 +7,4 @@ pub returns : goal.returns
 unfolding grown_of garden_with
 returns c =
     let a = c.args in
-    rw (c.status_by.ensures, c.number_next-samples.ensures, c.last_by-last.ensures, c.tallies_next-tallies.ensures, c.risen-up.ensures, c.byte_of-latched.ensures, c.grow-grown.ensures, c.latches_of-old.ensures, latches-kept (grown_latches (grown_by a.b a.x a.span a.mv.now)))
+    rw (c.status.ensures, c.number_next.ensures, c.last_by-next.ensures, c.tallies_next-next.ensures, c.risen-up.ensures, c.byte_of.ensures, c.grow-grown.ensures, c.latches_of-old.ensures, latches-kept (grown_latches (grown_by a.b a.x a.span a.mv.now)))

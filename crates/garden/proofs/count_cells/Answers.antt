@@ -8,17 +8,15 @@ use Rattle.garden.proofs.count_cells.Goals as goal
 pub loop-i-init : goal.loop-i-init
 loop-i-init c =
     let a = c.args in
-    let long : length a.cells ≡ 10 = search rules in
-    rw c.cell_count-i.ensures (omega arith, long, none-counted a.d a.cells a.mv.now a.ov_none a.uv_none (cell_count a.mv.now))
+    rw c.cell_count-i.ensures (none-counted a.d a.cells a.mv.now a.ov_none a.uv_none (cell_count a.mv.now))
 
 pub loop-i-preserved : goal.loop-i-preserved
 loop-i-preserved c =
     let h = c.loop-i in
-    let a = c.args in (
-      search rules,
-      h.invariant.1,
-      rw (c.count_or_none-uv.ensures, c.count_or_none-ov.ensures) (one-counted a.d a.cells a.mv.now a.ov_none a.uv_none (cell_count a.mv.now) h.i h.next (search rules) (search rules) (omega (arith, h.invariant.1)) h.invariant.2),
-    )
+    let a = c.args in
+    let long : length a.cells ≡ 10 = search rules in
+    rw (c.count_or_none-uv.ensures, c.count_or_none-ov.ensures)
+    (one-counted a.d a.cells a.mv.now a.ov_none a.uv_none (cell_count a.mv.now) h.i h.next c.loop-i-test.true (rw c.cell_count-i.ensures at h.auto.i) (omega (arith, long)) h.invariant)
 
 pub returns : goal.returns
 unfolding cells_after
@@ -27,4 +25,4 @@ returns c =
     let n = cell_count c.args.mv.now in
     let z : h.i ≡ 0 = omega (arith, c.loop-i-test.false) in
     let all : n - 0 ≡ n = omega arith in
-    h.invariant.2 ∙ rw (z, all)
+    h.invariant ∙ rw (z, all)

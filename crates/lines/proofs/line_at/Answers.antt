@@ -19,7 +19,7 @@ loop-rules-init c =
     let a = c.args in
     let rules = c.rules_of-rules.ensures in
     let limits = row-limits c.kind_of-kind.result in
-    (rw rules limits.0, rw rules limits.1, omega arith, omega arith, end_on a.s.now a.start c.byte_at-first.ensures c.if-first-eq10.false, rw (rules, c.no_numbers-numbers.ensures, c.kind_of-kind.ensures) (words-start a.s.now a.start c.byte_at-first.ensures c.if-first-eq10.false), rw c.no_numbers-numbers.ensures refl)
+    (rw rules limits.0, rw rules limits.1, omega arith, omega arith, end_on a.s.now a.start c.byte_at-first.ensures c.if-first-eq10.false, rw (rules, c.kind_of-kind.ensures) (words-start a.s.now a.start c.byte_at-first.ensures c.if-first-eq10.false), refl)
 
 pub returns-then-b-n : goal.returns-then-b-n
 returns-then-b-n c =
@@ -41,30 +41,30 @@ returns-then-rules-n c =
     rw (c.malformed_from-then-rules-n.ensures, h.invariant.4)
     (sym (found-malformed a.s.now a.start (h.invariant.5 ∙ after-full _ _ _ _ _ _ h.at c.byte_at-b.ensures c.if-b-ne32.false c.if-rules-n.true)))
 
-pub returns-in-Bad : goal.returns-in-Bad
+pub returns-in_default : goal.returns-in_default
 unfolding on_field
-returns-in-Bad c =
+returns-in_default c =
     let h = c.loop-rules in
     let a = c.args in
-    rw (c.malformed_from-in-Bad.ensures, h.invariant.4)
-    (sym (found-malformed a.s.now a.start (h.invariant.5 ∙ rw (after-space _ _ _ _ _ _ h.at c.byte_at-b.ensures c.if-b-ne32.false, ← c.field_at.ensures, c.in-Bad.is))))
+    rw (c.malformed_from-in_default.ensures, h.invariant.4)
+    (sym (found-malformed a.s.now a.start (h.invariant.5 ∙ rw (after-space _ _ _ _ _ _ h.at c.byte_at-b.ensures c.if-b-ne32.false, ← c.field_at.ensures, c.in_default.is))))
 
 -- a field was read behind a space, and lies in the line
 pub loop-rules-smaller : goal.loop-rules-smaller
 loop-rules-smaller c =
     let h = c.loop-rules in
     let a = c.args in
-    omega (arith, byte-within a.s.now h.at c.byte_at-b.ensures (λ e. omega (arith, c.if-b-ne32.false)), (field_past _ _ _ _ (rw c.field_at.ensures at c.in-Good.is)).0)
+    omega (arith, byte-within a.s.now h.at c.byte_at-b.ensures (λ e. omega (arith, c.if-b-ne32.false)), (field_past _ _ _ _ (rw c.field_at.ensures at c.in-Some.is)).0)
 
 pub loop-rules-preserved : goal.loop-rules-preserved
 loop-rules-preserved c =
     let h = c.loop-rules in
     let a = c.args in
-    let past = field_past _ _ _ _ (rw c.field_at.ensures at c.in-Good.is) in
+    let past = field_past _ _ _ _ (rw c.field_at.ensures at c.in-Some.is) in
     let long = h.invariant.6 in
-    let stored : c.if-n-lt21.numbers ≡ set h.numbers h.n c.in-Good.size =
+    let stored : c.if-n-lt21.numbers ≡ set h.numbers h.n c.in-Some.number.size =
     elim c.if-n-lt21.branch [
       | then-n-lt21 w ↦ w.numbers-is
       | else-n-lt21 w ↦ w.numbers-is ∙ sym (set_past h.numbers h.n _ (omega (arith, long, w.if-n-lt21.false)))
     ] in
-    (h.invariant.0, h.invariant.1, omega arith, omega (arith, past.0, h.invariant.3), past.1 ∙ end_on a.s.now h.at c.byte_at-b.ensures (λ e. omega (arith, c.if-b-ne32.false)) ∙ h.invariant.4, h.invariant.5 ∙ after-field _ _ _ _ _ _ h.at c.byte_at-b.ensures c.if-b-ne32.false c.field_at.ensures c.in-Good.is stored, rw (stored, length-set) long)
+    (h.invariant.0, h.invariant.1, omega arith, omega (arith, past.0, h.invariant.3), past.1 ∙ end_on a.s.now h.at c.byte_at-b.ensures (λ e. omega (arith, c.if-b-ne32.false)) ∙ h.invariant.4, h.invariant.5 ∙ after-field _ _ _ _ _ _ h.at c.byte_at-b.ensures c.if-b-ne32.false c.field_at.ensures c.in-Some.is stored, rw (stored, length-set) long)

@@ -14,12 +14,12 @@ returns-then-first-eq48 c =
     let a = c.args in
     rw (number-nought _ _ a.s.now a.at c.byte_at-first.ensures c.if-first-eq48.true, c.if-minus.false)
 
-pub returns-then-is_digit : goal.returns-then-is_digit
-returns-then-is_digit c =
+pub returns-then-is_ascii_digit : goal.returns-then-is_ascii_digit
+returns-then-is_ascii_digit c =
     let a = c.args in
-    c.digits_from.ensures ∙ sym (number_more _ _ a.s.now a.at c.byte_at-first.ensures (sym c.is_digit.ensures ∙ c.if-is_digit.true) c.if-first-eq48.false)
+    (rw c.from.ensures at c.digits_from.ensures) ∙ sym (number_more _ _ a.s.now a.at c.byte_at-first.ensures (sym c.is_ascii_digit.ensures.value ∙ c.if-is_ascii_digit.true) c.if-first-eq48.false)
 
 pub returns : goal.returns
 returns c =
     let a = c.args in
-    sym (number-none _ _ a.s.now a.at c.byte_at-first.ensures (sym c.is_digit.ensures ∙ c.if-is_digit.false))
+    sym (number-none _ _ a.s.now a.at c.byte_at-first.ensures (sym c.is_ascii_digit.ensures.value ∙ c.if-is_ascii_digit.false))

@@ -1,9 +1,7 @@
--- `put_bytes`: the bytes of s before i are stored, and one more.
+-- `put_bytes`: the part of the buffer from at on is a copy of s.
 -- Assumes nothing.
-use Rattle.std.proofs.Common.{arith, rules}
-use Rattle.puts.proofs.Puts.{sets-turn}
+use Rattle.puts.proofs.Puts.{put-part}
 use Rattle.puts.proofs.put_bytes.Goals as goal
 
-pub loop-i-preserved : goal.loop-i-preserved
-loop-i-preserved c =
-    (omega arith, search rules, sets-turn _ c.args.s.now _ _ c.loop-i.i c.loop-i.invariant.2 c.loop-i-test.true)
+pub returns : goal.returns
+returns c = put-part c.args.at c.args.s.now c.args.out.now c.copy_from_slice.new.self c.copy_from_slice.ensures.after c.requires

@@ -1,26 +1,30 @@
 -- `acts_step`: act by act, until one is refused.
 -- Assumes nothing.
-use Rattle.std.proofs.Common.{◌∙◌, arith}
+use Rattle.std.proofs.Common.{◌≡◌, ◌∙◌, drop, arith}
+use Rattle.std.proofs.lemmas.Result.{err_from_is_err_and}
+use Rattle.reader.specs.Reader.{stop, acts_step}
 use Rattle.reader.proofs.Many.{acts-over, acts-more, acts-ends, acts-next}
 use Rattle.reader.proofs.acts_step.Goals as goal
 
-pub returns-then-next-ne0 : goal.returns-then-next-ne0
-returns-then-next-ne0 c =
-    let h = c.loop-i in
-    acts-ends c.args.bytes.now c.args.acts h.i h.at c.loop-i-test.true c.act_step-next.result c.act_step-next.ensures c.if-next-ne0.true ∙ h.invariant.2
+pub returns-in_err-at : goal.returns-in_err-at
+returns-in_err-at c =
+    let h = c.loop in
+    let p = err_from_is_err_and c.from_residual.result c.from_residual.ensures.1 in
+    rw (p.1, p.2) (acts-ends c.args.bytes.now c.args.acts h.counter h.at c.loop-test.true _ c.in_err-at.ensures ∙ h.invariant.1)
 
-pub loop-i-preserved : goal.loop-i-preserved
-loop-i-preserved c =
-    let h = c.loop-i in
-    let next = acts-next c.args.bytes.now c.args.acts h.i h.at c.loop-i-test.true c.act_step-next.result c.act_step-next.ensures c.if-next-ne0.false h.invariant.1 in
-    (omega (arith, c.loop-i-test.true), next.0, next.1 ∙ h.invariant.2)
+pub loop-preserved : goal.loop-preserved
+loop-preserved c =
+    let h = c.loop in
+    let next = acts-next c.args.bytes.now c.args.acts h.counter h.at c.loop-test.true _ c.in_ok-at.ensures h.invariant.0 in
+    (next.0, next.1 ∙ h.invariant.1)
 
 pub returns-then-at-bytes : goal.returns-then-at-bytes
 returns-then-at-bytes c =
-    let h = c.loop-i in
-    acts-more c.args.bytes.now c.args.acts h.i h.at c.stop_at.result (omega (arith, c.loop-i-test.false)) c.stop_at.ensures c.if-at-bytes.true ∙ h.invariant.2
+    let h = c.loop in
+    let told : stop 19 h.at ≡ acts_step c.args.acts c.args.from (drop c.args.from c.args.bytes.now) = acts-more c.args.bytes.now c.args.acts h.counter h.at c.loop-test.false c.if-at-bytes.true ∙ h.invariant.1 in
+    grind arith
 
 pub returns : goal.returns
 returns c =
-    let h = c.loop-i in
-    acts-over c.args.bytes.now c.args.acts h.i h.at c.stop_at-2.result (omega (arith, c.loop-i-test.false)) c.stop_at-2.ensures (omega (arith, c.if-at-bytes.false)) ∙ h.invariant.2
+    let h = c.loop in
+    acts-over c.args.bytes.now c.args.acts h.counter h.at c.loop-test.false c.if-at-bytes.false ∙ h.invariant.1

@@ -4,9 +4,5 @@ use Rattle.std.proofs.Common.{◌≡◌, ◌-◌, ◌≤◌, length, drop}
 use Rattle.reader.specs.Reader.{acts_step}
 use Rattle.reader.proofs.acts_step.Given as goal
 
-abbrev pub invariant-loop-i : goal.invariant-loop-i
-invariant-loop-i l =
-    (l.i ≤ l.acts) × (l.at ≤ length l.bytes) × (acts_step (l.acts - l.i) l.at (drop l.at l.bytes) ≡ acts_step l.acts l.from (drop l.from l.bytes))
-
-abbrev pub decreases-loop-i : goal.decreases-loop-i
-decreases-loop-i l = l.acts - l.i
+abbrev pub invariant-loop : goal.invariant-loop
+invariant-loop l = (l.at ≤ length l.bytes) × (acts_step (l.acts - l.counter) l.at (drop l.at l.bytes) ≡ acts_step l.acts l.from (drop l.from l.bytes))

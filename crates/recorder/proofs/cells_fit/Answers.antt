@@ -1,10 +1,11 @@
-use Rattle.std.proofs.Common.{arith, rules}
-use Rattle.lists.proofs.Every.{every-turn, every-done}
+use Rattle.std.proofs.Common.{◌∙◌, rules, tests}
+use Rattle.std.proofs.lemmas.Iterator.{YieldsList-from_slice}
+use Rattle.std.proofs.lemmas.Iterator.Search.{all_from_yields_List}
 use Rattle.format.specs.Format.{fits}
+use Rattle.lists.proofs.Every.{every-all}
 use Rattle.recorder.proofs.cells_fit.Goals as goal
 
-pub loop-i-preserved : goal.loop-i-preserved
-loop-i-preserved c = (search rules, every-turn (fits 2) c.args.cells.now c.loop-i.i 0 c.loop-i.fit c.loop-i.invariant.1 (omega arith))
-
 pub returns : goal.returns
-returns c = every-done (fits 2) c.args.cells.now c.loop-i.i c.loop-i.fit c.loop-i.invariant.1 (omega arith)
+returns c =
+    let cells = c.args.cells.now in
+    all_from_yields_List (fits 2) _ _ _ c.all.ensures.ran (YieldsList-from_slice cells cc) (λ x b q k. search (rules, tests)) ∙ every-all (fits 2) cells

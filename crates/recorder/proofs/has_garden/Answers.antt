@@ -1,9 +1,12 @@
-use Rattle.std.proofs.Common.{◌/◌, ◌%◌, not, eqb, ap, arith, rules}
-use Rattle.lists.proofs.Every.{every-turn, every-done}
+use Rattle.std.proofs.Common.{ℕ, Bool, ◌/◌, ◌%◌, eqb, ◌∙◌, rules, tests}
+use Rattle.std.proofs.lemmas.Iterator.{YieldsList-from_slice}
+use Rattle.std.proofs.lemmas.Iterator.Search.{any_from_yields_List}
+use Rattle.board.specs.Plan.{is_garden, plan_of}
+use Rattle.lists.proofs.Every.{every-any}
 use Rattle.recorder.proofs.has_garden.Goals as goal
 
-pub loop-i-preserved : goal.loop-i-preserved
-loop-i-preserved c = (search rules, every-turn (λ plan. not (eqb (plan / 256 % 256) 2)) c.args.plans.now c.loop-i.i 0 c.loop-i.none c.loop-i.invariant.1 (omega arith))
-
 pub returns : goal.returns
-returns c = ap not (every-done (λ plan. not (eqb (plan / 256 % 256) 2)) c.args.plans.now c.loop-i.i c.loop-i.none c.loop-i.invariant.1 (omega arith))
+returns c =
+    let plans = c.args.plans.now in
+    let garden : ℕ → Bool = λ plan. is_garden (plan_of plan).kind in
+    any_from_yields_List garden _ _ _ c.any.ensures.ran (YieldsList-from_slice plans cc) (λ x b q k. search (rules, tests)) ∙ every-any garden plans

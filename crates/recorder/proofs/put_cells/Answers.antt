@@ -1,25 +1,25 @@
-use Rattle.std.proofs.Common.{◌^◌, refl, ◌∙◌, get_or, arith, rules}
+use Rattle.std.proofs.Common.{◌^◌, get_or, arith}
 use borrow.Author.Tests.{ltb-true}
 use Rattle.lists.proofs.Every.{every-at}
-use Rattle.puts.proofs.Puts.{put_same}
 use Rattle.format.specs.Format.{little, fits}
-use Rattle.recorder.proofs.Pieces.{put-none, piece-turn, piece-all}
+use Rattle.format.proofs.Sizes.{little-length}
+use Rattle.recorder.proofs.Numbers.{little-two}
+use Rattle.recorder.proofs.Pieces.{piece-turn, piece-all}
 use Rattle.recorder.proofs.put_cells.Goals as goal
 
-pub loop-i-init : goal.loop-i-init
-loop-i-init c = (search rules, refl, search rules, put-none)
-
-pub overflow_cast-cells : goal.overflow_cast-cells
-overflow_cast-cells c =
-    let fit = ltb-true (get_or c.args.cells.now c.loop-i.i 0) (256 ^ 2) (every-at (fits 2) c.args.cells.now c.loop-i.i 0 c.requires.1 c.loop-i-test.true) in
+pub overflow_cast-mv : goal.overflow_cast-mv
+overflow_cast-mv c =
+    let cells = c.args.cells.now in
+    let fit = ltb-true (get_or cells c.loop-mv.mv-index 0) (256 ^ 2) (every-at (fits 2) cells c.loop-mv.mv-index 0 c.requires.1 c.loop-mv-test.true) in
     record { fits = omega (arith, fit) }
 
-pub loop-i-preserved : goal.loop-i-preserved
-loop-i-preserved c =
-    let put = c.put_two-next.ensures in
-    let h = c.loop-i in
-    let more = c.loop-i-test.true in
-    (omega (arith, more), put_same put.put ∙ h.invariant.1, omega (arith, put.value, h.invariant.2), piece-turn (little 2) c.args.cells.now h.i more h.invariant.3 put.put)
+pub loop-mv-preserved : goal.loop-mv-preserved
+loop-mv-preserved c =
+    let h = c.loop-mv in
+    let cells = c.args.cells.now in
+    let put = rw (c.to_le_bytes.ensures, little-two) at c.put_bytes-next.ensures in
+    let two = little-length 2 (get_or cells h.mv-index 0) in
+    (omega (arith, put.after, two, h.invariant.0), piece-turn (little 2) cells h.mv-index c.loop-mv-test.true h.invariant.1 put)
 
 pub returns-clause-put : goal.returns-clause-put
-returns-clause-put c = piece-all (little 2) c.args.cells.now c.loop-i.i c.loop-i-test.false c.loop-i.invariant.3
+returns-clause-put c = piece-all (little 2) c.args.cells.now c.loop-mv.mv-index c.loop-mv-test.false c.loop-mv.invariant.1

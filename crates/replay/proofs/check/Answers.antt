@@ -1,27 +1,38 @@
--- The bytes are read whole, then the run is made, and what it ended with is told.
-use Rattle.std.proofs.Common.{◌≡◌, ◌∙◌, ap, sym, length, true, false}
-use Rattle.reader.specs.declared.Read.{Read}
-use Rattle.reader.specs.Reader.{read_of}
-use Rattle.replay.specs.declared.Pace.{Pace}
-use Rattle.replay.specs.Way.{cannot, refused_check, start_of, checked_by, ran_state, ran_row}
-use Rattle.replay.proofs.Checks.{unchecked, ran}
+-- The bytes are read whole, then the boards opened and the acts done again.
+-- Assumes nothing.
+use Rattle.std.proofs.Common.{◌∙◌, ◌+◌, ◌*◌, ap, drop, arith}
+use Rattle.format.specs.Read.{acts_from}
+use Rattle.replay.specs.Check.{wrong_after, row_after, checked}
+use Rattle.replay.proofs.Checks.{not-read, count-few, not-fit, acts-inside, acts-whole, not-refused, told}
 use Rattle.replay.proofs.check.Goals as goal
 
-pub returns-then-cannot_check : goal.returns-then-cannot_check
-returns-then-cannot_check c =
-    let row = c.args.row.now in
-    let bytes = c.args.bytes.now in
-    let read : c.read_back-r.result ≡ read_of bytes = c.read_back-r.ensures in
-    let so : cannot (read_of bytes) (length row) ≡ true = ap (λ (r : Read). cannot r (length row)) (sym read) ∙ sym c.cannot_check.ensures ∙ c.if-cannot_check.true in
-    let told = unchecked row bytes so in
-    (c.refused_check.ensures ∙ ap refused_check read ∙ told.0, told.1)
+pub overflow_cast-result : goal.overflow_cast-result
+overflow_cast-result c = omega (arith, count-few c.args.row.now c.args.bytes.now c.in-Ok.counts c.in-Ok.ensures)
 
-pub returns : goal.returns
-returns c =
-    let row = c.args.row.now in
-    let bytes = c.args.bytes.now in
-    let read : c.read_back-r.result ≡ read_of bytes = c.read_back-r.ensures in
-    let so : cannot (read_of bytes) (length row) ≡ false = ap (λ (r : Read). cannot r (length row)) (sym read) ∙ sym c.cannot_check.ensures ∙ c.if-cannot_check.false in
-    let first : c.start-p.result ≡ start_of (read_of bytes) = c.start-p.ensures ∙ ap start_of read in
-    let told = ran row bytes so in
-    (c.checked_by.ensures ∙ ap checked_by (c.run-end.ensures.0 ∙ ap (λ (p : Pace). ran_state row p bytes) first) ∙ told.0, c.run-end.ensures.1 ∙ ap (λ (p : Pace). ran_row row p bytes) first ∙ told.1)
+pub open_boards-requires : goal.open_boards-requires
+open_boards-requires c =
+    let fits = c.if-counts-row.false in (
+      omega (arith, fits, acts-inside c.args.row.now c.args.bytes.now c.in-Ok.counts c.in-Ok.ensures fits),
+      omega (arith, fits, count-few c.args.row.now c.args.bytes.now c.in-Ok.counts c.in-Ok.ensures),
+      not-refused c.args.row.now c.args.bytes.now c.in-Ok.counts c.in-Ok.ensures fits,
+    )
+
+pub first_wrong-requires : goal.first_wrong-requires
+first_wrong-requires c =
+    let fits = c.if-counts-row.false in
+    (acts-inside c.args.row.now c.args.bytes.now c.in-Ok.counts c.in-Ok.ensures fits, acts-whole c.args.row.now c.args.bytes.now c.in-Ok.counts c.in-Ok.ensures fits)
+
+pub returns-in-Err : goal.returns-in-Err
+returns-in-Err c = rw (c.hold.ensures, c.from.ensures) (not-read c.args.row.now c.args.bytes.now c.in-Err.stop c.in-Err.ensures)
+
+pub returns-in-Ok : goal.returns-in-Ok
+returns-in-Ok c = not-fit c.args.row.now c.args.bytes.now c.in-Ok.counts c.in-Ok.ensures c.if-counts-row.true
+
+pub returns-in-Ok-2 : goal.returns-in-Ok-2
+returns-in-Ok-2 c =
+    let counts = c.in-Ok.counts in
+    let acts = acts_from counts.acts (drop (8 + 2 * counts.boards) c.args.bytes.now) in
+    let so = told c.args.row.now c.args.bytes.now counts c.in-Ok.ensures c.if-counts-row.false in (
+      ap (λ place. checked place 0) (c.unwrap_or.ensures ∙ c.first_wrong.ensures.0 ∙ ap (λ row. wrong_after 0 row acts) c.open_boards.ensures) ∙ so.0,
+      c.first_wrong.ensures.1 ∙ ap (λ row. row_after row acts) c.open_boards.ensures ∙ so.1,
+    )

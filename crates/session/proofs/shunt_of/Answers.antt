@@ -9,13 +9,13 @@ use Rattle.session.proofs.shunt_of.Goals as goal
 pub returns-then-minus : goal.returns-then-minus
 unfolding shunt_of
 returns-then-minus c =
-    let n = c.size_of-top.result in
-    let small = c.size_of-top.ensures in
+    let n = c.min-size.result in
+    let small = c.min-size.ensures in
     rw (c.if-minus.true, size_is n (omega arith), to_z-of_z (minus-fits n (omega arith)), small)
 
 pub returns-else-minus : goal.returns-else-minus
 unfolding shunt_of
 returns-else-minus c =
-    let n = c.size_of-top.result in
-    let small = c.size_of-top.ensures in
+    let n = c.min-size.result in
+    let small = c.min-size.ensures in
     rw (c.if-minus.false, size_is n (omega arith), small)

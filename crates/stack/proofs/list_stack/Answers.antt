@@ -1,13 +1,33 @@
-use Rattle.std.proofs.Common.{sym, ◌∙◌}
-use Rattle.stack.proofs.Ways.{list-good, list-bad}
+use Rattle.std.proofs.Common.{◌∙◌, sym, ap, Err}
+use Rattle.std.proofs.lemmas.Result.{err_from_is_err_and}
+use Rattle.std.proofs.lemmas.List.{get_or_default}
+use Rattle.board.specs.Sample.{fresh}
+use Rattle.stack.specs.Way.{listing_in, buffer_in, list_answer_at, list_buffer_at}
+use Rattle.stack.proofs.Ways.{checked-good, checked-bad, place-found, place-none, list-good, list-bad}
 use Rattle.stack.proofs.list_stack.Goals as goal
 
-pub returns-then-good_row : goal.returns-then-good_row
-returns-then-good_row c =
-    let told = list-good c.args.row.now (sym c.good_row.ensures ∙ c.if-good_row.true) c.args.board c.args.out.now in
-    (c.list_at.ensures.0 ∙ told.0, c.list_at.ensures.1 ∙ told.1)
+pub returns-in_err-check_row : goal.returns-in_err-check_row
+returns-in_err-check_row c =
+    let a = c.args in
+    let p = err_from_is_err_and c.from_residual.result c.from_residual.ensures.1 in
+    let bad = checked-bad a.row.now _ (sym c.check_row.ensures ∙ c.in_err-check_row.was) in
+    let told = list-bad a.row.now a.board a.out.now bad.0 in
+    (p.1 ∙ ap Err (p.2 ∙ sym bad.1) ∙ told.0, told.1)
+
+pub returns-in_err-at : goal.returns-in_err-at
+unfolding list_answer_at list_buffer_at
+returns-in_err-at c =
+    let a = c.args in
+    let p = err_from_is_err_and c.from_residual-in_err-at.result c.from_residual-in_err-at.ensures.1 in
+    let none = place-none a.row.now a.board _ (sym c.place_in.ensures.value ∙ c.in_err-at.was) in
+    let told = list-good a.row.now (checked-good a.row.now (sym c.check_row.ensures ∙ c.in_ok-check_row.was)) a.board a.out.now in
+    (p.1 ∙ ap Err (p.2 ∙ sym none.1) ∙ (rw none.0 at told.0), rw none.0 at told.1)
 
 pub returns : goal.returns
+unfolding list_answer_at list_buffer_at
 returns c =
-    let told = list-bad c.args.row.now c.args.board c.args.out.now (sym c.good_row.ensures ∙ c.if-good_row.false) in
-    (c.no_row_listing.ensures ∙ told.0, told.1)
+    let a = c.args in
+    let found = place-found a.row.now a.board _ (sym c.place_in.ensures.value ∙ c.in_ok-at.was) in
+    let told = list-good a.row.now (checked-good a.row.now (sym c.check_row.ensures ∙ c.in_ok-check_row.was)) a.board a.out.now in
+    let there = get_or_default a.row.now c.in_ok-at.at _ (fresh 0) c.in_ok-at.ensures.inside in
+    (c.list_board.ensures.0 ∙ ap (λ b. listing_in b a.out.now) there ∙ (rw (found.0, found.1) at told.0), c.list_board.ensures.1 ∙ ap (λ b. buffer_in b a.out.now) there ∙ (rw (found.0, found.1) at told.1))

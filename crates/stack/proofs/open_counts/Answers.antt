@@ -9,6 +9,4 @@ returns-then-plain_counts c =
     (c.open_row.ensures.0 ∙ told.0, c.open_row.ensures.1 ∙ told.1)
 
 pub returns : goal.returns
-returns c =
-    let told = opens-none c.args.row.now c.args.counts.now (sym c.plain_counts.ensures ∙ c.if-plain_counts.false) in
-    (c.no_opening.ensures ∙ told.0, told.1)
+returns c = opens-none c.args.row.now c.args.counts.now (sym c.plain_counts.ensures ∙ c.if-plain_counts.false)

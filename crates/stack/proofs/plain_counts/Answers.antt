@@ -1,11 +1,10 @@
-use Rattle.std.proofs.Common.{rules, arith, ltb}
-use Rattle.lists.proofs.Every.{every-turn, every-done}
+use Rattle.std.proofs.Common.{◌∙◌, rules, tests, ltb}
+use Rattle.std.proofs.lemmas.Iterator.{YieldsList-from_slice}
+use Rattle.std.proofs.lemmas.Iterator.Search.{all_from_yields_List}
+use Rattle.lists.proofs.Every.{every-all}
 use Rattle.stack.proofs.plain_counts.Goals as goal
 
-pub loop-i-preserved : goal.loop-i-preserved
-loop-i-preserved c =
-    let i = c.loop-i in
-    (search rules, every-turn (λ count. ltb count 256) c.args.counts.now i.i 0 i.plain i.invariant.1 (omega arith))
-
 pub returns : goal.returns
-returns c = every-done (λ count. ltb count 256) c.args.counts.now c.loop-i.i c.loop-i.plain c.loop-i.invariant.1 (omega arith)
+returns c =
+    let counts = c.args.counts.now in
+    all_from_yields_List (λ count. ltb count 256) _ _ _ c.all.ensures.ran (YieldsList-from_slice counts cc) (λ x b q k. search (rules, tests)) ∙ every-all (λ count. ltb count 256) counts

@@ -1,9 +1,0 @@
--- `emptied`: it keeps nothing.
--- Assumes nothing.
-use Rattle.std.proofs.Common.{refl}
-use Rattle.lines.specs.Way.{emptied_of}
-use Rattle.lines.proofs.emptied.Goals as goal
-
-pub returns : goal.returns
-unfolding emptied_of
-returns c = refl

@@ -1,9 +1,0 @@
--- `put_status`: two fields.
--- Assumes nothing.
-use Rattle.puts.proofs.Puts.{put_then}
-use Rattle.text.specs.Text.{words_of}
-use Rattle.text.proofs.put_status.Goals as goal
-
-pub returns-clause-put : goal.returns-clause-put
-unfolding words_of
-returns-clause-put c = put_then c.put_field-status_end.ensures.put c.put_field.ensures.put
