@@ -22,10 +22,6 @@ put-part at text old part e h =
     let behind = Post-is at (at + length text) old (omega arith) in
     record { after = refl; whole = rw (e, behind, ← append_assoc) (sym (sets-eq text old at h)) }
 
--- one byte
-pub put_one : {at : ℕ} {old : List ℕ} (b : ℕ) → Put at (b ∷ []) old (set old at b) (at + 1)
-put_one b = record { after = refl; whole = refl }
-
 -- one text and then another
 pub put_then : {at m r : ℕ} {a b old mid new : List ℕ} → Put at a old mid m → Put m b mid new r → Put at (a ++ b) old new r
 put_then {at} {m} {r} {a} {b} {old} p q =

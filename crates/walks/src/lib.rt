@@ -1,8 +1,10 @@
-// Theorems on thin routines over lent records. The crate has no function of its own.
+// Theorems on thin routines over lent records, by which README.md names the crate. It has no function of its own.
 //
-// The prover writes the walk of a function over lent records by itself. Where a function is to be proved by a theorem on its shape, write it with every decision in a function by value, in one of two ways.
+// The checker walks every function of this repository by itself, and none is proved by a theorem on its shape any more. What is used are the forms by which
+// whole contracts are cited (proofs/Form.antt, proofs/Callee.antt), in crates/stack, crates/adomvik and crates/determined. The theorems are on functions with
+// every decision in a function by value, in one of two ways.
 //
-// Where it looks, branches, and ends with a call, it is put together of pieces, for any list of parameters: by value, `&[T]`, `&mut [T]` and `&mut T`. Its file names the form
+// Where such a function looks, branches, and ends with a call, it is put together of pieces, for any list of parameters: by value, `&[T]`, `&mut [T]` and `&mut T`. Its file names the form
 // of the function and writes the body as a term; the locals and the code are read off that term (proofs/Pieces.antt, proofs/Rows.antt and, for the arguments of a call, proofs/Hands.antt).
 //
 // looks           f()    f(x)    f(x, cells)        nothing, asks-of, asks: a function by value, with slices shown. f: r ≡ F x cells
@@ -18,9 +20,6 @@
 //                 let at = look; if at < row.len() { piece } piece        at-place, of a `&mut [T]` that is the first parameter; at-shown, of a `&[T]`
 //                 f(&mut row[at], x, ..)            lends-at: its answer is returned
 //                 .. row[at] ..                     copies-at, of a `&[T]`: a piece that has a copy of the element at hand, as for a call by value
-//
-// No function of this repository is proved so any more: the checker walks them all by itself. What is used are the forms by which a contract is cited
-// (proofs/Form.antt, proofs/Callee.antt), in crates/stack, crates/adomvik and crates/determined.
 //
 // Else it is one of the shapes below, each in proofs/NAME.antt, statement for statement, and is proved by a file that fills in the records Shape and Knows of its theorem and cites `meets`.
 //
