@@ -11,6 +11,8 @@ use lib.Bits.{bit_and, bit_or}
 use lib.Dec.{eqb, ltb}
 use mir.Syntax.{w16}
 use Rattle.std.specs.Int.{bit_at}
+use Rattle.std.specs.Option.{MatchOption}
+use Rattle.std.specs.Prelude.{Option, Some, None}
 use Rattle.std.proofs.lemmas.Nat.Bits.{bit_at_and, bit_at_not, bit_at_xor, bit_at-lt, bit_at_above, same_from_bits}
 use Rattle.lists.proofs.Split.{split}
 use Rattle.lists.specs.Marks.{number, marked, marks, lowest}
@@ -94,14 +96,14 @@ lowest-down f i n low p q e =
     rw (each-down f i n p q, e, back)
 
 -- cells past the last are in no set, so they do not count
-lowest-nothing : (f : ℕ → Bool) (low i n : ℕ) → ((k : ℕ) → i ≤ k → f k ≡ false) → lowest low (each i n f) ≡ 0
+lowest-nothing : (f : ℕ → Bool) (low i n : ℕ) → ((k : ℕ) → i ≤ k → k < i + n → f k ≡ false) → lowest low (each i n f) ≡ 0
 unfolding lowest each
 lowest-nothing f low i zero none = refl
-lowest-nothing f low i (suc n) none = rw (none i (omega arith)) (lowest-nothing f (low + 1) (suc i) n (λ k l. none k (omega arith)))
+lowest-nothing f low i (suc n) none = rw (none i (omega arith) (omega arith)) (lowest-nothing f (low + 1) (suc i) n (λ k l m. none k (omega arith) (omega arith)))
 
 lowest-before : (f g : ℕ → Bool) (low i n m : ℕ) → ((k : ℕ) → k < i + n → f k ≡ g k) → ((k : ℕ) → i + n ≤ k → f k ≡ false) → lowest low (each i (n + m) f) ≡ lowest low (each i n g)
 unfolding lowest each
-lowest-before f g low i zero m same none = let all : zero + m ≡ m = omega arith in rw all (lowest-nothing f low i m (λ k l. none k (omega arith)))
+lowest-before f g low i zero m same none = let all : zero + m ≡ m = omega arith in rw all (lowest-nothing f low i m (λ k l _. none k (omega arith)))
 lowest-before f g low i (suc n) m same none =
     let one : suc n + m ≡ suc (n + m) = omega arith in
     rw (one, same i (omega arith), lowest-before f g (low + 1) (suc i) n m (λ k l. same k (omega arith)) (λ k l. none k (omega arith)))
@@ -112,3 +114,26 @@ lowest_set f n few =
     let ten : n + (10 - n) ≡ 10 = omega arith in
     let small : set < 2 ^ n = rw (each-length f 0 n) at (number-below (each 0 n f)) in
     ap (λ (m : ℕ). lowest 1 (each 0 m (marked set))) (sym ten) ∙ lowest-before (marked set) f 1 0 n (10 - n) (λ k l. set_at f n k (omega arith)) (λ k l. marked-above n set k small (omega arith))
+
+-- ---- the lowest cell of some, found from the lowest up
+lowest-first : (f : ℕ → Bool) (low i n k : ℕ) → i ≤ k → k < i + n → f k ≡ true → ((j : ℕ) → i ≤ j → j < k → f j ≡ false) → lowest low (each i n f) ≡ low + (k - i)
+unfolding lowest each
+lowest-first f low i zero k p q hit misses = omega arith
+lowest-first f low i (suc n) k p q hit misses =
+    split
+    (ltb i k)
+    (λ e.
+    let on : i < k = ltb-true i k e in
+    rw (misses i (omega arith) on, lowest-first f (low + 1) (suc i) n k (omega arith) (omega arith) hit (λ j l m. misses j (omega arith) m)) (omega arith))
+    (λ e.
+    let here : k ≡ i = omega (arith, ltb-false i k e) in
+    let found : f i ≡ true = rw (← here) hit in
+    rw found (omega arith))
+
+-- what a search over the ten places gives
+pub lowest-found : (f : ℕ → Bool) (found : Option ℕ) (low : ℕ)
+    → MatchOption found ((k : ℕ) → 0 ≤ k → k < 10 → f k ≡ false) (λ i. (0 ≤ i) × (i < 10) × (f i ≡ true) × ((k : ℕ) → 0 ≤ k → k < i → f k ≡ false))
+    → MatchOption found (low ≡ 0) (λ i. low ≡ i + 1)
+    → low ≡ lowest 1 (each 0 10 f)
+lowest-found f None low misses is = is ∙ sym (lowest-nothing f 1 0 10 (λ k l m. misses k l (omega arith)))
+lowest-found f (Some i) low first is = is ∙ omega (arith, lowest-first f 1 0 10 i (omega arith) (omega arith) first.2 first.3)

@@ -20,7 +20,7 @@ pub struct Cell {
 }
 
 // What one pass over the cells gives. The flagged and the bled cells and those whose OV or UV run has stood are sets, as numbers. The cells stand
-// beside them, and are not changed in place, as the definition of a sweep is this record.
+// beside them, and are not changed where they lie, since `sweep`, which docs/TRACE.md names, promises that its result is the record of `sweep_of`.
 #[derive(Clone, Copy)]
 pub struct Swept {
     pub cells: [Cell; 10],
@@ -96,7 +96,7 @@ fn bled_of(flags: u16, cells: usize) -> u16
     out
 }
 
-// This place's cell is the lowest so far, where it is one; 0 is none.
+// This place's cell is the lowest so far, where it is one; 0 is none. For cells that are gone through from the highest down, as those of a garden board.
 pub fn lower_to(hit: bool, at: usize, low: u8) -> u8
     requires { at < 10 }
     ensures { result ≡ cond hit (at + 1) low }
@@ -104,16 +104,13 @@ pub fn lower_to(hit: bool, at: usize, low: u8) -> u8
     if hit { at as u8 + 1 } else { low }
 }
 
-// The lowest cell of a set; 0 for none, as an entry of the journal has it. From the highest down, as a garden's counts are gone through: a `find` from the lowest
-// up is plainer, and was tried: what a closure found in a range of ten could not be told to the definition by a short proof.
+// The lowest cell of a set; 0 for none, as an entry of the journal has it.
 pub fn lowest_of(set: u16) -> u8
     ensures { result ≡ lowest_cell set }
 {
-    let mut low = 0;
-    for i in (0..10).rev() {
-        low = lower_to(lists::mark_at(set, i), i, low);
-    }
-    low
+    (0..10)
+        .find(|i| lists::mark_at(set, *i))
+        .map_or(0, |i| i as u8 + 1)
 }
 
 // One pass over the cells, from the highest down. The settings are decoded once, in front of it.

@@ -1,14 +1,12 @@
--- From the highest cell down, the lowest so far.
-use Rattle.std.proofs.Common.{ℕ, Bool, rules}
+-- The first place that the set has gives its lowest cell.
+use Rattle.std.proofs.Common.{◌≡◌, ℕ, Bool, true, false, rules, tests}
+use Rattle.std.proofs.lemmas.Iterator.{first_from_Range}
 use Rattle.lists.specs.Marks.{marked}
-use Rattle.cells.proofs.Sets.{lowest-none, lowest-down}
+use Rattle.cells.proofs.Sets.{lowest-found}
 use Rattle.cells.proofs.lowest_of.Goals as goal
 
-pub loop-i-init : goal.loop-i-init
-loop-i-init c = lowest-none (λ k. marked c.args.set k) 10
-
-pub loop-i-preserved : goal.loop-i-preserved
-loop-i-preserved c =
-    let h = c.loop-i in
-    let f : ℕ → Bool = λ k. marked c.args.set k in
-    rw (c.lower_to-low.ensures, c.mark_at.ensures) (lowest-down f h.i 10 h.low (search rules) (search rules) h.invariant)
+pub returns : goal.returns
+returns c =
+    let has : ℕ → Bool = λ k. marked c.args.set k in
+    let first = first_from_Range _ _ _ c.find.result (λ k. has k ≡ true) (λ k. has k ≡ false) c.find.ensures.ran (λ x q k. search (rules, tests)) (λ x q k. search (rules, tests)) in
+    lowest-found has c.find.result c.map_or.result first (search rules)
