@@ -42,6 +42,7 @@ impl Settings {
         4150 + 50 * (self.r6 as u32 % 8)
     }
 
+    // The hystereses of OV and of UV, each by its own table and register: with these handed in they would be no plainer.
     pub fn ov_hysteresis(self) -> u32
         ensures { result ≡ ov_hysteresis self }
     {
@@ -121,7 +122,7 @@ impl Settings {
         60 * (self.r10 as u32 / 16 % 16)
     }
 
-    // The byte of a register; 0 for a register that is none of the five.
+    // The byte of a register. Its contract gives one for every register, by `byte_of`, which docs/DEMANDS.md names: 0 for one that is none of the five.
     pub fn byte(self, register: u8) -> u8
         ensures { result ≡ byte_of self register }
     {
@@ -151,7 +152,8 @@ impl Settings {
         next
     }
 
-    // Equal by bytes: two codes that mean the same still differ. It is the derived equality, under the name that the contracts of a programming use.
+    // Equal by bytes: two codes that mean the same still differ. It is the derived equality, with a name since the edits `fourth_byte_overlooked` and
+    // `last_byte_overlooked` are refused at it; a derived one overlooks no byte.
     pub fn same(self, other: Settings) -> bool
         ensures { result ≡ same self other }
     {
