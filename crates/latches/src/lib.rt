@@ -16,7 +16,7 @@ pub struct Latches {
     pub ot: bool,
 }
 
-// The five low bits of register 0, by arithmetic, as no derive makes them.
+// The five low bits of register 0 as latches, and back by `byte_of`: docs/TRACE.md names both functions, and a From beside them would be a second way.
 pub fn latches_of(byte: u8) -> Latches
     ensures { result ≡ latches_of byte }
 {
@@ -49,7 +49,7 @@ pub fn dsg_on(may: bool, byte: u8) -> bool
     may & ((byte & 27) == 0)
 }
 
-// The five latches as the low bits of register 0; by arithmetic, since five bits of a byte are no conversion that a derive makes.
+// The five latches as the low bits of register 0.
 pub fn byte_of(t: Latches) -> u8
     ensures { result ≡ latches_byte t }
 {
