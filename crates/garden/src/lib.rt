@@ -79,6 +79,7 @@ struct Reached {
     uv: u8,
 }
 
+// The device, the cells and the readings stand apart here and below, as in the definitions: a struct of the three would hold a borrow, for two calls.
 fn reached_of(d: Device, trigger: u8, cells: [Cell; 10], mv: &[u32]) -> Reached
     ensures { result ≡ reached_by d trigger cells mv.now }
 {
@@ -127,8 +128,8 @@ fn filter(trigger: u8, was: bool, back: u8, inside: bool, reached: u8) -> Option
     }
 }
 
-// A garden board after a sample: its cells' counts, its own part, its latches, and the lowest cells that reach the trigger, or 0. The definition
-// of a sample is this record, so the cells stand in it and are not changed in place.
+// A garden board after a sample: its cells' counts, its own part, its latches, and the lowest cells that reach the trigger, or 0. The cells stand in it,
+// and are not changed where they lie, since `grow`, which docs/TRACE.md names, promises that its result is the record of `grow_by`.
 #[derive(Clone, Copy)]
 pub struct Grown {
     pub cells: [Cell; 10],
@@ -139,7 +140,8 @@ pub struct Grown {
     pub uv_cell: u8,
 }
 
-// One sample of a garden board, with its latches before, whether the load is attached, and its lowest and highest cell.
+// One sample of a garden board, with its latches before, whether the load is attached, and its lowest and highest cell. Seven parameters, since its
+// contract, which docs/TRACE.md cites by the law `grow-by`, says each by itself.
 pub fn grow(
     g: Garden,
     cells: [Cell; 10],
