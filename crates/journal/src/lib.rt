@@ -44,7 +44,8 @@ fn place_at(next: u8, many: usize, k: usize) -> usize
 }
 
 impl Journal {
-    // The latchings of one sample, in the order of their causes, by the set of causes and the cell of each. A full journal loses its oldest.
+    // The latchings of one sample, in the order of their causes. A full journal loses its oldest. The causes are marks, and a cause without a cell has 0,
+    // by the contract of this function, which docs/TRACE.md names: `marked causes`, `get_or cells k 0`; C lists 0 for such a cause.
     pub fn enter(&mut self, causes: u16, cells: [u8; 5], number: u32)
         ensures { self.new ≡ entered_all self.old (noted (marked causes) (λ k. get_or cells k 0) number 0 5) }
     {
