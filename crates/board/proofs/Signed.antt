@@ -4,9 +4,9 @@ use Prim.Native.Nat.{ℕ, ◌^◌, ◌≤◌}
 use native.Mathlib.Omega.{arith}
 use mathlib.Core.Path.{◌≡◌, refl, sym, ◌∙◌}
 use mathlib.Core.Bool.{true, false, true≢false}
-use lib.Dec.{T, ltb, leb-suc-zero}
+use lib.Dec.{ltb, leb-suc-zero}
 use lib.IntN.{ℤ, pos, negsuc, nat_abs}
-use lib.Signed.{lt_z, non_neg, nat_abs-le}
+use lib.Signed.{lt_z, nat_abs-le}
 use mir.Syntax.{w32}
 use mir.Val.{Fits, SFits}
 use Rattle.board.specs.Shunt.{shunt_above}
@@ -20,10 +20,6 @@ pub above-size : (level : ℕ) (z : ℤ) → lt_z z (pos 0) ≡ false → ltb le
 unfolding shunt_above
 above-size level (pos k) e = refl
 above-size level (negsuc k) e = absurd (true≢false e)
-
-pub not_negative : (z : ℤ) → lt_z z (pos 0) ≡ false → T (non_neg z)
-not_negative (pos k) e = tt
-not_negative (negsuc k) e = absurd (true≢false e)
 
 pub size_fits : (z : ℤ) → SFits w32 z → Fits w32 (nat_abs z)
 size_fits z h = let small : nat_abs z ≤ 2 ^ 31 = nat_abs-le z h.sfits in record { fits = omega arith }

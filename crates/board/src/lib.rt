@@ -148,7 +148,8 @@ impl From<u32> for Plan {
     }
 }
 
-// The plans one by one, as the header's constructors make them. A plan of so many cells fits its byte, or it is 0, which is a plan that nothing opens.
+// The plans one by one, a function for each that C's header has a constructor for: README.md names all three. A plan of so many cells fits its byte, or it is
+// 0, which is a plan that nothing opens.
 pub fn stand_alone(cells: u32) -> u32
     ensures { result ≡ stand_alone cells }
 {
@@ -158,7 +159,11 @@ pub fn stand_alone(cells: u32) -> u32
 pub fn host(cells: u32) -> u32
     ensures { result ≡ host cells }
 {
-    if cells < 256 { 256 + cells } else { 0 }
+    if cells < 256 {
+        u32::from_le_bytes([cells as u8, HOST, 0, 0])
+    } else {
+        0
+    }
 }
 
 // A garden board by its row of the device table and its trigger, which fit their bytes too.
@@ -166,7 +171,7 @@ pub fn garden_plan(cells: u32, row: u32, trigger: u32) -> u32
     ensures { result ≡ garden_plan cells row trigger }
 {
     if (cells < 256) & (row < 256) & (trigger < 256) {
-        return cells + 512 + 65536 * row + 16777216 * trigger;
+        return u32::from_le_bytes([cells as u8, GARDEN, row as u8, trigger as u8]);
     }
     0
 }
@@ -194,6 +199,7 @@ pub fn fresh_board(plan: u32) -> Board
         staged: Settings::FACTORY,
         currents: Currents { ocd: 0, scd: 0 },
         cells: cells::fresh_cells(),
+        // no sample yet, by numbers at which nothing is over: C's record has no place for an Option
         last: Last {
             low: 0,
             high: 4294967295,
@@ -250,7 +256,7 @@ pub fn bad_plan(plan: u32) -> bool
 // ---- what a host board has beside a stand-alone one
 
 impl Board {
-    // DSG and CHG may be on: two bits with two names of the paper.
+    // DSG and CHG may be on: a method each, as docs/TRACE.md names both; with the bit handed in they would be no plainer.
     pub fn may_dsg(&self) -> bool
         ensures { result ≡ may_dsg self.now.kind self.now.control }
     {
@@ -310,9 +316,10 @@ fn last_by(x: Readings, span: Span) -> Last
     }
 }
 
-// ---- a sample; its readings, span and cells stand apart, as C's record, what is found of the cells and the lent list are apart in its definitions
+// ---- a sample; its readings and cells stand apart, as `sample_board`, which README.md names, takes C's record by value and a lent list; the span is what
+// `look` finds of the cells and hands on
 
-// The number of the next accepted sample; at its top it stays.
+// The number of the next accepted sample; at its top it stays. With a name, since docs/TRACE.md has it and the edit `number_wraps` is refused at it.
 fn number_next(samples: u32) -> u32
     ensures { result ≡ number_next samples }
 {
@@ -345,6 +352,7 @@ fn currents_next(s: Settings, runs: Currents, x: Readings) -> Currents
     }
 }
 
+// Seven parameters, as the definition and the law `latches-by` have them: a struct of them would be made for the one call.
 #[tactic(auto, unfolding(crate::specs::Way::latches_by))]
 fn latches_next(
     s: Settings,
@@ -487,8 +495,8 @@ fn answer(b: &mut Board, note: Note) -> Sampled
     note.answer
 }
 
-// ---- the steps on a record where it lies, each taken by value and stored back: the form that the paper names for a sample (01, Expected form in
-// each place). A routine for each, as two steps in one make the compiler copy the record (docs/DECISIONS.md)
+// ---- the steps on a record where it lies, each taken by value and stored back: docs/TRACE.md, "Expected form in each place", has a sample in that form.
+// They had been one routine each, that changed the record where it lay, and were taken apart again for that sentence
 
 fn rest_board(b: &mut Board, x: Readings, span: Span) -> Sampled
     ensures { (result ≡ (rested_of b.old x span).answer) × (b.new ≡ (rested_of b.old x span).board) }
