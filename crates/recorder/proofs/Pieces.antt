@@ -10,7 +10,7 @@ use mathlib.Core.List.{List, [], ◌∷◌, ◌++◌, append_assoc, append-nil}
 use lib.Dec.{eqb}
 use lib.ListN.{length, get_or, take, replicate, length-append}
 use lib.Seq.{take-suc, take_all}
-use borrow.Author.Tests.{eqb-true}
+use borrow.Author.Tests.{eqb-true, eq-eqb, ne_eqb}
 use Rattle.lists.proofs.Split.{split}
 use Rattle.puts.specs.Put.{Put}
 use Rattle.puts.proofs.Puts.{put_then}
@@ -45,7 +45,16 @@ board-piece plan =
     let cells : plan % 256 % 256 ≡ plan % 256 = omega arith in
     rw (kind, cells)
 
--- ---- an answer: its number and, where that is 0, its values
+-- ---- an answer: its number alone where that is a refusal's, else the values behind it
+pub put_refused : {at r : ℕ} {old new : List ℕ} (ws vs : List ℕ) (number : ℕ) → (number ≡ 0 → ⊥) → Put at (little 1 number) old new r → Put at (answered ws number vs) old new r
+unfolding answered
+put_refused ws vs number some p = rw (ne_eqb number 0 some, append-nil (little 1 number)) p
+
+pub put-accepted : {at m r : ℕ} {old mid new : List ℕ} (ws vs : List ℕ) (number : ℕ) → number ≡ 0 → Put at (little 1 number) old mid m → Put m (fields ws vs) mid new r → Put at (answered ws number vs) old new r
+unfolding answered
+put-accepted ws vs number none p q = rw (eq-eqb number 0 none) (put_then p q)
+
+-- the same of its number and, where that is 0, its values
 pub put-answered : {at r : ℕ} {old new : List ℕ} (ws vs values : List ℕ) (number : ℕ) → number < 256 → values ≡ fields ws vs → Put at (number ∷ cond (eqb number 0) values []) old new r → Put at (answered ws number vs) old new r
 unfolding answered little
 put-answered ws vs values number h e p = let same : number % 256 ≡ number = omega arith in rw (same, ← e) p

@@ -23,7 +23,8 @@ pub struct Recorder {
     pub verdict: u8,
 }
 
-// ---- the header
+// ---- the header. Each put has the whole memory and a place beside it, and no rest of it: its clause `Put` is said of the whole memory, as are
+// `begin_memory` and `note_memory`, that the public functions promise
 
 fn end_of(lent: usize) -> usize
     ensures { result ≡ end lent }
@@ -163,7 +164,16 @@ fn put_answer(memory: &mut [u8], at: usize, number: u8, values: &[u8]) -> usize
     puts::put_bytes(memory, number_end, values)
 }
 
-// ---- a sample
+// The count of acts in the header, where an act was written.
+fn put_count(memory: &mut [u8], acts: u16) -> usize
+    requires { 8 ≤ length memory.old }
+    ensures { Put 4 (little 4 acts) memory.old memory.new result }
+{
+    puts::put_bytes(memory, 4, &u32::from(acts).to_le_bytes())
+}
+
+// ---- a sample. The kind of an act is a byte of the format (`kind_of`), here in put_sample, put_frame and put_read, each once: an enum would be no
+// plainer
 
 fn cells_fit(cells: &[u32]) -> bool
     ensures { result ≡ every (fits 2) cells.now }
@@ -231,11 +241,11 @@ pub fn note_sample(
     let sent_end = put_sample(memory, r.used as usize, board, x, cells);
     let bled = bled.to_le_bytes();
     put_answer(memory, sent_end, number, &[status, bled[0], bled[1]]);
-    puts::put_bytes(memory, 4, &u32::from(next.acts).to_le_bytes());
+    put_count(memory, next.acts);
     next
 }
 
-// ---- a frame; each kind of act is a byte of the format, written here and nowhere else
+// ---- a frame
 
 fn put_frame(memory: &mut [u8], at: usize, bytes: &[u8]) -> usize
     requires { (at + (2 + length bytes.now) ≤ length memory.old) × (length bytes.now ≤ 255) }
@@ -269,7 +279,7 @@ pub fn note_frame(
     }
     let sent_end = put_frame(memory, r.used as usize, bytes);
     put_answer(memory, sent_end, number, &reply[..4]);
-    puts::put_bytes(memory, 4, &u32::from(next.acts).to_le_bytes());
+    put_count(memory, next.acts);
     next
 }
 
@@ -294,6 +304,6 @@ pub fn note_reading(r: Recorder, memory: &mut [u8], number: u8, seen: [u8; 5]) -
     }
     let sent_end = put_read(memory, r.used as usize);
     put_answer(memory, sent_end, number, &seen);
-    puts::put_bytes(memory, 4, &u32::from(next.acts).to_le_bytes());
+    put_count(memory, next.acts);
     next
 }

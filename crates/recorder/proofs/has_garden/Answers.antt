@@ -1,4 +1,4 @@
-use Rattle.std.proofs.Common.{ℕ, Bool, ◌/◌, ◌%◌, eqb, ◌∙◌, rules, tests}
+use Rattle.std.proofs.Common.{ℕ, Bool, ◌∙◌, rules, tests}
 use Rattle.std.proofs.lemmas.Iterator.{YieldsList-from_slice}
 use Rattle.std.proofs.lemmas.Iterator.Search.{any_from_yields_List}
 use Rattle.board.specs.Plan.{is_garden, plan_of}

@@ -4,7 +4,6 @@ use borrow.Author.Tests.{le-leb, lt-leb}
 use lib.Seq.{length-take-le}
 use Rattle.format.specs.Format.{frame, body_of, noted, act_bytes, recordable}
 use Rattle.recorder.specs.Recorder.{answer_of, frame_can}
-use Rattle.recorder.proofs.Numbers.{little-four}
 use Rattle.recorder.proofs.Pieces.{byte-fields, first-bytes, put-answered, act-length}
 use Rattle.recorder.proofs.Notes.{note-barred, note-left, note-written}
 use Rattle.recorder.proofs.note_frame.Goals as goal
@@ -53,4 +52,4 @@ returns c =
     (size_is _ a.number a.bytes.now a.reply.now c.if-reply-lt4.false (λ i. (c.type_inv.reply i).fits) c.answer_size.ensures.value)
     c.put_frame-sent_end.ensures.put
     (put-answered _ (take 4 a.reply.now) (take 4 a.reply.now) a.number c.ranges.number.fits (byte-fields 4 (take 4 a.reply.now) four (first-bytes 4 a.reply.now (λ i. (c.type_inv.reply i).fits))) c.put_answer.ensures)
-    (rw (c.to_le_bytes.ensures, little-four, c.from.ensures) at c.put_bytes.ensures)
+    c.put_count.ensures

@@ -1,7 +1,6 @@
 use Rattle.std.proofs.Common.{◌≡◌, ℕ, ◌+◌, ◌<◌, refl, sym, ap, ◌∙◌, true, cond, eqb, List, get_or, length, rules}
 use Rattle.format.specs.Format.{reading, body_of, noted, act_bytes}
 use Rattle.recorder.specs.Recorder.{answer_of}
-use Rattle.recorder.proofs.Numbers.{little-four}
 use Rattle.recorder.proofs.Pieces.{byte-fields, put-answered, act-length}
 use Rattle.recorder.proofs.Notes.{note-left, note-written}
 use Rattle.recorder.proofs.note_reading.Goals as goal
@@ -24,4 +23,4 @@ returns c =
     let small : (i : ℕ) → get_or a.seen i 0 < 256 = λ i. search rules in
     note-written a.r c.one_more-next.result _ a.memory.now c.one_more-next.ensures c.if-next-ne0.false true reading a.number a.seen refl
     (size_is _ a.number a.seen five small c.answer_size-size.ensures.value)
-    c.put_read-sent_end.ensures.put (put-answered _ a.seen a.seen a.number c.ranges.number.fits (byte-fields 5 a.seen five small) c.put_answer.ensures) (rw (c.to_le_bytes.ensures, little-four, c.from.ensures) at c.put_bytes.ensures)
+    c.put_read-sent_end.ensures.put (put-answered _ a.seen a.seen a.number c.ranges.number.fits (byte-fields 5 a.seen five small) c.put_answer.ensures) c.put_count.ensures

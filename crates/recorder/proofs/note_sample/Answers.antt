@@ -3,7 +3,6 @@ use lib.IntN.{ℤ}
 use Rattle.format.specs.Format.{sample, fields, little, noted, act_bytes}
 use Rattle.format.proofs.Sizes.{sample-length}
 use Rattle.recorder.specs.Recorder.{answer_of}
-use Rattle.recorder.proofs.Numbers.{little-four}
 use Rattle.recorder.proofs.Pieces.{put-answered, act-length}
 use Rattle.recorder.proofs.Samples.{sample-can}
 use Rattle.recorder.proofs.Notes.{note-barred, note-left, note-written}
@@ -47,4 +46,4 @@ returns c =
     (size_is _ a.number a.board x.elapsed x.load x.thermistor a.status a.bled x.shunt a.cells.now c.answer_size.ensures.value)
     c.put_sample-sent_end.ensures.put
     (put-answered _ (a.status ∷ a.bled ∷ []) _ a.number c.ranges.number.fits (values-are a.status a.bled c.ranges.status.fits) answer)
-    (rw (c.to_le_bytes.ensures, little-four, c.from.ensures) at c.put_bytes.ensures)
+    c.put_count.ensures
