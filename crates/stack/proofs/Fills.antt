@@ -4,12 +4,12 @@ use Prim.Native.Nat.{ℕ, suc, ◌+◌, ◌<◌, ◌≤◌}
 use native.Mathlib.Omega.{arith}
 use native.Mathlib.Numerals.{add-one}
 use mathlib.Core.Path.{◌≡◌, refl, sym, ap, ◌∙◌}
-use mathlib.Core.Bool.{Bool, true, false, true≢false, not, ◌&&◌, ◌||◌, and-false}
+use mathlib.Core.Bool.{Bool, true, false, true≢false, cond, not, ◌&&◌, ◌||◌, and-false}
 use mathlib.Core.List.{List, [], ◌∷◌, ◌++◌, map, append-nil}
 use lib.Dec.{ltb, eqb}
 use lib.ListN.{length, get_or, set, take, drop, drop_of_length-le}
 use lib.Seq.{take_all, drop-cons, take-suc-set, append_snoc}
-use borrow.Author.Tests.{eq-eqb}
+use borrow.Author.Tests.{eqb-true, eq-eqb}
 use Rattle.std.specs.Prelude.{Ok, Err}
 use Rattle.refusal.specs.Refusals.{numbered}
 use Rattle.lists.specs.Every.{every}
@@ -37,9 +37,22 @@ pub opens-not : (row : List Board) (plans : List ℕ) → (not (eqb (length plan
 unfolding open_answer open_row
 opens-not row plans e = (rw e, rw e)
 
-pub opens : (row : List Board) (plans : List ℕ) → length plans ≡ length row → bad_plans plans ≡ false → (Ok tt ≡ open_answer row plans) × (map fresh plans ≡ open_row row plans)
+pub opens-good : (row : List Board) (plans : List ℕ) → length plans ≡ length row → bad_plans plans ≡ false → (Ok tt ≡ open_answer row plans) × (map fresh plans ≡ open_row row plans)
 unfolding open_answer open_row
-opens row plans same good = let e = eq-eqb (length plans) (length row) same in (rw (e, good), rw (e, good))
+opens-good row plans same good = let e = eq-eqb (length plans) (length row) same in (rw (e, good), rw (e, good))
+
+-- any plans on any row: one for each record and all of them good, every record is as its board starts; else the answer is refusal 1, and no record changes
+abbrev pub can_open : List Board → List ℕ → Bool
+can_open row plans = eqb (length plans) (length row) && not (bad_plans plans)
+
+pub opens : (row : List Board) (plans : List ℕ) → (cond (can_open row plans) (Ok tt) (Err (numbered 1)) ≡ open_answer row plans) × (cond (can_open row plans) (map fresh plans) row ≡ open_row row plans)
+opens row plans =
+    split (eqb (length plans) (length row))
+    (λ e.
+    split (bad_plans plans)
+    (λ bad. let told = opens-not row plans (rw e bad) in (rw (e, bad) told.0, rw (e, bad) told.1))
+    (λ good. let told = opens-good row plans (eqb-true (length plans) (length row) e) good in (rw (e, good) told.0, rw (e, good) told.1)))
+    (λ e. let told = opens-not row plans (rw e) in (rw e told.0, rw e told.1))
 
 -- ---- an opening from counts: counts below 256 are their plans, and any other is none that can be opened
 pub plain-are : (counts : List ℕ) → plain_counts counts ≡ true → count_plans counts ≡ counts

@@ -13,6 +13,8 @@ use Rattle.lists.specs.Every.{every}
 use Rattle.lists.proofs.Split.{split, both, not_yes}
 use Rattle.lists.proofs.Every.{every-at}
 use Rattle.std.specs.Prelude.{Result, Ok, Err}
+use Rattle.std.specs.Result.{IsErrAnd}
+use Rattle.std.proofs.lemmas.Result.{err_from_is_err_and}
 use Rattle.refusal.specs.declared.Refusal.{Refusal}
 use Rattle.refusal.specs.Refusals.{numbered}
 use Rattle.refusal.specs.Said.{first, accepts, refuses}
@@ -207,11 +209,24 @@ frame-bad row bytes buffer bad = (rw bad, (rw bad, rw bad))
 pub checked-good : (row : List Board) → row_checked row ≡ Ok tt → good_row row ≡ true
 checked-good row e = split (good_row row) (λ g. g) (λ g. cc (rw g at e))
 
-pub checked-bad : (row : List Board) (why : Refusal) → row_checked row ≡ Err why → (good_row row ≡ false) × (numbered 1 ≡ why)
+checked-bad : (row : List Board) (why : Refusal) → row_checked row ≡ Err why → (good_row row ≡ false) × (numbered 1 ≡ why)
 checked-bad row why e = split (good_row row) (λ g. cc (rw g at e)) (λ g. (g, cc (rw g at e)))
 
 pub place-found : (row : List Board) (n at : ℕ) → place_in row n ≡ Ok at → (ltb (place_of n) (length row) ≡ true) × (place_of n ≡ at)
 place-found row n at e = split (ltb (place_of n) (length row)) (λ h. (h, cc (rw h at e))) (λ h. cc (rw h at e))
 
-pub place-none : (row : List Board) (n : ℕ) (why : Refusal) → place_in row n ≡ Err why → (ltb (place_of n) (length row) ≡ false) × (numbered 2 ≡ why)
+place-none : (row : List Board) (n : ℕ) (why : Refusal) → place_in row n ≡ Err why → (ltb (place_of n) (length row) ≡ false) × (numbered 2 ≡ why)
 place-none row n why e = split (ltb (place_of n) (length row)) (λ h. cc (rw h at e)) (λ h. (h, cc (rw h at e)))
+
+-- ---- and what leaves there by `?`
+pub row-refused : {T : Type 0} (row : List Board) (why : Refusal) (r : Result T Refusal) → row_checked row ≡ Err why → IsErrAnd r (λ e. e ≡ why) → (good_row row ≡ false) × (r ≡ Err (numbered 1))
+row-refused row why r e left =
+    let p = err_from_is_err_and r left in
+    let bad = checked-bad row why e in
+    (bad.0, p.1 ∙ ap Err (p.2 ∙ sym bad.1))
+
+pub place-refused : {T : Type 0} (row : List Board) (n : ℕ) (why : Refusal) (r : Result T Refusal) → place_in row n ≡ Err why → IsErrAnd r (λ e. e ≡ why) → (ltb (place_of n) (length row) ≡ false) × (r ≡ Err (numbered 2))
+place-refused row n why r e left =
+    let p = err_from_is_err_and r left in
+    let none = place-none row n why e in
+    (none.0, p.1 ∙ ap Err (p.2 ∙ sym none.1))

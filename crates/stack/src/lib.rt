@@ -45,7 +45,9 @@ fn check_row(row: &[Board]) -> Result<(), Refusal>
     }
 }
 
-// Past the end of every good row; the largest number, so that the compiled code takes 1 from 0 too.
+// The place of board 0, which no row has: a number, and no Option, by `past_end` of specs/Row.antt, since `sample_row` and what is shown of it
+// (`sample-others`, and `taken` of the demands) have a place for each number. It is past the end of every good row, and the largest number, so that the
+// compiled code takes 1 from 0 too.
 const PAST_END: usize = 4294967295;
 
 fn place_of(board: u32) -> usize
@@ -98,6 +100,7 @@ pub fn open_row(row: &mut [Board], plans: &[u32]) -> Result<(), Refusal>
     if bad_plans(plans) {
         return Err(Refusal::BadRow);
     }
+    // Plans by their place: with a zip the proof did not close, as of what goes through a zip of `iter_mut` it knows the length and no record.
     for (i, b) in row.iter_mut().enumerate() {
         *b = board::fresh_board(plans[i]);
     }

@@ -4,16 +4,15 @@ use Rattle.std.proofs.Common.{length}
 use Rattle.frame.proofs.Laws.{room_for}
 use Rattle.frame.specs.Way.{reply_of, buffer_with}
 use Rattle.stack.specs.Way.{frame_answer_in, frame_row_in, frame_buffer_in}
-use Rattle.stack.proofs.Ways.{checked-good, checked-bad, frame-good, frame-bad}
+use Rattle.stack.proofs.Ways.{checked-good, row-refused, frame-good, frame-bad}
 use Rattle.stack.proofs.frame_stack.Goals as goal
 
 pub returns-in_err-check_row : goal.returns-in_err-check_row
 returns-in_err-check_row c =
     let a = c.args in
-    let p = err_from_is_err_and c.from_residual.result c.from_residual.ensures.1 in
-    let bad = checked-bad a.row.now _ (sym c.check_row.ensures ∙ c.in_err-check_row.was) in
+    let bad = row-refused a.row.now _ _ (sym c.check_row.ensures ∙ c.in_err-check_row.was) c.from_residual.ensures.1 in
     let told = frame-bad a.row.now a.bytes.now a.reply.now bad.0 in
-    (p.1 ∙ ap Err (p.2 ∙ sym bad.1) ∙ told.0, told.1)
+    (bad.1 ∙ told.0, told.1)
 
 -- what the frame itself decides
 pub returns-in_err-taken : goal.returns-in_err-taken

@@ -1,20 +1,18 @@
-use Rattle.std.proofs.Common.{◌∙◌, sym, ap, set, Err}
-use Rattle.std.proofs.lemmas.Result.{err_from_is_err_and}
+use Rattle.std.proofs.Common.{◌∙◌, sym, ap, set}
 use Rattle.frame.specs.Frame.{board_of}
 use Rattle.std.proofs.lemmas.List.{get_or_default}
 use Rattle.board.specs.declared.Board.{Board}
 use Rattle.board.specs.Sample.{fresh}
 use Rattle.registers.specs.Registers.{obeyed_of}
 use Rattle.stack.specs.Way.{obey_outcome_at, obey_row_at}
-use Rattle.stack.proofs.Ways.{place-found, place-none}
+use Rattle.stack.proofs.Ways.{place-found, place-refused}
 use Rattle.stack.proofs.obey.Goals as goal
 
 pub returns-in_err-at : goal.returns-in_err-at
 unfolding obey_outcome_at obey_row_at
 returns-in_err-at c =
-    let p = err_from_is_err_and c.from_residual.result c.from_residual.ensures.1 in
-    let none = place-none c.args.row.now (board_of c.args.asked.address) _ (sym c.place_in.ensures.value ∙ c.in_err-at.was) in
-    (p.1 ∙ rw (none.0) (ap Err (p.2 ∙ sym none.1)), rw (none.0))
+    let none = place-refused c.args.row.now (board_of c.args.asked.address) _ _ (sym c.place_in.ensures.value ∙ c.in_err-at.was) c.from_residual.ensures.1 in
+    (none.1 ∙ rw none.0, rw none.0)
 
 pub returns : goal.returns
 unfolding obey_outcome_at obey_row_at

@@ -2,7 +2,7 @@
 use Rattle.std.proofs.Common.{◌∙◌, sym, arith}
 use lib.ListN.{length-set}
 use borrow.Author.Tests.{ne_eqb, eq-eqb}
-use Rattle.stack.proofs.Fills.{opens-not, opens, row_next, row_full}
+use Rattle.stack.proofs.Fills.{opens-not, opens-good, row_next, row_full}
 use Rattle.stack.proofs.open_row.Goals as goal
 
 pub returns-then-plans-row : goal.returns-then-plans-row
@@ -20,5 +20,5 @@ loop-i-preserved c =
 
 pub returns : goal.returns
 returns c =
-    let told = opens c.args.row.now c.args.plans.now c.if-plans-row.false (sym c.bad_plans.ensures ∙ c.if-bad_plans.false) in
+    let told = opens-good c.args.row.now c.args.plans.now c.if-plans-row.false (sym c.bad_plans.ensures ∙ c.if-bad_plans.false) in
     (told.0, row_full c.args.plans.now c.loop-i.row c.loop-i.invariant.0 c.loop-i.i (omega arith) c.loop-i.invariant.1 ∙ told.1)

@@ -1,28 +1,25 @@
-use Rattle.std.proofs.Common.{◌∙◌, sym, ap, set, Err}
-use Rattle.std.proofs.lemmas.Result.{err_from_is_err_and}
+use Rattle.std.proofs.Common.{◌∙◌, sym, ap, set}
 use Rattle.std.proofs.lemmas.List.{get_or_default}
 use Rattle.board.specs.declared.Board.{Board}
 use Rattle.board.specs.Sample.{fresh, sample_of}
 use Rattle.stack.specs.Way.{sample_answer_at, sample_row_at}
-use Rattle.stack.proofs.Ways.{checked-good, checked-bad, place-found, place-none, sample-good, sample-bad}
+use Rattle.stack.proofs.Ways.{checked-good, row-refused, place-found, place-refused, sample-good, sample-bad}
 use Rattle.stack.proofs.sample_stack.Goals as goal
 
 pub returns-in_err-check_row : goal.returns-in_err-check_row
 returns-in_err-check_row c =
     let a = c.args in
-    let p = err_from_is_err_and c.from_residual.result c.from_residual.ensures.1 in
-    let bad = checked-bad a.row.now _ (sym c.check_row.ensures ∙ c.in_err-check_row.was) in
+    let bad = row-refused a.row.now _ _ (sym c.check_row.ensures ∙ c.in_err-check_row.was) c.from_residual.ensures.1 in
     let told = sample-bad a.row.now a.board a.x a.mv.now bad.0 in
-    (p.1 ∙ ap Err (p.2 ∙ sym bad.1) ∙ told.0, told.1)
+    (bad.1 ∙ told.0, told.1)
 
 pub returns-in_err-at : goal.returns-in_err-at
 unfolding sample_answer_at sample_row_at
 returns-in_err-at c =
     let a = c.args in
-    let p = err_from_is_err_and c.from_residual-in_err-at.result c.from_residual-in_err-at.ensures.1 in
-    let none = place-none a.row.now a.board _ (sym c.place_in.ensures.value ∙ c.in_err-at.was) in
+    let none = place-refused a.row.now a.board _ _ (sym c.place_in.ensures.value ∙ c.in_err-at.was) c.from_residual-in_err-at.ensures.1 in
     let told = sample-good a.row.now (checked-good a.row.now (sym c.check_row.ensures ∙ c.in_ok-check_row.was)) a.board a.x a.mv.now in
-    (p.1 ∙ ap Err (p.2 ∙ sym none.1) ∙ (rw none.0 at told.0), rw none.0 at told.1)
+    (none.1 ∙ (rw none.0 at told.0), rw none.0 at told.1)
 
 pub returns : goal.returns
 unfolding sample_answer_at sample_row_at
