@@ -4,7 +4,8 @@ use Prim.Native.Nat.{ℕ, zero, suc, ◌+◌, ◌-◌, ◌*◌, ◌/◌, ◌%◌
 use native.Mathlib.Nat.{two-pow-succ}
 use native.Mathlib.Omega.{arith}
 use mathlib.Core.Path.{◌≡◌, refl, sym, ap, ◌∙◌}
-use mathlib.Core.Bool.{Bool, true, false, true≢false, not, ◌&&◌, ◌||◌, and-true, and_assoc, or-false, or_assoc}
+use mathlib.Core.Bool.{Bool, true, false, not, ◌&&◌, ◌||◌, and-true, and_assoc, or-false, or_assoc}
+use mathlib.Mathlib.Data.Bool.Basic.{or-eq-false-eq-eq-false-and-eq-false}
 use mathlib.Core.List.{List, [], ◌∷◌, ◌++◌, map-append}
 use lib.Bits.{bit_or, or_shifted_r}
 use lib.Dec.{eqb}
@@ -79,16 +80,12 @@ unfolding number marks
 marks-none zero = refl
 marks-none (suc n) = rw (marks-none n)
 
-neither : (x y : Bool) → (x || y) ≡ false → (x ≡ false) × (y ≡ false)
-neither true y e = absurd (true≢false e)
-neither false y e = (refl, e)
-
 -- where no board has a flag, no cell is named
 pub none-flagged : (k : ℕ) (boards : List Summary) → some_flag boards ≡ false → first_flagged k boards ≡ place 0 0
 unfolding some_flag first_flagged
 none-flagged k [] e = refl
 none-flagged k (b ∷ north) e =
-    let parts = neither (not (eqb b.flags 0)) (some_flag north) e in
+    let parts = (or-eq-false-eq-eq-false-and-eq-false (not (eqb b.flags 0)) (some_flag north)).0 e in
     let none = eqb-true b.flags 0 (not-false (eqb b.flags 0) parts.0) in
     rw (none, lowest-zero 0 (marks b.count 0), marks-none b.count) (none-flagged (k + 1) north parts.1)
 
