@@ -1,9 +1,10 @@
 -- The acts of a recording that was read whole, done again: the first wrong place, and the row after it.
 -- Assumes nothing.
-use Prim.Native.Nat.{ℕ, suc, ◌+◌, ◌-◌, ◌<◌, ◌≤◌}
+use Prim.Native.Nat.{ℕ, zero, suc, ◌+◌, ◌-◌, ◌<◌, ◌≤◌}
 use native.Mathlib.Omega.{arith}
 use mathlib.Core.Path.{◌≡◌, refl, sym, ap, ◌∙◌}
-use mathlib.Core.Bool.{true, false, cond}
+use mathlib.Core.Logic.{◌↔◌}
+use mathlib.Core.Bool.{true, false, true≢false, cond}
 use mathlib.Core.List.{List, [], ◌∷◌, map}
 use lib.Dec.{eqb}
 use lib.ListN.{length, take, drop, length-drop}
@@ -163,3 +164,44 @@ pub acts-over : (row : List Board) (bytes : List ℕ) (acts done at : ℕ) → a
     → (0 ≡ wrong_after done row (acts_from (acts - done) (drop at bytes))) × (row ≡ row_after row (acts_from (acts - done) (drop at bytes)))
 unfolding wrong_after row_after acts_from
 acts-over row bytes acts done at over = let none : acts - done ≡ 0 = omega (arith, over) in (rw none, rw none)
+
+-- ---- a whole run over the acts that are left: an act that is answered as was recorded is followed by the one behind it, and any other ends the run;
+-- it ends with a place, from 1, or 0 where none was wrong, and with a row
+abbrev pub Runs : List ℕ → ℕ → ℕ → List Board → ℕ → ℕ → List Board → Type 0
+Runs bytes zero done row at place end = (place ≡ 0) × (end ≡ row)
+Runs bytes (suc n) done row at place end =
+    let rest = drop at bytes in
+    let told = padded (told_said (act_told row (act_in rest))) in
+    let noted = padded (answer_in rest) in
+    (told ≡ noted → Runs bytes n (done + 1) (act_row row (act_in rest)) (act_step at rest).at place end) × ((told ≡ noted → ⊥) → (place ≡ done + 1) × (end ≡ act_row row (act_in rest)))
+
+-- where reading stops at none of them, a run ends with the first wrong place and the row after it, and with nothing else
+pub acts-run : (n : ℕ) (row : List Board) (bytes : List ℕ) (done at : ℕ) → at ≤ length bytes → first (map bar_of (acts_tests n at (drop at bytes))) ≡ 0
+    → (place : ℕ) (end : List Board) → Runs bytes n done row at place end ↔ ((place ≡ wrong_after done row (acts_from n (drop at bytes))) × (end ≡ row_after row (acts_from n (drop at bytes))))
+unfolding wrong_after row_after acts_from act_step act_long
+acts-run zero row bytes done at inside clear place end = (λ r. r, λ r. r)
+acts-run (suc n) row bytes done at inside clear place end =
+    let rest = drop at bytes in
+    let here = acts-clear n at rest clear in
+    let fine = act-clear at rest here.0 in
+    let body : long_in rest ≤ length (drop 2 rest) = omega (arith, fine.2, length-drop 2 rest) in
+    let alike = act-alike row rest body in
+    let goes : (act_step at rest).number ≡ 0 = number_is (act_tests at rest) (at + act_long rest) ∙ here.0 in
+    let next : (act_step at rest).at ≡ at + act_long rest = ap (λ (s : Step). s.at) (act-on at rest goes).0 in
+    let behind : drop (act_step at rest).at bytes ≡ drop (act_long rest) rest = ap (λ (k : ℕ). drop k bytes) next ∙ sym (drop-drop (act_long rest) at bytes) in
+    let within : (act_step at rest).at ≤ length bytes = omega (arith, next, fine.2, length-drop at bytes, inside) in
+    let left : first (map bar_of (acts_tests n (act_step at rest).at (drop (act_step at rest).at bytes))) ≡ 0 =
+    ap (λ (l : List ℕ). first (map bar_of (acts_tests n (act_step at rest).at l))) behind ∙ ap (λ (k : ℕ). first (map bar_of (acts_tests n k (drop (act_long rest) rest)))) next ∙ here.1 in
+    let row' = act_row row (act_in rest) in
+    let ih = acts-run n row' bytes (done + 1) (act_step at rest).at within left place end in
+    split (right row (noted_in rest))
+    (λ e.
+    let same : padded (told_said (act_told row (act_in rest))) ≡ padded (answer_in rest) = ap padded (alike.0 ∙ sym (same-is (answer_in rest) (said_on row (sent_in rest)) e)) in
+    let p : wrong_after (done + 1) row' (acts_from n (drop (act_step at rest).at bytes)) ≡ wrong_after done row (acts_from (suc n) rest) = rw (e, behind, alike.1) in
+    let q : row_after row' (acts_from n (drop (act_step at rest).at bytes)) ≡ row_after row (acts_from (suc n) rest) = rw (e, behind, alike.1) in
+    (λ r. let w = ih.0 (r.0 same) in (w.0 ∙ p, w.1 ∙ q), λ w. (λ s. ih.1 (w.0 ∙ sym p, w.1 ∙ sym q), λ other. absurd (other same))))
+    (λ e.
+    let other : padded (told_said (act_told row (act_in rest))) ≡ padded (answer_in rest) → ⊥ = λ z. true≢false (sym (right-so row rest body z) ∙ e) in
+    let p : done + 1 ≡ wrong_after done row (acts_from (suc n) rest) = rw e in
+    let q : row' ≡ row_after row (acts_from (suc n) rest) = alike.1 ∙ rw e in
+    (λ r. let w = r.1 other in (w.0 ∙ p, w.1 ∙ q), λ w. (λ s. absurd (other s), λ o. (w.0 ∙ sym p, w.1 ∙ sym q))))

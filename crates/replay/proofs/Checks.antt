@@ -3,7 +3,7 @@
 use Prim.Native.Nat.{ℕ, zero, suc, ◌+◌, ◌*◌, ◌/◌, ◌%◌, ◌≤◌}
 use native.Mathlib.Omega.{arith}
 use mathlib.Core.Path.{◌≡◌, refl, sym, ap, ◌∙◌}
-use mathlib.Core.Bool.{Bool, true, false, true≢false, not, ◌||◌}
+use mathlib.Core.Bool.{Bool, true, false, true≢false, cond, not, ◌||◌}
 use mathlib.Core.List.{List, map}
 use Rattle.std.proofs.Common.{Ok, Err}
 use lib.Dec.{eqb, ltb}
@@ -25,6 +25,7 @@ use Rattle.reader.proofs.Whole.{number-first, few, boards-room}
 use Rattle.board.specs.declared.Board.{Board}
 use Rattle.board.specs.Plan.{bad_plan, plan_of}
 use Rattle.stack.specs.Open.{good_plans, opened, open_answer, open_row}
+use Rattle.replay.specs.declared.Checked.{Checked}
 use Rattle.replay.specs.Check.{plan_by, plans_in, row_unfit, wrong_after, row_after, checked, check_of, check_row}
 use Rattle.replay.specs.Way.{held}
 use Rattle.replay.proofs.Places.{plans-length}
@@ -42,39 +43,65 @@ reads_so bytes e = eq-eqb _ 0 (sym (number-first bytes) ∙ e)
 eqb-sym : (m n : ℕ) → eqb m n ≡ eqb n m
 eqb-sym m n = split (eqb m n) (λ e. e ∙ sym (eq-eqb n m (sym (eqb-true m n e)))) (λ e. e ∙ sym (ne_eqb n m (λ z. eqb-false m n e (sym z))))
 
+-- ---- a check that can not be made: the bytes can not be read, or the row has a record too many or too few; and what is told then
+abbrev pub cannot : Read → ℕ → Bool
+cannot r boards = not (eqb r.number 0) || not (eqb r.boards boards)
+
+abbrev pub refused_check : Read → Checked
+refused_check r = cond (eqb r.number 0) (checked (held r.boards) 1) (checked (held r.at) r.number)
+
 module _ (row : List Board) (bytes : List ℕ) where
   abbrev r : Read
   r = read_of bytes
 
-  -- ---- it can not be read: nothing is touched
-  pub not-read : (e : Stop) → read_told (length bytes) (Err e) ≡ r → (checked (held e.at) (number_of e.fault) ≡ check_of row bytes) × (row ≡ check_row row bytes)
+  not-read : eqb r.number 0 ≡ false → (refused_check r ≡ check_of row bytes) × (row ≡ check_row row bytes)
   unfolding check_of check_row
-  not-read e so =
-      let some = ne_eqb (number_of e.fault) 0 (number-some e.fault) in
-      (rw (← so, some), rw (← so, some))
+  not-read e = (rw e, rw e)
 
   module _ (e : r.number ≡ 0) where
     boards-are : r.boards ≡ length (boards_in bytes)
     boards-are = ap (λ (x : Read). x.boards) (whole bytes e) ∙ sym (boards-read bytes)
 
+    few-boards : board_count bytes ≤ 16
+    few-boards = few (board_count bytes) (head_clear bytes (reads-clear bytes (reads_so bytes e)).0).2
+
     pub unfit-is : row_unfit row bytes ≡ not (eqb r.boards (length row))
     unfit-is = ap not (eqb-sym (length row) (length (boards_in bytes)) ∙ ap (λ (n : ℕ). eqb n (length row)) (sym boards-are))
 
-  -- ---- the counts of one that is read, and a row with a record too many or too few
+    not-fit : row_unfit row bytes ≡ true → (refused_check r ≡ check_of row bytes) × (row ≡ check_row row bytes)
+    unfolding check_of check_row
+    not-fit u =
+        let all : held r.boards ≡ length (boards_in bytes) = omega (arith, boards-are, boards-read bytes, few-boards) in
+        (rw (eq-eqb r.number 0 e, u, all), rw (eq-eqb r.number 0 e, u))
+
+  -- it is told, and nothing is touched
+  pub unchecked : cannot r (length row) ≡ true → (refused_check r ≡ check_of row bytes) × (row ≡ check_row row bytes)
+  unchecked c =
+      split (eqb r.number 0)
+      (λ z. let e = eqb-true r.number 0 z in not-fit e (unfit-is e ∙ (rw z at c)))
+      (λ z. not-read z)
+
+  -- ---- so told of where reading stopped
+  pub stop-told : (e : Stop) → read_told (length bytes) (Err e) ≡ r → (checked (held e.at) (number_of e.fault) ≡ check_of row bytes) × (row ≡ check_row row bytes)
+  stop-told e so =
+      let some = ne_eqb (number_of e.fault) 0 (number-some e.fault) in
+      let refused = unchecked (rw (← so, some)) in
+      (rw (← so, some) at refused.0, refused.1)
+
+  -- and of the counts of one that is read
   module _ (counts : Counts) (so : read_told (length bytes) (Ok counts) ≡ r) where
     abbrev none : r.number ≡ 0
     none = sym (ap (λ (x : Read). x.number) so)
 
     pub count-few : counts.boards ≤ 16
-    count-few = omega (arith, few (board_count bytes) (head_clear bytes (reads-clear bytes (reads_so bytes none)).0).2, boards-read bytes, boards-are none, ap (λ (x : Read). x.boards) so)
+    count-few = omega (arith, few-boards none, boards-read bytes, boards-are none, ap (λ (x : Read). x.boards) so)
 
-    pub not-fit : (counts.boards ≡ length row → ⊥) → (checked counts.boards 1 ≡ check_of row bytes) × (row ≡ check_row row bytes)
-    unfolding check_of check_row
-    not-fit other =
-        let count : counts.boards ≡ r.boards = ap (λ (x : Read). x.boards) so in
-        let unfit : row_unfit row bytes ≡ true = unfit-is none ∙ rw (ne_eqb r.boards (length row) (λ z. other (count ∙ z))) in
-        let all : counts.boards ≡ length (boards_in bytes) = count ∙ boards-are none in
-        (rw (eq-eqb r.number 0 none, unfit, all), rw (eq-eqb r.number 0 none, unfit))
+    pub counts-told : (counts.boards ≡ length row → ⊥) → (checked counts.boards 1 ≡ check_of row bytes) × (row ≡ check_row row bytes)
+    counts-told other =
+        let apart = ne_eqb counts.boards (length row) other in
+        let all : held counts.boards ≡ counts.boards = omega (arith, count-few) in
+        let refused = unchecked (rw (← so, apart)) in
+        (rw (← so, all) at refused.0, refused.1)
 
 -- ---- boards that were read open a stack
 plan-good : (kind cells : ℕ) → (kind above 1) ≡ false → outside 5 10 cells ≡ false → bad_plan (plan_of (256 * kind + cells)) ≡ false

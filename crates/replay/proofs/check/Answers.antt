@@ -3,7 +3,7 @@
 use Rattle.std.proofs.Common.{◌∙◌, ◌+◌, ◌*◌, ap, drop, arith}
 use Rattle.format.specs.Read.{acts_from}
 use Rattle.replay.specs.Check.{wrong_after, row_after, checked}
-use Rattle.replay.proofs.Checks.{not-read, count-few, not-fit, acts-inside, acts-whole, not-refused, told}
+use Rattle.replay.proofs.Checks.{stop-told, count-few, counts-told, acts-inside, acts-whole, not-refused, told}
 use Rattle.replay.proofs.check.Goals as goal
 
 pub overflow_cast-result : goal.overflow_cast-result
@@ -23,10 +23,10 @@ first_wrong-requires c =
     (acts-inside c.args.row.now c.args.bytes.now c.in-Ok.counts c.in-Ok.ensures fits, acts-whole c.args.row.now c.args.bytes.now c.in-Ok.counts c.in-Ok.ensures fits)
 
 pub returns-in-Err : goal.returns-in-Err
-returns-in-Err c = rw (c.hold.ensures, c.from.ensures) (not-read c.args.row.now c.args.bytes.now c.in-Err.stop c.in-Err.ensures)
+returns-in-Err c = rw (c.hold.ensures, c.from.ensures) (stop-told c.args.row.now c.args.bytes.now c.in-Err.stop c.in-Err.ensures)
 
 pub returns-in-Ok : goal.returns-in-Ok
-returns-in-Ok c = not-fit c.args.row.now c.args.bytes.now c.in-Ok.counts c.in-Ok.ensures c.if-counts-row.true
+returns-in-Ok c = counts-told c.args.row.now c.args.bytes.now c.in-Ok.counts c.in-Ok.ensures c.if-counts-row.true
 
 pub returns-in-Ok-2 : goal.returns-in-Ok-2
 returns-in-Ok-2 c =
