@@ -2,7 +2,7 @@
 // first that was answered otherwise told.
 #![tactic(auto)]
 
-ghost use Rattle.std.specs.Prelude.{◌+◌, ◌*◌, ◌<◌, ◌≤◌, min, ◌≡◌, map, length, take, drop, unwrap_or};
+ghost use Rattle.std.specs.Prelude.{◌+◌, ◌*◌, ◌/◌, ◌<◌, ◌≤◌, min, ◌≡◌, map, length, take, drop, unwrap_or};
 ghost use Rattle.format.specs.Read.{numbers_in, pairs_in, kind_in, boards_from, widths_by, values_long, answer_in, acts_from};
 ghost use Rattle.reader.specs.Kinds.{code_of};
 ghost use Rattle.reader.specs.Reader.{acts_step};
@@ -28,36 +28,34 @@ pub struct Checked {
 type Answer = Result<[u16; 5], u8>;
 
 // ---- an act, from the byte on where it begins
-// Cells past the sixteenth, and bytes, change no answer: only how many there are counts (acts). How long a body is stands beside the bytes, as a byte of
-// the recording says it.
+// Cells past the sixteenth, and bytes, change no answer: only how many there are counts (acts).
+// Cells, bytes and plans (plans_at) are each the first sixteen with zeros behind, and no one function: bytes are copied as they lie, a cell is read from
+// two of them and a plan made of two, so it would take a closure, and at each call that one's requires and clause, longer than these bodies.
 
-fn cells_in(rest: &[u8], n: usize) -> [u32; 16]
-    requires { 2 * n ≤ length rest.now }
-    ensures { result ≡ front n (pairs_in n rest.now) }
+fn cells_in(rest: &[u8]) -> [u32; 16]
+    ensures { result ≡ front (length rest.now / 2) (pairs_in (length rest.now / 2) rest.now) }
 {
     let mut cells = [0; 16];
-    for (i, cell) in cells[..n.min(16)].iter_mut().enumerate() {
+    let few = (rest.len() / 2).min(16);
+    for (i, cell) in cells[..few].iter_mut().enumerate() {
         *cell = reader::two_at(rest, 2 * i) as u32;
     }
     cells
 }
 
-fn bytes_in(rest: &[u8], n: usize) -> [u8; 16]
-    requires { n ≤ length rest.now }
-    ensures { result ≡ front n (take n rest.now) }
+fn bytes_in(body: &[u8]) -> [u8; 16]
+    ensures { result ≡ front (length body.now) body.now }
 {
     let mut bytes = [0; 16];
-    let few = n.min(16);
-    bytes[..few].copy_from_slice(&rest[..few]);
+    let few = body.len().min(16);
+    bytes[..few].copy_from_slice(&body[..few]);
     bytes
 }
 
-// A sample's body, and what is behind it.
-fn sample_in(body: &[u8], long: usize) -> Sample
-    requires { (long ≤ length body.now) × (12 ≤ long) }
-    ensures { result ≡ sample_in long body.now }
+fn sample_in(body: &[u8]) -> Sample
+    requires { 12 ≤ length body.now }
+    ensures { result ≡ sample_in (length body.now) body.now }
 {
-    let count = (long - 12) / 2;
     let readings = Readings {
         elapsed: reader::four_at(body, 1),
         shunt: reader::four_at(body, 8).cast_signed(),
@@ -67,20 +65,18 @@ fn sample_in(body: &[u8], long: usize) -> Sample
     Sample {
         board: reader::byte_at(body, 0) as u32,
         readings,
-        cells: cells_in(&body[12..], count),
-        count,
+        cells: cells_in(&body[12..]),
+        count: (body.len() - 12) / 2,
     }
 }
 
 // A frame is taken to have had four bytes lent for its reply.
-#[tactic(auto, unfolding(crate::specs::Way::frame_in))]
-fn frame_in(body: &[u8], long: usize) -> Frame
-    requires { long ≤ length body.now }
-    ensures { result ≡ frame_in long body.now }
+fn frame_in(body: &[u8]) -> Frame
+    ensures { result ≡ frame_in (length body.now) body.now }
 {
     Frame {
-        bytes: bytes_in(body, long),
-        count: long,
+        bytes: bytes_in(body),
+        count: body.len(),
         room: 4,
     }
 }
@@ -92,16 +88,15 @@ fn kind_in(rest: &[u8]) -> Kind
     Kind::try_from(reader::byte_at(rest, 0)).unwrap()
 }
 
-#[tactic(auto, unfolding(crate::specs::Way::act_in))]
 fn act_in(rest: &[u8]) -> Act
     requires { IsWhole rest.now }
     ensures { result ≡ act_in rest.now }
 {
     let long = reader::byte_at(rest, 1) as usize;
-    let body = &rest[2..];
+    let body = &rest[2..2 + long];
     match kind_in(rest) {
-        Kind::Sample => Act::Sample(sample_in(body, long)),
-        Kind::Frame => Act::Frame(frame_in(body, long)),
+        Kind::Sample => Act::Sample(sample_in(body)),
+        Kind::Frame => Act::Frame(frame_in(body)),
         Kind::Reading => Act::Reading,
     }
 }

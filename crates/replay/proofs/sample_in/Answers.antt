@@ -1,10 +1,11 @@
 -- Each number lies where the format has it.
 -- Assumes nothing.
-use Rattle.std.proofs.Common.{◌≡◌, ℕ, ◌-◌, ◌/◌, ℤ, List, ap, ◌∙◌, drop}
+use Rattle.std.proofs.Common.{◌≡◌, ℕ, ◌-◌, ◌/◌, ℤ, List, ap, ◌∙◌, drop, length}
 use Rattle.format.specs.Read.{number_in, pairs_in, signed}
 use Rattle.acts.specs.declared.Sample.{Sample}
 use Rattle.replay.specs.Way.{front, sample_in}
 use Rattle.replay.proofs.Signs.{shunt-is}
+use lib.ListN.{length-drop}
 use Rattle.std.proofs.lemmas.List.{take_rest}
 use Rattle.replay.proofs.sample_in.Goals as goal
 
@@ -20,6 +21,7 @@ made l long board elapsed thermistor load shunt cells eb ee es et el ec = rw (eb
 
 pub returns : goal.returns
 returns c =
+    let body = c.args.body.now in
     let shunt = shunt-is c.four_at-2.result c.cast_signed.result c.cast_signed.ensures c.four_at-2.type_inv ∙ ap signed c.four_at-2.ensures in
-    made c.args.body.now c.args.long _ _ _ _ _ _ c.byte_at-2.ensures c.four_at.ensures shunt c.two_at.ensures c.byte_at.ensures
-    (c.cells_in.ensures ∙ ap (λ l. front ((c.args.long - 12) / 2) (pairs_in ((c.args.long - 12) / 2) l)) (take_rest c.args.body.now 12))
+    let cells = ap (λ l. front (length l / 2) (pairs_in (length l / 2) l)) (take_rest body 12) ∙ ap (λ k. front (k / 2) (pairs_in (k / 2) (drop 12 body))) (length-drop 12 body) in
+    made body (length body) _ _ _ _ _ _ c.byte_at-2.ensures c.four_at.ensures shunt c.two_at.ensures c.byte_at.ensures (c.cells_in.ensures ∙ cells)
