@@ -55,22 +55,34 @@ fn value_fits(writes: bool, register: u8, value: u8) -> bool
     value == 0
 }
 
+fn low_byte(tally: u16) -> u8
+    ensures { result ≡ tally % 256 }
+{
+    tally.to_le_bytes()[0]
+}
+
+fn high_byte(tally: u16) -> u8
+    ensures { result ≡ tally / 256 }
+{
+    tally.to_le_bytes()[1]
+}
+
 // The registers of the tallies: of each its low byte, and eight further up its high byte. An arm for each, as `tally_registers` has a row for each:
 // by a tally and a byte, the numbers between and past them would have to be told apart too.
 fn read_tally(b: &Board, register: u8) -> u8
     ensures { result ≡ in_map tally_registers register 0 (λ row. row.gives (shown_of b.now)) }
 {
     match register {
-        16 => b.tallies.scd.to_le_bytes()[0],
-        17 => b.tallies.ocd.to_le_bytes()[0],
-        18 => b.tallies.ov.to_le_bytes()[0],
-        19 => b.tallies.uv.to_le_bytes()[0],
-        20 => b.tallies.ot.to_le_bytes()[0],
-        24 => b.tallies.scd.to_le_bytes()[1],
-        25 => b.tallies.ocd.to_le_bytes()[1],
-        26 => b.tallies.ov.to_le_bytes()[1],
-        27 => b.tallies.uv.to_le_bytes()[1],
-        28 => b.tallies.ot.to_le_bytes()[1],
+        16 => low_byte(b.tallies.scd),
+        17 => low_byte(b.tallies.ocd),
+        18 => low_byte(b.tallies.ov),
+        19 => low_byte(b.tallies.uv),
+        20 => low_byte(b.tallies.ot),
+        24 => high_byte(b.tallies.scd),
+        25 => high_byte(b.tallies.ocd),
+        26 => high_byte(b.tallies.ov),
+        27 => high_byte(b.tallies.uv),
+        28 => high_byte(b.tallies.ot),
         _ => 0,
     }
 }
