@@ -7,7 +7,7 @@ use mathlib.Core.List.{List, [], ◌∷◌, ◌++◌, map, append_assoc}
 use lib.ListN.{length}
 use borrow.Author.Tests.{lt-leb}
 use Rattle.lines.specs.Line.{line_of}
-use Rattle.text.specs.Text.{text_of}
+use Rattle.text.specs.Text.{by_number, text_of}
 use Rattle.held.specs.declared.Stack.{Stack}
 use Rattle.lines.specs.Way.{clip}
 use Rattle.lines.proofs.Clips.{read-clip}
@@ -48,4 +48,4 @@ pub output-append : (s : Stack) (a b : List (List ℕ)) → output_of s (a ++ b)
 unfolding stack_after output_of
 output-append s [] b = refl
 output-append s (l ∷ a) b =
-    rw (output-append (step_of s l).stack a b, append_assoc (text_of (step_of s l).told) (output_of (step_of s l).stack a) (output_of (stack_after (step_of s l).stack a) b))
+    rw (output-append (step_of s l).stack a b, append_assoc (text_of (by_number (step_of s l).told)) (output_of (step_of s l).stack a) (output_of (stack_after (step_of s l).stack a) b))

@@ -7,7 +7,7 @@ use mathlib.Core.Path.{◌≡◌, refl, sym}
 use mathlib.Core.List.{List, [], ◌∷◌, ◌++◌, append-nil}
 use lib.ListN.{length, drop}
 use Rattle.held.specs.declared.Stack.{Stack}
-use Rattle.text.specs.Text.{text_of}
+use Rattle.text.specs.Text.{by_number, text_of}
 use Rattle.puts.specs.Put.{Put}
 use Rattle.puts.proofs.Puts.{put_then, put_same}
 use Rattle.lines.specs.Lines.{before, ended, left, up_to}
@@ -39,13 +39,13 @@ unfolding before
 fold-none p s from old e h = rw (append-nil p, e) at (fold-rest p [] s from old refl h)
 
 -- with a newline behind them they are a line, which is answered
-pub fold_line : (p t : List ℕ) (s : Stack) (from : ℕ) (old new : List ℕ) (wrote : ℕ) (acted : Acted) → acted ≡ step_of s (p ++ up_to t) → Put from (text_of acted.told) old new wrote
+pub fold_line : (p t : List ℕ) (s : Stack) (from : ℕ) (old new : List ℕ) (wrote : ℕ) (acted : Acted) → acted ≡ step_of s (p ++ up_to t) → Put from (text_of (by_number acted.told)) old new wrote
     → wrote ≤ length old → Fold p s (up_to t ++ (10 ∷ [])) from old new [] acted.stack wrote
 unfolding stack_after output_of clip
 fold_line p t s from old new wrote acted e put h =
     let one : ended p (up_to t ++ (10 ∷ [])) ≡ (p ++ up_to t) ∷ [] = rw (ended-append p (up_to t) (10 ∷ []), ended-free p t, left-free p t, ended-newline) in
     let none : left p (up_to t ++ (10 ∷ [])) ≡ [] = rw (left-append p (up_to t) (10 ∷ []), left-newline) in
-    record { keeps = rw none; stack = rw (one, e); text = rw (one, ← e, append-nil (text_of acted.told)) put; inside = h }
+    record { keeps = rw none; stack = rw (one, e); text = rw (one, ← e, append-nil (text_of (by_number acted.told))) put; inside = h }
 
 -- nothing kept of a line is nothing of it
 pub clip-none : (l : List ℕ) → [] ≡ clip l → l ≡ []
@@ -77,12 +77,12 @@ sofar-none s block from old h = record { within = omega arith; fed = fold-none [
 
 -- one line more: what was fed before it, and the line
 pub sofar-line : {s s' : Stack} {block old mid new : List ℕ} {from w : ℕ} {r : Fed} → Sofar s block from old mid s' r → end_at block r.used < length block → r.wrote + 32 ≤ length old
-    → Put r.wrote (placed (length mid) r.wrote (answered s' (line_of (rest_at block r.used))).told) mid new w
+    → Put r.wrote (placed (length mid) r.wrote (by_number (answered s' (line_of (rest_at block r.used))).told)) mid new w
     → Sofar s block from old new (answered s' (line_of (rest_at block r.used))).stack (record { used = end_at block r.used + 1; wrote = w })
 sofar-line {s} {s'} {block} {old} {mid} {new} {r = r} so l room put =
     let acted = answered s' (line_of (rest_at block r.used)) in
-    let line = rw (placed-all (length mid) r.wrote acted.told (omega (arith, room, put_same so.fed.text))) at put in
+    let line = rw (placed-all (length mid) r.wrote (by_number acted.told) (omega (arith, room, put_same so.fed.text))) at put in
     record {
       within = omega (arith, l);
-      fed = rw (to-newline block r.used l) (fold-then so.fed (fold_line [] (drop r.used block) s' r.wrote mid new _ acted refl line (omega (arith, line.after, text-short acted.told, room, put_same so.fed.text))));
+      fed = rw (to-newline block r.used l) (fold-then so.fed (fold_line [] (drop r.used block) s' r.wrote mid new _ acted refl line (omega (arith, line.after, text-short (by_number acted.told), room, put_same so.fed.text))));
     }

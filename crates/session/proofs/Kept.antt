@@ -9,7 +9,7 @@ use mathlib.Core.List.{List, [], ◌∷◌, ◌++◌, append-nil}
 use lib.ListN.{length, take, drop, take-append-drop}
 use lib.Seq.{take_all}
 use Rattle.held.specs.declared.Stack.{Stack}
-use Rattle.text.specs.Text.{text_of}
+use Rattle.text.specs.Text.{by_number, text_of}
 use Rattle.puts.specs.Put.{Put}
 use Rattle.lines.specs.declared.Cutter.{Cutter}
 use Rattle.lines.specs.Lines.{ended, left, up_to}
@@ -65,7 +65,7 @@ first_of (x ∷ y ∷ done) rest l e some = let z : ◌≡◌ {A = ℕ} 0 1 = cc
 
 -- so it is answered where there is room for a text
 one-answered : {s s' : Stack} {old new : List ℕ} {r : Fed} (l : List ℕ) → up_to l ≡ l → 32 ≤ length old → Answered s (l ++ (10 ∷ [])) 0 old new s' r
-    → (s' ≡ (step_of s l).stack) × Put 0 (text_of (step_of s l).told) old new r.wrote
+    → (s' ≡ (step_of s l).stack) × Put 0 (text_of (by_number (step_of s l).told)) old new r.wrote
 unfolding stack_after output_of
 one-answered {s} {old = old} {new} {r} l free room a =
     let block = l ++ (10 ∷ []) in
@@ -83,7 +83,7 @@ one-answered {s} {old = old} {new} {r} l free room a =
     let z : ◌≡◌ {A = ℕ} 0 1 = cc in absurd (omega arith))
     (λ tight. absurd (omega (arith, tight, room, rw none at fed.text.after))) a.stops in
     let is : done ≡ l ∷ [] = first_of done rest l all some in
-    (fed.stack ∙ rw is, rw (is, append-nil (text_of (step_of s l).told)) at fed.text)
+    (fed.stack ∙ rw is, rw (is, append-nil (text_of (by_number (step_of s l).told))) at fed.text)
 
 -- as many bytes of the cutter as it says
 pub whole-few : (kept whole : Cutter) → whole ≡ line_ended kept → whole.len ≤ 202

@@ -2,7 +2,7 @@
 -- Assumes nothing.
 use Rattle.std.specs.Prelude.{ℕ, ◌+◌, ◌≤◌, ◌<◌, ◌≡◌, ◌⊎◌, List, [], ◌∷◌, ◌++◌, length, take}
 use Rattle.held.specs.declared.Stack.{Stack}
-use Rattle.text.specs.Text.{text_of}
+use Rattle.text.specs.Text.{by_number, text_of}
 use Rattle.puts.specs.Put.{Put}
 use Rattle.lines.specs.Line.{line_of}
 use Rattle.lines.specs.declared.Cutter.{Cutter}
@@ -24,7 +24,7 @@ stack_after s (l ∷ ls) = stack_after (step_of s l).stack ls
 -- what is printed for them: one text for each
 unfoldable pub output_of : Stack → List (List ℕ) → List ℕ
 output_of s [] = []
-output_of s (l ∷ ls) = text_of (step_of s l).told ++ output_of (step_of s l).stack ls
+output_of s (l ∷ ls) = text_of (by_number (step_of s l).told) ++ output_of (step_of s l).stack ls
 
 -- what feeding some bytes did, behind a line that has begun with p: the lines that end in them are answered, their texts put from a
 -- place on, and what is left of them is kept

@@ -4,6 +4,7 @@
 ghost use Rattle.std.specs.Prelude.{◌≡◌, ◌≤◌, length};
 ghost use Rattle.held.specs.Held.{no_stack};
 ghost use Rattle.lines.specs.Way.{held, nothing};
+ghost use Rattle.text.specs.Text.{by_number};
 ghost use Rattle.session.specs.LineActs.{shunt_of, bytes_of, sample_of, frame_of, opens, acted_on, answered};
 ghost use Rattle.session.specs.Way.{Answered, Completed};
 ghost use Rattle.session.specs.Session.{Run, lacking, fed};
@@ -108,8 +109,16 @@ fn answer(stack: &mut Stack, line: &Line) -> Result<Told, Refusal>
     }
 }
 
+// What is told, as it is printed.
+fn by_number(told: Result<Told, Refusal>) -> Result<Told, u8>
+    ensures { result ≡ by_number told }
+{
+    told.map_err(u8::from)
+}
+
 // The lines that end in the block are answered one after the other, their texts put from a place on, while there is room for one
-// more: 32 bytes, the most that a text takes. A loop by hand: each line says where the next begins.
+// more: 32 bytes, the most that a text takes. A loop by hand: each line says where the next begins. The place stands beside the buffer, as
+// in put_told.
 fn answer_lines(stack: &mut Stack, block: &[u8], from: usize, out: &mut [u8]) -> Fed
     requires { from ≤ length out.old }
     ensures { Answered stack.old block.now from out.old out.new stack.new result }
@@ -124,7 +133,7 @@ fn answer_lines(stack: &mut Stack, block: &[u8], from: usize, out: &mut [u8]) ->
             break;
         }
         let told = answer(stack, &found.line);
-        fed.wrote = text::put_told(out, fed.wrote, told);
+        fed.wrote = text::put_told(out, fed.wrote, by_number(told));
         fed.used = found.end + 1;
     }
     fed

@@ -13,10 +13,6 @@ use Rattle.lists.specs.Marks.{bit}
 use Rattle.acts.specs.declared.Told.{Told}
 use Rattle.acts.specs.declared.Told.TheVariants.{Opened, Status, Reply, Reading}
 use Rattle.std.proofs.Common.{Result, Ok, Err}
-use Rattle.refusal.specs.declared.Refusal.{Refusal}
-use Rattle.refusal.specs.Refusals.{number_of, numbered}
-use Rattle.refusal.proofs.Laws.{numbered-number}
-use Rattle.text.proofs.Lines.{number-few}
 use Rattle.text.specs.Text.{bytes, digit, decimal, words_of, text_of}
 use Rattle.text.specs.Way.{Typed}
 use Rattle.text.proofs.Decimal.{decimal-fold}
@@ -48,24 +44,24 @@ flag-value false = refl
 abbrev word : String → ℕ
 word w = get_or (values 0 (bytes w)) 0 0
 
-abbrev told_of : List ℕ → Result Told Refusal
+abbrev told_of : List ℕ → Result Told ℕ
 told_of vs =
     let at : ℕ → ℕ = λ i. get_or vs i 0 in
     cond (eqb (at 0) (word "ok ")) (Ok Opened)
-    (cond (eqb (at 0) (word "no ")) (Err (numbered (at 1)))
+    (cond (eqb (at 0) (word "no ")) (Err (at 1))
     (cond (eqb (at 0) (word "st ")) (Ok (Status (record { status = at 1; bled = at 3 })))
     (cond (eqb (at 0) (word "re ")) (Ok (Reply (record { address = at 1; register = at 2; value = at 3; check = at 4 })))
     (Ok (Reading (record { line = eqb (at 1) 1; chg = eqb (at 3) 1; dsg = eqb (at 5) 1; flagged = record { board = at 7; cell = at 8 } }))))))
 
-read_back : (told : Result Told Refusal) → Typed told → told_of (values 0 (text_of told)) ≡ told
+read_back : (told : Result Told ℕ) → Typed told → told_of (values 0 (text_of told)) ≡ told
 unfolding text_of words_of values
 read_back (Ok Opened) h = refl
-read_back (Err why) h = simp (number-value (number_of why) (omega (arith, number-few why)), numbered-number)
+read_back (Err n) h = simp (number-value n (omega arith))
 read_back (Ok (Status s)) h = simp (number-then s.status (omega arith), number-value s.bled (omega arith))
 read_back (Ok (Reply r)) h =
     simp (number-then r.address (omega arith), number-then r.register (omega arith), number-then r.value (omega arith), number-value r.check (omega arith))
 read_back (Ok (Reading w)) h =
     simp (number-then (bit w.line) (flag_small w.line), number-then (bit w.chg) (flag_small w.chg), number-then (bit w.dsg) (flag_small w.dsg), number-then w.flagged.board (omega arith), number-value w.flagged.cell (omega arith), flag-value)
 
-pub text-apart : (a b : Result Told Refusal) → Typed a → Typed b → text_of a ≡ text_of b → a ≡ b
+pub text-apart : (a b : Result Told ℕ) → Typed a → Typed b → text_of a ≡ text_of b → a ≡ b
 text-apart a b h k e = sym (read_back a h) ∙ ap (λ (s : List ℕ). told_of (values 0 s)) e ∙ read_back b k

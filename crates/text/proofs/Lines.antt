@@ -14,9 +14,6 @@ use Rattle.lists.proofs.Split.{split}
 use Rattle.acts.specs.declared.Told.{Told}
 use Rattle.acts.specs.declared.Told.TheVariants.{Opened, Status, Reply, Reading}
 use Rattle.std.proofs.Common.{Result, Ok, Err}
-use Rattle.refusal.specs.declared.Refusal.{Refusal}
-use Rattle.refusal.specs.declared.Refusal.TheVariants.{BadRow, NoBoard, CellList, Elapsed, OutOfRange, FrameLength, ReplyRoom, CheckByte, NoRegister, BadValue, NoCycle, Malformed, LevelsCrossed, ListRoom}
-use Rattle.refusal.specs.Refusals.{number_of}
 use Rattle.text.specs.Text.{digit, decimal, words_of, text_of}
 use Rattle.text.specs.Way.{placed, Typed}
 use Rattle.text.proofs.Decimal.{decimal-five as five, decimal-fold, flag-digit}
@@ -36,33 +33,16 @@ flag-plain : (b : Bool) (s : List ℕ) → every plain (decimal (bit b) ++ s) �
 flag-plain true s = number-plain 1 (omega arith) s
 flag-plain false s = number-plain 0 (omega arith) s
 
--- a refusal's number has two digits at most
-pub number-few : (why : Refusal) → number_of why < 15
-number-few BadRow = omega arith
-number-few NoBoard = omega arith
-number-few CellList = omega arith
-number-few Elapsed = omega arith
-number-few OutOfRange = omega arith
-number-few FrameLength = omega arith
-number-few ReplyRoom = omega arith
-number-few CheckByte = omega arith
-number-few NoRegister = omega arith
-number-few BadValue = omega arith
-number-few NoCycle = omega arith
-number-few Malformed = omega arith
-number-few LevelsCrossed = omega arith
-number-few ListRoom = omega arith
-
-words-plain : (told : Result Told Refusal) → Typed told → every plain (words_of told) ≡ true
+words-plain : (told : Result Told ℕ) → Typed told → every plain (words_of told) ≡ true
 unfolding words_of every
 words-plain (Ok Opened) h = refl
-words-plain (Err why) h = simp (number-last (number_of why) (omega (arith, number-few why)))
+words-plain (Err n) h = simp (number-last n (omega arith))
 words-plain (Ok (Status s)) h = simp (number-plain s.status (omega arith), number-last s.bled (omega arith))
 words-plain (Ok (Reply r)) h =
     simp (number-plain r.address (omega arith), number-plain r.register (omega arith), number-plain r.value (omega arith), number-last r.check (omega arith))
 words-plain (Ok (Reading w)) h = simp (flag-plain, number-plain w.flagged.board (omega arith), number-last w.flagged.cell (omega arith))
 
-pub one-newline : (told : Result Told Refusal) → Typed told → (text_of told ≡ words_of told ++ (10 ∷ [])) × (every plain (words_of told) ≡ true)
+pub one-newline : (told : Result Told ℕ) → Typed told → (text_of told ≡ words_of told ++ (10 ∷ [])) × (every plain (words_of told) ≡ true)
 unfolding text_of
 one-newline told h = (refl, words-plain told h)
 
@@ -70,16 +50,16 @@ number-long : (n : ℕ) (s t : List ℕ) → length ((decimal n ++ s) ++ t) ≡ 
 number-long n s t = rw (append_assoc (decimal n) s t) (length-append (decimal n) (s ++ t))
 
 -- and has 32 bytes at most, whatever its numbers
-pub text-short : (told : Result Told Refusal) → length (text_of told) ≤ 32
+pub text-short : (told : Result Told ℕ) → length (text_of told) ≤ 32
 unfolding text_of words_of
 text-short (Ok Opened) = omega arith
-text-short (Err why) = simp length-append (omega (arith, five (number_of why)))
+text-short (Err n) = simp length-append (omega (arith, five n))
 text-short (Ok (Status s)) = simp (number-long, length-append) (omega (arith, five s.status, five s.bled))
 text-short (Ok (Reply r)) = simp (number-long, length-append) (omega (arith, five r.address, five r.register, five r.value, five r.check))
 text-short (Ok (Reading w)) = simp (number-long, length-append, flag-digit) (omega (arith, five w.flagged.board, five w.flagged.cell))
 
 -- so no line leaves its buffer
-pub placed-inside : (room at : ℕ) (told : Result Told Refusal) → at ≤ room → at + length (placed room at told) ≤ room
+pub placed-inside : (room at : ℕ) (told : Result Told ℕ) → at ≤ room → at + length (placed room at told) ≤ room
 unfolding placed
 placed-inside room at told h =
     split (leb (at + 32) room) (λ e. rw e (omega (arith, leb-true (at + 32) room e, text-short told))) (λ e. rw e (omega arith))

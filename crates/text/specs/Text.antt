@@ -29,15 +29,20 @@ decimal n = place_of 10000 n ++ (place_of 1000 n ++ (place_of 100 n ++ (place_of
 abbrev pub field : string.String → ℕ → List ℕ
 field word n = bytes word ++ decimal n
 
+-- an answer as it is printed: a refusal is its number
+abbrev pub by_number : Result Told Refusal → Result Told ℕ
+by_number (Ok told) = Ok told
+by_number (Err why) = Err (number_of why)
+
 -- the words of each answer, as the paper's session shows them; a flag is 1 or 0
-unfoldable pub words_of : Result Told Refusal → List ℕ
+unfoldable pub words_of : Result Told ℕ → List ℕ
 words_of (Ok Opened) = bytes "ok"
-words_of (Err why) = field "no " (number_of why)
+words_of (Err n) = field "no " n
 words_of (Ok (Status s)) = field "st " s.status ++ field " bal " s.bled
 words_of (Ok (Reply r)) = field "re " r.address ++ (field " " r.register ++ (field " " r.value ++ field " " r.check))
 words_of (Ok (Reading w)) =
     field "ln " (bit w.line) ++ (field " chg " (bit w.chg) ++ (field " dsg " (bit w.dsg) ++ (field " at " w.flagged.board ++ field " " w.flagged.cell)))
 
 -- each on a line of its own
-unfoldable pub text_of : Result Told Refusal → List ℕ
+unfoldable pub text_of : Result Told ℕ → List ℕ
 text_of told = words_of told ++ bytes "\n"

@@ -8,7 +8,6 @@ ghost use Rattle.text.specs.Text.{digit, decimal, words_of};
 ghost use Rattle.text.specs.Way.{placed};
 
 use acts::Told;
-use refusal::Refusal;
 use std::marker::Model;
 
 // What is written of a line, which has 32 bytes at most; since memory is fixed its length stands beside, and contracts see a list.
@@ -51,6 +50,7 @@ impl Written {
         self.len = end;
     }
 
+    // By hand, as the number that it is a digit of.
     fn digit(&mut self, d: u16)
         requires { (length self.old + 1 ≤ 32) × (d < 10) }
         ensures { self.new ≡ self.old ++ digit d ∷ [] }
@@ -59,7 +59,8 @@ impl Written {
         self.len += 1;
     }
 
-    // By hand, since there is no heap and the digits go straight into the line's places. The decimal digits of n, five at most: a place that n does not reach has none, and the last one always.
+    // The decimal digits of n, five at most: a place that n does not reach has none, and the last one always. By hand, since there is no
+    // heap and the digits go straight into the line's places.
     fn number(&mut self, n: u16)
         requires { length self.old + 5 ≤ 32 }
         ensures put { self.new ≡ self.old ++ decimal n }
@@ -82,6 +83,7 @@ impl Written {
         self.number(n);
     }
 
+    // A field of one digit, and no field of the number 1 or 0: with room for five digits at each flag a reading would not fit 32 bytes.
     fn flag(&mut self, word: &[u8], flag: bool)
         requires { length self.old + length word.now + 1 ≤ 32 }
         ensures put { self.new ≡ self.old ++ (word.now ++ decimal (bit flag)) }
@@ -94,7 +96,7 @@ impl Written {
 
 // The words of an answer.
 #[tactic(auto, using(std::proofs::Common::append_assoc), unfolding(crate::specs::Text::words_of))]
-fn words_of(told: Result<Told, Refusal>) -> Written
+fn words_of(told: Result<Told, u8>) -> Written
     ensures put { result ≡ words_of told }
     ensures upper_bound { length result ≤ 31 }
 {
@@ -118,13 +120,15 @@ fn words_of(told: Result<Told, Refusal>) -> Written
             words.field(b" at ", u16::from(whole.flagged.board));
             words.field(b" ", u16::from(whole.flagged.cell));
         }
-        Err(why) => words.field(b"no ", u16::from(u8::from(why))),
+        Err(n) => words.field(b"no ", u16::from(n)),
     }
     words
 }
 
-// The line of an answer, and the place after it; where 32 bytes are not free from at on, nothing, and at.
-pub fn put_told(out: &mut [u8], at: usize, told: Result<Told, Refusal>) -> usize
+// The line of an answer, and the place after it; where 32 bytes are not free from at on, nothing, and at. A refusal comes as its number,
+// since the law that no two answers print alike (text-apart) is of every byte. The place stands beside the buffer, as in put_bytes: what is
+// promised is said of the whole of it (placed, and the law put-none).
+pub fn put_told(out: &mut [u8], at: usize, told: Result<Told, u8>) -> usize
     ensures { Put at (placed (length out.old) at told) out.old out.new result }
 {
     if out.len() < 32 || out.len() - 32 < at {

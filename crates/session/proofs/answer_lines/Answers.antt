@@ -23,7 +23,7 @@ loop-out-preserved c =
     let h = c.loop-out in
     let end = ap (λ (f : Found). f.end) c.line_at-found.ensures in
     let line = ap (λ (f : Found). f.line) c.line_at-found.ensures in
-    let put = rw (c.answer-told.ensures.0, line) at c.put_told.ensures in
+    let put = rw (c.by_number.ensures, c.answer-told.ensures.0, line) at c.put_told.ensures in
     let next = sofar-line h.invariant.1 (omega (arith, end, c.if-block-found.false)) (omega arith) put in
     (put_same put ∙ h.invariant.0, rw (c.answer-told.ensures.1, line, end) next)
 
