@@ -7,7 +7,8 @@ ghost use Rattle.lines.specs.Lines.{up_to};
 ghost use Rattle.lines.specs.Line.{letter, rules_of, malformed};
 ghost use Rattle.lines.specs.Way.{held, nothing, emptied_of, Kept, one_line, Ended, rest_at, end_at, digits_from, number_at, field_at, found_at};
 
-// A line's kind; one that is malformed says no more than that, and is answered as any other line is.
+// A line's kind; one that is malformed is a line too, by the contract of line_at and the definitions of what it says (malformed) and how it is
+// answered (line_by of session): an Option around the others would take both apart.
 #[derive(Clone, Copy)]
 pub enum Kind {
     Open,
@@ -61,16 +62,18 @@ pub struct Cutter {
 // ---- one line
 
 // The kind of line that a letter begins.
-#[tactic(auto, unfolding(crate::specs::Line::letter))]
-fn kind_of(b: u8) -> Kind
-    ensures { result ≡ letter b }
-{
-    match b {
-        b'O' => Kind::Open,
-        b'S' => Kind::Sample,
-        b'F' => Kind::Frame,
-        b'R' => Kind::Read,
-        _ => Kind::Malformed,
+impl From<u8> for Kind {
+    ghost from_gives = { λ b kind. kind ≡ letter b };
+
+    #[tactic(auto, unfolding(crate::specs::Line::letter))]
+    fn from(b: u8) -> Kind {
+        match b {
+            b'O' => Kind::Open,
+            b'S' => Kind::Sample,
+            b'F' => Kind::Frame,
+            b'R' => Kind::Read,
+            _ => Kind::Malformed,
+        }
     }
 }
 
@@ -103,7 +106,7 @@ fn rules_of(k: Kind) -> Rules
     }
 }
 
-// ---- fields: a place in the bytes beside them, and not what is left of them, which kept two numbers in registers where one does (docs/PERFORMANCE.md)
+// ---- fields: a place in the bytes beside them, as in the contract of line_at: what is left of the bytes would be no plainer, since where a line ends is told
 
 // The byte at a place; behind the last one a newline, since the end of the bytes ends a line too.
 fn byte_at(s: &[u8], at: usize) -> u8
@@ -200,7 +203,7 @@ pub fn line_at(s: &[u8], start: usize) -> Found
     if first == b'\n' {
         return malformed_from(s, start);
     }
-    let kind = kind_of(first);
+    let kind = Kind::from(first);
     let rules = rules_of(kind);
     let mut numbers = [0; 21];
     let mut minus = false;
@@ -243,7 +246,7 @@ fn first_newline(s: &[u8]) -> Option<usize>
     s.iter().position(|b| *b == b'\n')
 }
 
-// The place of the first newline from at on, or the end.
+// The place of the first newline from at on, or the end, as its contract has it (docs/TRACE.md): the end of the bytes ends a line too.
 pub fn line_end(s: &[u8], at: usize) -> usize
     ensures { result ≡ at + length (up_to (drop at s.now)) }
 {

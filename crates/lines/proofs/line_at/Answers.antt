@@ -18,8 +18,8 @@ unfolding blank
 loop-rules-init c =
     let a = c.args in
     let rules = c.rules_of-rules.ensures in
-    let limits = row-limits c.kind_of-kind.result in
-    (rw rules limits.0, rw rules limits.1, omega arith, omega arith, end_on a.s.now a.start c.byte_at-first.ensures c.if-first-eq10.false, rw (rules, c.kind_of-kind.ensures) (words-start a.s.now a.start c.byte_at-first.ensures c.if-first-eq10.false), refl)
+    let limits = row-limits c.from-kind.result in
+    (rw rules limits.0, rw rules limits.1, omega arith, omega arith, end_on a.s.now a.start c.byte_at-first.ensures c.if-first-eq10.false, rw (rules, c.from-kind.ensures) (words-start a.s.now a.start c.byte_at-first.ensures c.if-first-eq10.false), refl)
 
 pub returns-then-b-n : goal.returns-then-b-n
 returns-then-b-n c =
