@@ -1,5 +1,5 @@
--- What every public contract determines, of the functions that take and give plain values or are shown what they read: the result; and of `put_listing` and `note_reading`, which write
--- into what they are lent, that too. Each is cited with what its callers learn from its contract (`Learnt`). The others that change what they are lent stand in Lent.
+-- What every public contract determines, of the functions that take and give plain values or are shown what they read: the result.
+-- Each is cited with what its callers learn from its contract (`Learnt`). Those that change what they are lent stand in Lent.
 -- Assumes nothing.
 use Prim.Native.Nat.{ℕ}
 use native.Mathlib.Omega.{arith}
@@ -42,9 +42,7 @@ use Rattle.cells.proofs.lowest_of.Reads as cells-lowest-of
 use Rattle.cells.proofs.cell_count.Reads as cells-cell-count
 use Rattle.garden.proofs.grow.Reads as garden-grow
 use Rattle.journal.proofs.blank.Reads as journal-blank
-use Rattle.journal.proofs.Journal.enter.Reads as journal-enter
 use Rattle.journal.proofs.Journal.listed.Reads as journal-listed
-use Rattle.journal.proofs.Journal.put_listing.Reads as journal-put-listing
 use Rattle.board.proofs.PlanFromU32.from.Reads as board-plan
 use Rattle.latches.proofs.latches_of.Reads as latches-latches-of
 use Rattle.latches.proofs.any_latch.Reads as latches-any-latch
@@ -83,14 +81,15 @@ use Rattle.reader.proofs.four_at.Reads as reader-four-at
 use Rattle.reader.proofs.act_step.Reads as reader-act-step
 use Rattle.reader.proofs.read_back.Reads as reader-read-back
 use Rattle.recorder.proofs.note_other.Reads as recorder-note-other
-use Rattle.recorder.proofs.note_reading.Reads as recorder-note-reading
 use Rattle.adomvik.proofs.ReadingFromWhole.from.Reads as adomvik-reading
 use Rattle.adomvik.proofs.UpFromLine.from.Reads as adomvik-up
 use Rattle.adomvik.proofs.adomvik_note_other.Reads as adomvik-note-other
 use Rattle.held.proofs.Stack.row_count.Reads as held-row-count
 use Rattle.held.proofs.Stack.read.Reads as held-read
 use Rattle.held.proofs.Stack.none.Reads as held-none
+use Rattle.session.proofs.Session.new.Reads as session-new
 use Rattle.lines.proofs.line_at.Reads as lines-line-at
+use Rattle.lines.proofs.KindFromU8.from.Reads as lines-kind
 use Rattle.lines.proofs.Cutter.new.Reads as lines-new
 use Rattle.lines.proofs.Cutter.kept_len.Reads as lines-kept-len
 use Rattle.lines.proofs.line_end.Reads as lines-line-end
@@ -189,12 +188,6 @@ garden-grow-one κs a r t s u = agree
 
 pub journal-blank-one : (κs : _) (a : _) (r t : _) (s u : _) → journal-blank.Learnt κs a r s → journal-blank.Learnt κs a t u → r ≡ t
 journal-blank-one κs a r t s u = agree
-
-pub journal-enter-one : (κs : _) (a : _) (r t : _) (s u : _) → journal-enter.Learnt κs a r s → journal-enter.Learnt κs a t u → s.0.now ≡ u.0.now
-journal-enter-one κs a r t s u = agree
-
-pub journal-put-listing-one : (κs : _) (a : _) (r t : _) (s u : _) → journal-put-listing.Learnt κs a r s → journal-put-listing.Learnt κs a t u → (r ≡ t) × (s.1.0.now ≡ u.1.0.now)
-journal-put-listing-one κs a r t s u p q = (agree p.0 q.0, agree p.1 q.1)
 
 pub journal-listed-one : (κs : _) (a : _) (r t : _) (s u : _) → journal-listed.Learnt κs a r s → journal-listed.Learnt κs a t u → r ≡ t
 journal-listed-one κs a r t s u = agree
@@ -299,9 +292,6 @@ adomvik-up-one κs a r t s u = agree
 pub adomvik-note-other-one : (κs : _) (a : _) (r t : _) (s u : _) → adomvik-note-other.Learnt κs a r s → adomvik-note-other.Learnt κs a t u → r ≡ t
 adomvik-note-other-one κs a r t s u = agree
 
-pub recorder-note-reading-one : (κs : _) (a : _) (r t : _) (s u : _) → recorder-note-reading.Learnt κs a r s → recorder-note-reading.Learnt κs a t u → (r ≡ t) × (s.1.0.now ≡ u.1.0.now)
-recorder-note-reading-one κs a r t s u p q = (agree p.0 q.0, agree p.1 q.1)
-
 -- ---- reader
 pub reader-fault-one : (κs : _) (a : _) (r t : _) (s u : _) → reader-fault.Learnt κs a r s → reader-fault.Learnt κs a t u → r ≡ t
 reader-fault-one κs a r t s u = agree
@@ -361,6 +351,9 @@ pub held-read-held-one : (κs : _) (a : _) (r t : _) (s u : _) → held-read.Lea
 held-read-held-one κs a r t s u = agree
 
 -- ---- lines
+pub lines-kind-one : (κs : _) (a : _) (r t : _) (s u : _) → lines-kind.Learnt κs a r s → lines-kind.Learnt κs a t u → r ≡ t
+lines-kind-one κs a r t s u = agree
+
 pub lines-line-at-one : (κs : _) (a : _) (r t : _) (s u : _) → lines-line-at.Learnt κs a r s → lines-line-at.Learnt κs a t u → r ≡ t
 lines-line-at-one κs a r t s u = agree
 
@@ -373,3 +366,7 @@ lines-kept-len-one κs a r t s u = agree
 
 pub lines-line-end-one : (κs : _) (a : _) (r t : _) (s u : _) → lines-line-end.Learnt κs a r s → lines-line-end.Learnt κs a t u → r ≡ t
 lines-line-end-one κs a r t s u = agree
+
+-- ---- sessions
+pub session-new-one : (κs : _) (a : _) (r t : _) (s u : _) → session-new.Learnt κs a r s → session-new.Learnt κs a t u → r ≡ t
+session-new-one κs a r t s u = agree

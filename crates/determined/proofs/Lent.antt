@@ -1,20 +1,37 @@
 -- What is determined of each public function that changes what it is lent, or walks a lent row: the result and every value at exit.
 -- Each is cited by its whole contract; that of a routine of stack or of an act for C is the form that its own crate shows it to be.
 -- Assumes nothing.
-use Prim.Native.Nat.{ℕ, ◌+◌, ◌≤◌}
+use Prim.Native.Nat.{ℕ, ◌+◌, ◌*◌, ◌≤◌}
 use mathlib.Core.Path.{◌≡◌, refl, sym, ◌∙◌}
 use mathlib.Core.Bool.{true}
 use mathlib.Core.List.{List, [], ◌∷◌}
 use lib.IntN.{ℤ}
-use lib.ListN.{length, take}
+use lib.ListN.{length, get_or, take}
 use contract.Lifetimes.{Lfts}
 use denote.RattleType.{RattleType}
+use denote.Array.{Array}
 use denote.Builtin.{u8, u16, u32, usize, unit}
+use denote.Exit.{yes}
+use denote.Signature.{Slot, plain, shr_ref_to, mut_slice_of}
+use denote.Triple.Clauses.{Ended as Closed, Clauses, closing}
+use denote.Triple.End.{Outs, all}
+use denote.Triple.Entry.{Args}
+use seplogic.Ra.Ura.{Ura}
+use base.Logic.{SProp}
+use prog.Memory.{Memory}
+use prog.Routine.{Routine}
+use types.Logic.{Logic}
+use contract.Monad.{Fun, fact}
 use Rattle.walks.proofs.Form.{Kind, value, shown, handed, behind, Form, Passed}
 use Rattle.walks.proofs.Callee.{on_one, on-record, on_row, of-slice}
 use Rattle.determined.specs.Determined.{Lent, AtExit, lent_at, Takes, Also, gives, Determined, DeterminedIf}
 use Rattle.board.specs.Sample.{sample_of}
 use Rattle.frame.specs.Way.{reply_of, buffer_with}
+use Rattle.lists.specs.Marks.{marked}
+use Rattle.journal.specs.Ring.{entered_all, noted as latched, listing, words_over}
+use Rattle.journal.specs.contracts.Journal as Journals
+use Rattle.journal.specs.contracts.Journal.enter as journal-enter
+use Rattle.journal.specs.contracts.Journal.put_listing as put-listing
 use Rattle.registers.specs.Registers.{obeyed_of}
 use Rattle.reading.specs.Way.{read_row, line_row}
 use Rattle.stack.specs.Open.{open_answer, open_row, open_counts_answer, open_counts_row}
@@ -50,6 +67,7 @@ use Rattle.reading.specs.contracts.Line as Line
 use Rattle.recorder.specs.contracts.Recorder as Recorder
 use Rattle.acts.specs.contracts.Act as Act
 use Rattle.acts.specs.contracts.Told as Told
+use Rattle.std.specs.contracts.result.Result as Result
 use Rattle.stack.proofs.Contracts as stack
 use Rattle.adomvik.proofs.Contracts as adomvik
 use Rattle.frame.specs.contracts.put as frame-put
@@ -77,6 +95,7 @@ use Rattle.adomvik.specs.contracts.adomvik_check_row as adomvik-check-row
 use Rattle.recorder.specs.contracts.begin as begin
 use Rattle.recorder.specs.contracts.note_sample as note-sample
 use Rattle.recorder.specs.contracts.note_frame as note-frame
+use Rattle.recorder.specs.contracts.note_reading as note-reading
 use Rattle.adomvik.specs.contracts.adomvik_begin as adomvik-begin
 use Rattle.adomvik.specs.contracts.adomvik_note_sample as adomvik-note-sample
 use Rattle.adomvik.specs.contracts.adomvik_note_frame as adomvik-note-frame
@@ -206,6 +225,20 @@ note-frame-one = record {
 pub adomvik-note-frame-one : Determined note_frame_form (λ M 𝓤 𝓛. adomvik-note-frame.spec 𝓛)
 adomvik-note-frame-one = record { cited = λ M 𝓤 𝓛 mem run. refl; one = note-frame-one.one }
 
+-- the five numbers of a reading come as one array, and for C one by one
+abbrev seen_form : Form
+seen_form = gives {n = 1} (value Recorder.the_row ∷ handed 0 tt u8 ∷ value u8 ∷ value (Array u8 5) ∷ []) Recorder.the_row
+    (λ r memory number seen. note_recorder r true (noted reading (answer_of number seen)) (length memory))
+    (λ r memory number seen. (note_memory r true (noted reading (answer_of number seen)) memory, tt))
+
+pub note-reading-one : Determined seen_form (λ M 𝓤 𝓛. note-reading.spec 𝓛)
+note-reading-one = record {
+  cited = λ M 𝓤 𝓛 mem run. refl;
+  one = by-equations seen_form.params Recorder.the_row
+      (λ r memory number seen. note_recorder r true (noted reading (answer_of number seen)) (length memory))
+      (λ r memory number seen. (note_memory r true (noted reading (answer_of number seen)) memory, tt));
+}
+
 abbrev note_reading_form : Form
 note_reading_form = gives {n = 1} (value Recorder.the_row ∷ handed 0 tt u8 ∷ value u8 ∷ value u8 ∷ value u8 ∷ value u8 ∷ value u8 ∷ value u8 ∷ []) Recorder.the_row
     (λ r memory number line chg dsg board cell. note_recorder r true (noted reading (answer_of number (line ∷ chg ∷ dsg ∷ board ∷ cell ∷ []))) (length memory))
@@ -220,6 +253,38 @@ adomvik-note-reading-one = record {
 }
 
 -- ---- below and beside the library
+
+-- a journal after the latchings of a sample
+abbrev enter_form : Form
+enter_form = record {
+  lifetimes = 1;
+  params = behind 0 tt Journals.the_row ∷ value u16 ∷ value (Array u8 5) ∷ value u32 ∷ [];
+  result = unit;
+  says_of = λ κs a r e. e.0.now ≡ entered_all a.0.now (latched (marked a.1.0) (λ k. get_or a.1.1.0 k 0) a.1.1.1.0 0 5);
+}
+
+pub journal-enter-one : Determined enter_form (λ M 𝓤 𝓛. journal-enter.spec 𝓛)
+journal-enter-one = record { cited = λ M 𝓤 𝓛 mem run. refl; one = λ κs a r t e u p q. (refl, λ i. (agree p q i, tt)) }
+
+-- how many entries, and the buffer, which has room for them. The journal is lent to be read, a kind that no form has: its signature stands here
+abbrev listing_slots : List (Slot 2)
+listing_slots = shr_ref_to (0 ∷ []) tt (plain (λ _. Journals.the_row)) ∷ mut_slice_of (1 ∷ []) tt (plain (λ _. u32)) ∷ []
+
+abbrev listing_ended : Closed
+listing_ended = record { signature = record { lifetimes = 2; outlives = []; params = listing_slots; result = plain (λ _. usize) }; kept = all yes listing_slots }
+
+abbrev lists_so : (κs : Lfts 2) → Args listing_ended.signature κs → ℕ → Outs κs listing_slots (all yes listing_slots) → Type 0
+lists_so κs a r e = (r ≡ length (listing a.0.now)) × (e.1.0.now ≡ words_over (listing a.0.now) a.1.0.now)
+
+abbrev listing_clauses : {M : Type 1} (𝓤 : Ura M) → Clauses 𝓤 listing_ended
+listing_clauses 𝓤 κs a = record { ghost = Unit {0}; requires = λ _. fact 𝓤 (3 * length (listing a.0.now) ≤ length a.1.0.now); ensures = λ _ r e. fact 𝓤 (lists_so κs a r e) }
+
+pub record ListingDetermined : Type 2 where
+  pub cited : (M : Type 1) (𝓤 : Ura M) (𝓛 : Logic 𝓤) (mem : Memory → SProp 𝓤) (run : Routine → Fun 𝓤) → put-listing.spec 𝓛 mem run ≡ closing 𝓛 listing_ended (listing_clauses 𝓤)
+  pub one : (κs : Lfts 2) (a : Args listing_ended.signature κs) (r t : ℕ) (e u : Outs κs listing_slots (all yes listing_slots)) → lists_so κs a r e → lists_so κs a t u → (r ≡ t) × (e.1.0.now ≡ u.1.0.now)
+
+pub put-listing-one : ListingDetermined
+put-listing-one = record { cited = λ M 𝓤 𝓛 mem run. refl; one = λ κs a r t e u p q. (agree p.0 q.0, agree p.1 q.1) }
 
 -- the place after what is put, and the buffer, which has room for it
 abbrev put_bytes_form : Form
@@ -314,7 +379,7 @@ lines-end-line-one = record { cited = λ M 𝓤 𝓛 mem run. refl; one = λ κs
 abbrev put_told_form : Form
 put_told_form = record {
   lifetimes = 1;
-  params = handed 0 tt u8 ∷ value usize ∷ value (stack.answer_row Told.the_row) ∷ [];
+  params = handed 0 tt u8 ∷ value usize ∷ value (Result.the_row Told.the_row u8) ∷ [];
   result = usize;
   says_of = λ κs a r e. let out = a.0.now in let at = a.1.0 in Put at (placed (length out) at a.1.1.0) out e.0.now r;
 }
