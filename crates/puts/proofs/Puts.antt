@@ -1,13 +1,13 @@
 -- Texts put into a buffer one after the other.
 -- Assumes nothing.
-use Prim.Native.Nat.{ℕ, suc, ◌+◌, ◌-◌, ◌≤◌}
+use Prim.Native.Nat.{ℕ, suc, ◌+◌, ◌<◌, ◌≤◌}
 use native.Mathlib.Omega.{arith}
+use native.Mathlib.Numerals.{add-one}
 use native.Mathlib.Nat.{add-zero}
-use mathlib.Core.Path.{◌≡◌, refl, sym, ap, ◌∙◌}
-use mathlib.Core.List.{List, [], ◌∷◌, ◌++◌, append_assoc}
-use lib.ListN.{length, set, take, drop, length-append}
-use borrow.Rule.Slice.PartMut.{put_mid, Post-is}
-use lib.Seq.{sets, length-sets, sets-eq, length-take-le, take_at}
+use mathlib.Core.Path.{◌≡◌, sym, ap, ◌∙◌}
+use mathlib.Core.List.{List, [], ◌∷◌, ◌++◌}
+use lib.ListN.{length, get_or, set, take, drop, length-append}
+use lib.Seq.{sets, length-sets, sets-eq, length-take-le, take-suc, take_at}
 use Rattle.puts.specs.Put.{Put}
 
 pub sets-append : (l : List ℕ) (i : ℕ) (a b : List ℕ) → sets l i (a ++ b) ≡ sets (sets l i a) (i + length a) b
@@ -16,11 +16,11 @@ sets-append l i (x ∷ a) b =
     let e : i + suc (length a) ≡ suc i + length a = omega arith in
     rw e (sets-append (set l i x) (suc i) a b)
 
--- a part of the buffer that holds the text
-pub put-part : (at : ℕ) (text old part : List ℕ) → part ≡ text → at + length text ≤ length old → Put at text old (put_mid at (at + length text - at) old part) (at + length text)
-put-part at text old part e h =
-    let behind = Post-is at (at + length text) old (omega arith) in
-    record { after = refl; whole = rw (e, behind, ← append_assoc) (sym (sets-eq text old at h)) }
+-- a turn of a copy
+pub sets-turn : (at : ℕ) (s old new : List ℕ) (i : ℕ) → new ≡ sets old at (take i s) → i < length s → set new (at + i) (get_or s i 0) ≡ sets old at (take (i + 1) s)
+sets-turn at s old new i e h =
+    let few : length (take i s) ≡ i = length-take-le i s (omega arith) in
+    rw (e, add-one i, take-suc s i 0 h, sets-append old at (take i s) (get_or s i 0 ∷ []), few)
 
 -- one text and then another
 pub put_then : {at m r : ℕ} {a b old mid new : List ℕ} → Put at a old mid m → Put m b mid new r → Put at (a ++ b) old new r

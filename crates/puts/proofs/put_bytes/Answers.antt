@@ -1,7 +1,9 @@
--- `put_bytes`: the part of the buffer from at on is a copy of s.
+-- `put_bytes`: the bytes of s before i are stored, and one more.
 -- Assumes nothing.
-use Rattle.puts.proofs.Puts.{put-part}
+use Rattle.std.proofs.Common.{rules}
+use Rattle.puts.proofs.Puts.{sets-turn}
 use Rattle.puts.proofs.put_bytes.Goals as goal
 
-pub returns : goal.returns
-returns c = put-part c.args.at c.args.s.now c.args.out.now c.copy_from_slice.new.self c.copy_from_slice.ensures.after c.requires
+pub loop-i-preserved : goal.loop-i-preserved
+loop-i-preserved c =
+    (search rules, sets-turn _ c.args.s.now _ _ c.loop-i.i c.loop-i.invariant.1 c.loop-i-test.true)
